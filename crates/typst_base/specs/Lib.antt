@@ -1,0 +1,2 @@
+pub mod KindNumber
+pub mod Span
