@@ -1,0 +1,4 @@
+pub mod Trees
+pub mod Plain
+pub mod Within
+pub mod Ordered

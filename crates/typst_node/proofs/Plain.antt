@@ -1,0 +1,108 @@
+-- What is measured does not turn on spans and bounds.
+use Rattle.std.proofs.Common.{◌≡◌, ℕ, suc, ◌+◌, Bool, true, false, ◌||◌, List, [], ◌∷◌, ◌++◌, length, map, refl, sym, ap, subst, ◌∙◌, arith, length-append, append_assoc}
+use Rattle.std.specs.List.{list_any}
+use Rattle.std.proofs.lemmas.List.{map-append}
+use Rattle.typst_node.specs.Tree.{Content, AsLeaf, AsError, AsInner, Label, Forest, none, tree, Tree, trees, forest}
+use Rattle.typst_node.specs.Preorder.{preorder, nodes}
+use Rattle.typst_node.specs.Text.{content_text, own_text, joined, text, text_of_all}
+use Rattle.typst_node.specs.Count.{count, count_of_all}
+use Rattle.typst_node.specs.Diagnosis.{is_error_content, is_error, is_warned}
+use Rattle.typst_node.specs.Plain.{unbounded, plain_label, plain_forest, plain}
+use Rattle.typst_node.specs.View.{ends_from, IsMeasured, IsKept, tree_of, below}
+use Rattle.typst_node.specs.declared.node.Node.TheVariants.{Inner}
+use Rattle.typst_node.specs.declared.node.SyntaxNode.TheInside.{Inside}
+use Rattle.typst_base.specs.Span.{SpanParts, detached}
+use Rattle.std.proofs.Common.{Box, Global}
+use Rattle.std.specs.Box.{with_value}
+use Rattle.typst_node.specs.declared.node.InnerNode.{InnerNode}
+use Rattle.typst_node.proofs.Trees.{joined-append}
+
+pub text_unbounded : (c : Content) → content_text (unbounded c) ≡ content_text c
+text_unbounded (AsLeaf kind text) = refl
+text_unbounded (AsError text message hints) = refl
+text_unbounded (AsInner kind bound) = refl
+
+pub error_unbounded : (c : Content) → is_error_content (unbounded c) ≡ is_error_content c
+error_unbounded (AsLeaf kind text) = refl
+error_unbounded (AsError text message hints) = refl
+error_unbounded (AsInner kind bound) = refl
+
+length_plain : (ls : List Label) → length (map plain_label ls) ≡ length ls
+length_plain [] = refl
+length_plain (l ∷ ls) = ap suc (length_plain ls)
+
+pub preorder_plain : (f : Forest) → preorder (plain_forest f) ≡ map plain_label (preorder f)
+preorder_plain none = refl
+preorder_plain (tree l c r) = ap (λ ls. plain_label l ∷ ls) ((λ i. preorder_plain c i ++ preorder_plain r i) ∙ sym (map-append plain_label (preorder c) (preorder r)))
+
+pub forest_plain : (ts : List Tree) → forest (map plain ts) ≡ plain_forest (forest ts)
+forest_plain [] = refl
+forest_plain (t ∷ ts) = ap (λ f. tree (plain_label t.label) (plain_forest t.children) f) (forest_plain ts)
+
+joined_plain : (ls : List Label) → joined (map plain_label ls) ≡ joined ls
+joined_plain [] = refl
+joined_plain (l ∷ ls) = λ i. text_unbounded l.content i ++ joined_plain ls i
+
+any_error_plain : (ls : List Label) → list_any is_error (map plain_label ls) ≡ list_any is_error ls
+any_error_plain [] = refl
+any_error_plain (l ∷ ls) = λ i. error_unbounded l.content i || any_error_plain ls i
+
+any_warned_plain : (ls : List Label) → list_any is_warned (map plain_label ls) ≡ list_any is_warned ls
+any_warned_plain [] = refl
+any_warned_plain (l ∷ ls) = ap (λ b. is_warned l || b) (any_warned_plain ls)
+
+-- the nodes of the plain trees are the plain nodes of the trees
+nodes_plain : (ts : List Tree) → preorder (forest (map plain ts)) ≡ map plain_label (preorder (forest ts))
+nodes_plain ts = ap preorder (forest_plain ts) ∙ preorder_plain (forest ts)
+
+pub text_plain : (t : Tree) → text (plain t) ≡ text t
+text_plain t = (λ i. text_unbounded t.label.content i ++ joined (preorder_plain t.children i)) ∙ ap (λ s. own_text t.label ++ s) (joined_plain (preorder t.children))
+
+pub count_plain : (t : Tree) → count (plain t) ≡ count t
+count_plain t = ap suc (ap length (preorder_plain t.children) ∙ length_plain (preorder t.children))
+
+ends_plain : (at : ℕ) (ts : List Tree) → ends_from at (map plain ts) ≡ ends_from at ts
+ends_plain at [] = refl
+ends_plain at (t ∷ ts) = ap (λ s. (at + length s) ∷ ends_from (at + length s) (map plain ts)) (text_plain t) ∙ ap (λ es. (at + length (text t)) ∷ es) (ends_plain (at + length (text t)) ts)
+
+-- what is measured is the same of lists that are the same without spans and bounds
+module _ (ts us : List Tree) (same : map plain ts ≡ map plain us) where
+  pub same_text_of_all : text_of_all ts ≡ text_of_all us
+  same_text_of_all = sym (joined_plain (preorder (forest ts))) ∙ ap joined (sym (nodes_plain ts) ∙ ap (λ vs. preorder (forest vs)) same ∙ nodes_plain us) ∙ joined_plain (preorder (forest us))
+
+  pub same_count_of_all : count_of_all ts ≡ count_of_all us
+  same_count_of_all = sym (length_plain (preorder (forest ts))) ∙ ap length (sym (nodes_plain ts) ∙ ap (λ vs. preorder (forest vs)) same ∙ nodes_plain us) ∙ length_plain (preorder (forest us))
+
+  same_errors : list_any is_error (preorder (forest ts)) ≡ list_any is_error (preorder (forest us))
+  same_errors = sym (any_error_plain (preorder (forest ts))) ∙ ap (list_any is_error) (sym (nodes_plain ts) ∙ ap (λ vs. preorder (forest vs)) same ∙ nodes_plain us) ∙ any_error_plain (preorder (forest us))
+
+  same_warnings : list_any is_warned (preorder (forest ts)) ≡ list_any is_warned (preorder (forest us))
+  same_warnings = sym (any_warned_plain (preorder (forest ts))) ∙ ap (list_any is_warned) (sym (nodes_plain ts) ∙ ap (λ vs. preorder (forest vs)) same ∙ nodes_plain us) ∙ any_warned_plain (preorder (forest us))
+
+  same_ends : (at : ℕ) → ends_from at ts ≡ ends_from at us
+  same_ends at = sym (ends_plain at ts) ∙ ap (ends_from at) same ∙ ends_plain at us
+
+  -- an inner node whose children change in spans and bounds alone
+  pub measured_by_plain : (old new : InnerNode) → old.children.items ≡ us → new.children.items ≡ ts → new.kind ≡ old.kind → new.len ≡ old.len → new.descendants ≡ old.descendants → new.diagnosis ≡ old.diagnosis → new.ends ≡ old.ends
+      → IsMeasured old → IsMeasured new
+  measured_by_plain old new were are kind len descendants diagnosis ends m = record {
+    kind = λ e. m.kind (sym kind ∙ e);
+    len = len ∙ m.len ∙ ap (λ vs. length (text_of_all vs)) were ∙ ap length (sym same_text_of_all) ∙ ap (λ vs. length (text_of_all vs)) (sym are);
+    descendants = descendants ∙ m.descendants ∙ ap (λ vs. suc (count_of_all vs)) were ∙ ap suc (sym same_count_of_all) ∙ ap (λ vs. suc (count_of_all vs)) (sym are);
+    errors = ap (λ d. d.errors) diagnosis ∙ m.errors ∙ ap (λ vs. list_any is_error (preorder (forest vs))) were ∙ sym same_errors ∙ ap (λ vs. list_any is_error (preorder (forest vs))) (sym are);
+    warnings = ap (λ d. d.warnings) diagnosis ∙ m.warnings ∙ ap (λ vs. list_any is_warned (preorder (forest vs))) were ∙ sym same_warnings ∙ ap (λ vs. list_any is_warned (preorder (forest vs))) (sym are);
+    ends = ap (λ v. v.items) ends ∙ m.ends ∙ ap (ends_from 0) were ∙ sym (same_ends 0) ∙ ap (ends_from 0) (sym are);
+  }
+
+-- an inner node, after a change of spans and bounds alone
+pub same_plain_inner : (a : Inside) (b : Box InnerNode Global) (t : Tree) (new : InnerNode) (s : SpanParts) → a.node ≡ Inner b → tree_of a ≡ t → new.kind ≡ b.value.kind → map plain new.children.items ≡ map plain b.value.children.items
+    → plain (tree_of record { node = Inner (with_value b new); span = s; warnings = a.warnings }) ≡ plain t
+same_plain_inner a b t new s is view kind same =
+    (λ i. record { label = record { span = detached; warnings = (tree_of a).label.warnings; content = AsInner (kind i) 0 }; children = (sym (forest_plain new.children.items) ∙ ap forest same ∙ forest_plain b.value.children.items) i })
+    ∙ sym (ap (λ n. plain (tree_of record { node = n; span = a.span; warnings = a.warnings })) is) ∙ ap plain view
+
+-- how many nodes an inner node says that it has
+pub inner_count : (a : Inside) (b : Box InnerNode Global) (t : Tree) → a.node ≡ Inner b → IsKept a.node → tree_of a ≡ t → b.value.descendants ≡ count t
+inner_count a b t is kept view =
+    let measured : IsMeasured b.value = subst IsKept is kept in
+    measured.descendants ∙ sym (ap (λ n. suc (count_of_all (below n))) is) ∙ ap count view

@@ -1,0 +1,58 @@
+-- Lists of trees, and trees side by side.
+use Rattle.std.proofs.Common.{◌≡◌, ℕ, suc, zero, ◌+◌, ◌<◌, ◌≤◌, Bool, List, [], ◌∷◌, ◌++◌, length, take, drop, get_or, refl, sym, ap, ◌∙◌, arith, length-append, append_assoc, add-one, drop-cons}
+use Rattle.std.specs.List.{flat_map, list_any}
+use Rattle.typst_node.specs.Tree.{Label, Forest, none, tree, Tree, trees, forest}
+use Rattle.typst_node.specs.Preorder.{preorder, nodes}
+use Rattle.typst_node.specs.Text.{own_text, joined, text, text_of_all}
+use Rattle.typst_node.specs.Count.{count, count_of_all}
+use Rattle.typst_node.specs.View.{ends_from}
+
+pub trees_of_forest : (ts : List Tree) → trees (forest ts) ≡ ts
+trees_of_forest [] = refl
+trees_of_forest (t ∷ ts) = ap (λ us. t ∷ us) (trees_of_forest ts)
+
+pub forest-trees : (f : Forest) → forest (trees f) ≡ f
+forest-trees none = refl
+forest-trees (tree l c r) = ap (λ s. tree l c s) (forest-trees r)
+
+pub joined-append : (xs ys : List Label) → joined (xs ++ ys) ≡ joined xs ++ joined ys
+joined-append [] ys = refl
+joined-append (x ∷ xs) ys = ap (λ s. own_text x ++ s) (joined-append xs ys) ∙ sym (append_assoc (own_text x) (joined xs) (joined ys))
+
+-- the text and the nodes of one more tree
+pub text_of_all-cons : (t : Tree) (ts : List Tree) → text_of_all (t ∷ ts) ≡ text t ++ text_of_all ts
+text_of_all-cons t ts = joined-append (nodes t) (preorder (forest ts))
+
+pub length-text_of_all-cons : (t : Tree) (ts : List Tree) → length (text_of_all (t ∷ ts)) ≡ length (text t) + length (text_of_all ts)
+length-text_of_all-cons t ts = ap length (text_of_all-cons t ts) ∙ length-append (text t) (text_of_all ts)
+
+pub count_of_all-cons : (t : Tree) (ts : List Tree) → count_of_all (t ∷ ts) ≡ count t + count_of_all ts
+count_of_all-cons t ts = length-append (nodes t) (preorder (forest ts))
+
+pub length_of_ends : (at : ℕ) (ts : List Tree) → length (ends_from at ts) ≡ length ts
+length_of_ends at [] = refl
+length_of_ends at (t ∷ ts) = ap suc (length_of_ends (at + length (text t)) ts)
+
+end_at_any : (at : ℕ) (ts : List Tree) (i d : ℕ) → i < length ts → get_or (ends_from at ts) i d ≡ at + length (text_of_all (take (suc i) ts))
+end_at_any at [] i d h = absurd (omega arith)
+end_at_any at (t ∷ ts) zero d h = omega (arith, length-text_of_all-cons t [])
+end_at_any at (t ∷ ts) (suc i) d h = omega (arith, length-text_of_all-cons t (take (suc i) ts), end_at_any (at + length (text t)) ts i d (omega arith))
+
+-- where a child's text ends
+pub child_end_is : (ts : List Tree) (i d : ℕ) → i < length ts → get_or (ends_from 0 ts) i d ≡ length (text_of_all (take (i + 1) ts))
+child_end_is ts i d h = rw add-one (omega (arith, end_at_any 0 ts i d h))
+
+pub drop_next : (ts : List Tree) (i : ℕ) (d : Tree) → i < length ts → drop i ts ≡ get_or ts i d ∷ drop (i + 1) ts
+drop_next ts i d h = rw add-one (drop-cons ts i d h)
+
+-- the tree at a place, and those behind it
+pub count_drop : (ts : List Tree) (i : ℕ) (d : Tree) → i < length ts → count_of_all (drop i ts) ≡ count (get_or ts i d) + count_of_all (drop (i + 1) ts)
+count_drop ts i d h = ap count_of_all (drop_next ts i d h) ∙ count_of_all-cons (get_or ts i d) (drop (i + 1) ts)
+
+pub count_at : (ts : List Tree) (i : ℕ) (d : Tree) → i < length ts → count (get_or ts i d) ≤ count_of_all ts
+count_at [] i d h = absurd (omega arith)
+count_at (t ∷ ts) zero d h = omega (arith, count_of_all-cons t ts)
+count_at (t ∷ ts) (suc i) d h = omega (arith, count_of_all-cons t ts, count_at ts i d (omega arith))
+
+pub count_of_trees : (f : Forest) → count_of_all (trees f) ≡ length (preorder f)
+count_of_trees f = ap (λ g. length (preorder g)) (forest-trees f)

@@ -1,0 +1,13 @@
+-- Numbers in order as intervals one inside the other: the working form of `IsNumberedFor`.
+use Rattle.std.specs.Prelude.{ℕ, ◌≡◌, ◌+◌, ◌≤◌, List, [], ◌∷◌}
+use Rattle.typst_node.specs.Tree.{Forest, none, tree, Tree}
+use Rattle.typst_node.specs.Labels.{number, bound}
+
+-- These trees are numbered for the file, one behind the other from a number up to another: each has its number first, then its children up to its bound.
+abbrev pub IsWithin : ℕ → ℕ → ℕ → Forest → Type 0
+IsWithin file start end none = start ≤ end
+IsWithin file start end (tree l c r) =
+    (l.span.file ≡ file) × (start ≤ number l) × IsWithin file (number l + 1) (bound l) c × IsWithin file (bound l) end r
+
+abbrev pub IsTreeWithin : ℕ → ℕ → ℕ → Tree → Type 0
+IsTreeWithin file start end t = IsWithin file start end (tree t.label t.children none)

@@ -1,0 +1,14 @@
+pub mod Tree
+pub mod Preorder
+pub mod Text
+pub mod Count
+pub mod Diagnosis
+pub mod Labels
+pub mod Numbered
+pub mod Interval
+pub mod OpenNumbers
+pub mod Plain
+pub mod Codes
+pub mod View
+pub mod Smaller
+pub mod Sums

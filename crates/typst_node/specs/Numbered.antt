@@ -1,0 +1,46 @@
+-- Trees whose numbers are in order.
+use Rattle.std.specs.Prelude.{ℕ, ◌≡◌, ◌+◌, ◌^◌, ◌<◌, ◌≤◌, List, [], ◌∷◌, ◌++◌, map}
+use Rattle.std.specs.List.{AllByRecursion}
+use Rattle.typst_node.specs.Tree.{Label, Forest, none, tree, Tree}
+use Rattle.typst_node.specs.Preorder.{preorder, nodes}
+use Rattle.typst_node.specs.Labels.{number, bound}
+
+-- each number is below all later ones
+abbrev pub Rise : List ℕ → Type 0
+Rise [] = Unit {0}
+Rise (x ∷ xs) = AllByRecursion (λ y. x < y) xs × Rise xs
+
+-- a node's span is of the file, with a number of 2..2^47
+abbrev pub IsNumberOf : ℕ → Label → Type 0
+IsNumberOf file l = (l.span.file ≡ file) × (2 ≤ number l) × (number l < 2 ^ 47)
+
+-- at most the number of the first of these nodes, if there is one
+abbrev pub IsAtMostFirst : ℕ → List Label → Type 0
+IsAtMostFirst n [] = Unit {0}
+IsAtMostFirst n (l ∷ ls) = n ≤ number l
+
+-- The bounds of these trees. `limits` are the bounds of their ancestors and 2^47, and `behind` are the nodes behind all of them in preorder.
+-- Each bound is above every number of its subtree, at most the number of the first node behind the subtree, and at most each limit.
+abbrev pub BoundsHold : List ℕ → List Label → Forest → Type 0
+BoundsHold limits behind none = Unit {0}
+BoundsHold limits behind (tree l c r) =
+    AllByRecursion (λ m. number m < bound l) (l ∷ preorder c)
+    × IsAtMostFirst (bound l) (preorder r ++ behind)
+    × AllByRecursion (λ limit. bound l ≤ limit) limits
+    × BoundsHold (bound l ∷ limits) (preorder r ++ behind) c
+    × BoundsHold limits behind r
+
+-- A tree that is numbered for a file: every span is of the file with a number of 2..2^47, numbers strictly increase in preorder,
+-- and each bound is above its subtree, at most what comes behind it, and at most each ancestor's bound and 2^47.
+pub record IsNumberedFor (file : ℕ) (t : Tree) : Type 0 where
+  pub in_file : AllByRecursion (IsNumberOf file) (nodes t)
+  pub in_order : Rise (map number (nodes t))
+  pub bounds : BoundsHold (2 ^ 47 ∷ []) [] (tree t.label t.children none)
+
+-- a tree that is numbered for some file
+abbrev pub IsNumbered : Tree → Type 0
+IsNumbered t = (file : ℕ) × (1 ≤ file) × IsNumberedFor file t
+
+-- all numbers of the tree are at least the first and below the second
+abbrev pub AllIn : ℕ → ℕ → Tree → Type 0
+AllIn start end t = AllByRecursion (λ l. (start ≤ number l) × (number l < end)) (nodes t)

@@ -1,0 +1,31 @@
+-- The preorder of a tree: a parent before its children, children from left to right. Warnings take no step.
+use Rattle.std.specs.Prelude.{ℕ, ◌+◌, List, [], ◌∷◌, ◌++◌, map, Option, Some, None, MatchOption, slice_get}
+use Rattle.typst_node.specs.Tree.{Label, Forest, none, tree, Tree, trees}
+
+-- the labels of trees side by side, in preorder
+abbrev pub preorder : Forest → List Label
+preorder none = []
+preorder (tree l c r) = l ∷ (preorder c ++ preorder r)
+
+-- the labels of a tree's nodes, in preorder
+abbrev pub nodes : Tree → List Label
+nodes t = t.label ∷ preorder t.children
+
+-- a path is a list of child indices; these are the paths below trees side by side, of which the first has this index
+abbrev pub paths_from : ℕ → Forest → List (List ℕ)
+paths_from i none = []
+paths_from i (tree l c r) = ((i ∷ []) ∷ map (λ p. i ∷ p) (paths_from 0 c)) ++ paths_from (i + 1) r
+
+-- the paths of a tree's nodes, in preorder
+abbrev pub paths : Tree → List (List ℕ)
+paths t = [] ∷ paths_from 0 t.children
+
+-- what a function gives of the value, where there is one
+abbrev pub if_some : {A B : Type 0} → (A → Option B) → Option A → Option B
+if_some f None = None
+if_some f (Some x) = f x
+
+-- the subtree that a path leads to, if there is one
+abbrev pub at : List ℕ → Tree → Option Tree
+at [] t = Some t
+at (i ∷ path) t = if_some (at path) (slice_get (trees t.children) i)

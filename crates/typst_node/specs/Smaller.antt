@@ -1,0 +1,21 @@
+-- Each child has fewer nodes than its parent.
+use Rattle.std.specs.Prelude.{ℕ, ◌≡◌, ◌+◌, ◌≤◌, max, suc, List, [], ◌∷◌}
+use Rattle.std.proofs.Common.{arith, length-append}
+use denote.Param.Weighed.{most}
+use Rattle.typst_node.specs.Tree.{Label, Tree, Forest, forest}
+use Rattle.typst_node.specs.Count.{count, count_of_all}
+use Rattle.typst_node.specs.Preorder.{preorder}
+use Rattle.typst_node.specs.View.{below}
+use Rattle.typst_node.specs.declared.node.Node.{Node}
+use Rattle.typst_node.specs.declared.node.Node.TheVariants.{Leaf, Inner, Error}
+use Rattle.typst_node.specs.declared.node.SyntaxNode.TheDeep.{deep-Node}
+
+-- no tree of a list has more nodes than all of them together
+pub most_le-count : (ts : List Tree) → most (λ t. count t + 1) ts ≤ suc (count_of_all ts)
+most_le-count [] = omega arith
+most_le-count (t ∷ ts) = omega (arith, most_le-count ts, length-append (preorder t.children) (preorder (forest ts)))
+
+pub children_are_smaller : (n : Node) → max (deep-Node n) 0 ≤ suc (count_of_all (below n))
+children_are_smaller (Leaf kind text) = omega arith
+children_are_smaller (Inner b) = omega (arith, most_le-count b.value.children.items)
+children_are_smaller (Error b) = omega arith

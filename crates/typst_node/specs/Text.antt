@@ -1,0 +1,42 @@
+-- The text of a tree.
+use Rattle.std.specs.Prelude.{ℕ, ◌==◌, ◌&&◌, Bool, true, false, List, [], ◌∷◌, ◌++◌, length, Option, Some, None}
+use Rattle.std.specs.List.{flat_map, before_first}
+use Rattle.typst_node.specs.Tree.{Content, AsLeaf, AsError, AsInner, Label, Tree, forest}
+use Rattle.typst_node.specs.Preorder.{preorder, nodes, paths, at}
+
+-- the text that stands at a node itself: a leaf's or an error's
+abbrev pub content_text : Content → List ℕ
+content_text (AsLeaf kind text) = text
+content_text (AsError text message hints) = text
+content_text (AsInner kind bound) = []
+
+abbrev pub own_text : Label → List ℕ
+own_text l = content_text l.content
+
+-- the texts that stand at these nodes, joined
+abbrev pub joined : List Label → List ℕ
+joined ls = flat_map own_text ls
+
+-- the texts of a tree's leaves and errors in preorder, joined
+abbrev pub text : Tree → List ℕ
+text t = joined (nodes t)
+
+-- the texts of trees, joined
+abbrev pub text_of_all : List Tree → List ℕ
+text_of_all ts = joined (preorder (forest ts))
+
+-- whether two paths are the same
+abbrev pub is_same_path : List ℕ → List ℕ → Bool
+is_same_path [] [] = true
+is_same_path [] (j ∷ q) = false
+is_same_path (i ∷ p) [] = false
+is_same_path (i ∷ p) (j ∷ q) = (i == j) && is_same_path p q
+
+-- the text that stands at a path's node itself
+abbrev pub text_there : Option Tree → List ℕ
+text_there None = []
+text_there (Some t) = own_text t.label
+
+-- the byte length of the texts that stand before a path in preorder
+abbrev pub offset : List ℕ → Tree → ℕ
+offset path t = length (flat_map (λ p. text_there (at p t)) (before_first (is_same_path path) (paths t)))

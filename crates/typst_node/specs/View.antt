@@ -1,0 +1,58 @@
+-- What a node is seen as, and what is kept in it.
+use Rattle.std.specs.Prelude.{ℕ, ◌≡◌, ◌≢◌, ◌+◌, ◌<◌, ◌≤◌, suc, List, [], ◌∷◌, length, map, reverse, string_bytes}
+use Rattle.std.specs.List.{list_any}
+use Rattle.typst_base.specs.declared.kind.SyntaxKind.{SyntaxKind}
+use Rattle.typst_base.specs.declared.kind.SyntaxKind.TheVariants as kinds
+use Rattle.typst_node.specs.Tree.{HintText, WarningText, Content, AsLeaf, AsError, AsInner, Label, Forest, Tree, forest}
+use Rattle.typst_node.specs.Preorder.{preorder}
+use Rattle.typst_node.specs.Text.{text, text_of_all}
+use Rattle.typst_node.specs.Count.{count_of_all}
+use Rattle.typst_node.specs.Diagnosis.{is_error, is_warned}
+use Rattle.typst_node.specs.declared.node.Hint.{Hint}
+use Rattle.typst_node.specs.declared.node.Warning.{Warning}
+use Rattle.typst_node.specs.declared.node.InnerNode.{InnerNode}
+use Rattle.typst_node.specs.declared.node.Node.{Node}
+use Rattle.typst_node.specs.declared.node.Node.TheVariants.{Leaf, Inner, Error}
+use Rattle.typst_node.specs.declared.node.SyntaxNode.TheInside.{Inside}
+
+abbrev pub hint_text : Hint → HintText
+hint_text h = record { text = string_bytes h.text; sub_range = h.sub_range }
+
+abbrev pub warning_text : Warning → WarningText
+warning_text w = record { sub_range = w.sub_range; message = string_bytes w.message; hints = map hint_text w.hints.items }
+
+abbrev pub content : Node → Content
+content (Leaf kind text) = AsLeaf kind (string_bytes text)
+content (Inner b) = AsInner b.value.kind b.value.upper
+content (Error b) = AsError (string_bytes b.value.text) (string_bytes b.value.message) (map hint_text b.value.hints.items)
+
+-- the node's children
+abbrev pub below : Node → List Tree
+below (Leaf kind text) = []
+below (Inner b) = b.value.children.items
+below (Error b) = []
+
+abbrev pub tree_of : Inside → Tree
+tree_of a = record {
+  label = record { span = a.span; warnings = reverse (map warning_text a.warnings.items); content = content a.node };
+  children = forest (below a.node);
+}
+
+-- where each tree's text ends, if the first begins at this place
+abbrev pub ends_from : ℕ → List Tree → List ℕ
+ends_from at [] = []
+ends_from at (t ∷ ts) = (at + length (text t)) ∷ ends_from (at + length (text t)) ts
+
+-- what an inner node keeps is what its children measure
+pub record IsMeasured (inner : InnerNode) : Type 0 where
+  pub kind : inner.kind ≢ kinds.Error
+  pub len : inner.len ≡ length (text_of_all inner.children.items)
+  pub descendants : inner.descendants ≡ suc (count_of_all inner.children.items)
+  pub errors : inner.diagnosis.errors ≡ list_any is_error (preorder (forest inner.children.items))
+  pub warnings : inner.diagnosis.warnings ≡ list_any is_warned (preorder (forest inner.children.items))
+  pub ends : inner.ends.items ≡ ends_from 0 inner.children.items
+
+abbrev pub IsKept : Node → Type 0
+IsKept (Leaf kind text) = kind ≢ kinds.Error
+IsKept (Inner b) = IsMeasured b.value
+IsKept (Error b) = Unit {0}

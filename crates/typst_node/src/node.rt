@@ -1,0 +1,263 @@
+ghost use Rattle.std.specs.Prelude.{◌≡◌, ◌+◌, ◌<◌, ◌==◌, ◌++◌, ◌↔◌, [], length, take, string_bytes, IfOk, OnOk, IsTrue};
+ghost use Rattle.typst_node.specs.Tree.{trees, kind_of, IsInner, IsLeaf};
+ghost use Rattle.typst_node.specs.Text.{text, own_text, text_of_all};
+ghost use Rattle.typst_node.specs.Count.{count};
+ghost use Rattle.typst_node.specs.Diagnosis.{has_error, has_warning};
+ghost use Rattle.typst_node.specs.Labels.{bound};
+
+use crate::diagnosis::Diagnosis;
+use std::alloc::{AllocError, Global};
+use std::marker::Model;
+use typst_base::{Span, SyntaxKind};
+
+pub mod build;
+mod inner;
+pub mod number;
+
+/// A node of a syntax tree: a leaf, an inner node or an error, under any number of warnings.
+///
+/// In contracts it is the tree that it stands for, with its spans and bounds. Lengths, node counts, diagnoses and
+/// the ends of children are kept in inner nodes, and no contract speaks of them: they are what the tree measures.
+#[cycle(node)]
+#[derive(Drop)]
+pub struct SyntaxNode {
+    node: Node,
+    span: Span,
+    // From the innermost to the outermost.
+    warnings: Vec<Warning>,
+}
+
+/// A node without its span and its warnings. The kind of a leaf is never `Error`.
+#[cycle(node)]
+#[derive(Drop)]
+enum Node {
+    Leaf(SyntaxKind, String),
+    Inner(Box<InnerNode>),
+    Error(Box<ErrorNode>),
+}
+
+/// An inner node. Its kind is never `Error`, and the sums, the diagnosis and the ends are those of its children.
+#[cycle(node)]
+#[derive(Drop)]
+struct InnerNode {
+    kind: SyntaxKind,
+    // The length of the text in bytes.
+    len: usize,
+    // The number of nodes, this one included.
+    descendants: usize,
+    diagnosis: Diagnosis,
+    // The bound: above every number of the subtree, once it is numbered.
+    upper: u64,
+    children: Vec<SyntaxNode>,
+    // At each place the joined length of the children up to and with the one there.
+    ends: Vec<usize>,
+}
+
+/// What is said of a text that is no syntax.
+#[derive(Drop)]
+struct ErrorNode {
+    text: String,
+    message: String,
+    hints: Vec<Hint>,
+}
+
+/// What is said of a node that is syntax, but dubious.
+#[derive(Drop)]
+struct Warning {
+    sub_range: Option<(u32, u32)>,
+    message: String,
+    hints: Vec<Hint>,
+}
+
+/// How to mend an error or what a warning is about.
+#[derive(Drop)]
+struct Hint {
+    text: String,
+    sub_range: Option<(u32, u32)>,
+}
+
+impl Model for SyntaxNode {
+    ghost use Rattle.typst_node.specs.Tree.{Tree};
+    ghost use Rattle.typst_node.specs.Count.{count};
+    ghost use Rattle.typst_node.specs.Codes.{tree_code};
+
+    ghost Value = { Tree };
+
+    ghost coded = { tree_code };
+
+    ghost use Rattle.typst_node.specs.View.{tree_of, IsKept};
+
+    ghost view = { tree_of };
+
+    ghost invariant = { λ a. IsKept a.node };
+
+    ghost size = { count };
+
+    ghost use Rattle.typst_node.specs.Smaller.{children_are_smaller};
+
+    ghost size_decreases = { λ a h. children_are_smaller a.node };
+}
+
+/// # What the node is
+impl SyntaxNode {
+    /// The node's kind, whatever its warnings.
+    pub fn kind(&self) -> SyntaxKind
+        ensures { result ≡ kind_of self.now.label.content }
+    {
+        match &self.node {
+            Node::Leaf(kind, _) => *kind,
+            Node::Inner(inner) => inner.kind,
+            Node::Error(_) => SyntaxKind::Error,
+        }
+    }
+
+    /// Whether this is a leaf, or an error whose text is not empty: a place where an editor stops.
+    pub fn is_leaf(&self) -> bool
+        ensures { IsTrue result ↔ IsLeaf self.now.label.content }
+    {
+        match &self.node {
+            Node::Leaf(..) => true,
+            Node::Inner(_) => false,
+            Node::Error(error) => !error.text.is_empty(),
+        }
+    }
+
+    /// Whether this is an inner node: one with a list of children, which may be empty.
+    pub fn is_inner(&self) -> bool
+        ensures { IsTrue result ↔ IsInner self.now.label.content }
+    {
+        matches!(&self.node, Node::Inner(_))
+    }
+
+    /// The node's span: detached until the tree is numbered or synthesized.
+    pub fn span(&self) -> Span
+        ensures { result ≡ self.now.label.span }
+    {
+        self.span
+    }
+
+    /// An inner node's bound, a node number above those of its subtree, and of a leaf or an error its own number
+    /// plus one.
+    pub fn upper(&self) -> u64
+        ensures { result ≡ bound self.now.label }
+    {
+        match &self.node {
+            Node::Inner(inner) => inner.upper,
+            Node::Leaf(..) | Node::Error(_) => self.span.number() + 1,
+        }
+    }
+}
+
+/// # What stands at the node and below it
+impl SyntaxNode {
+    /// The length of the text of all leaves and errors, in bytes. It takes constant time.
+    pub fn len(&self) -> usize
+        ensures { result ≡ length (text self.now) }
+    {
+        match &self.node {
+            Node::Leaf(_, text) => text.len(),
+            Node::Inner(inner) => inner.len,
+            Node::Error(error) => error.text.len(),
+        }
+    }
+
+    /// Whether the node has no text. It takes constant time.
+    pub fn is_empty(&self) -> bool
+        ensures { IsTrue result ↔ (text self.now ≡ []) }
+    {
+        self.len() == 0
+    }
+
+    /// The number of nodes of the tree, this one included. It takes constant time.
+    pub fn descendants(&self) -> usize
+        ensures { result ≡ count self.now }
+    {
+        match &self.node {
+            Node::Inner(inner) => inner.descendants,
+            Node::Leaf(..) | Node::Error(_) => 1,
+        }
+    }
+
+    /// Whether the tree holds an error, and whether it holds a warning. It takes constant time.
+    pub fn diagnosis(&self) -> Diagnosis
+        ensures errors { result.errors ≡ has_error self.now }
+        ensures warnings { result.warnings ≡ has_warning self.now }
+    {
+        let below = match &self.node {
+            Node::Leaf(..) => Diagnosis {
+                errors: false,
+                warnings: false,
+            },
+            Node::Inner(inner) => inner.diagnosis,
+            Node::Error(_) => Diagnosis {
+                errors: true,
+                warnings: false,
+            },
+        };
+        Diagnosis {
+            errors: below.errors,
+            warnings: below.warnings || !self.warnings.is_empty(),
+        }
+    }
+
+    /// The text of a leaf or an error, and an empty one for an inner node.
+    pub fn leaf_text(&self) -> &str
+        ensures { result.now ≡ own_text self.now.label }
+    {
+        match &self.node {
+            Node::Leaf(_, text) => text.as_str(),
+            Node::Inner(_) => "",
+            Node::Error(error) => error.text.as_str(),
+        }
+    }
+
+    /// The text of all leaves and errors in order. Only want of memory is an error.
+    pub fn full_text(&self, alloc: Global) -> Result<String, AllocError>
+        ensures { IfOk result (λ s. string_bytes s ≡ text self.now) }
+    {
+        let mut out = String::with_capacity(alloc, self.len())?;
+        self.push_text(&mut out)?;
+        Ok(out)
+    }
+
+    /// Adds the texts of leaves and errors in order.
+    fn push_text(&self, out: &mut String) -> Result<(), AllocError>
+        ensures { OnOk result (string_bytes out.new ≡ string_bytes out.old ++ text self.now) }
+    {
+        match &self.node {
+            Node::Leaf(_, text) => out.push_str(text.as_str()),
+            Node::Inner(inner) => {
+                for child in &inner.children {
+                    child.push_text(out)?;
+                }
+                Ok(())
+            }
+            Node::Error(error) => out.push_str(error.text.as_str()),
+        }
+    }
+
+    /// The node's children in order. A leaf or an error has none.
+    #[tactic(auto, using(crate::proofs::Trees::trees_of_forest))]
+    pub fn children(&self) -> &[SyntaxNode]
+        ensures children { result.now ≡ trees self.now.children }
+        ensures inner_only { ¬ (IsInner self.now.label.content) → result.now ≡ [] }
+    {
+        match &self.node {
+            Node::Inner(inner) => &inner.children,
+            Node::Leaf(..) | Node::Error(_) => &[],
+        }
+    }
+
+    /// Where the text of a child ends, in bytes from the beginning of this node's text: the joined length of the
+    /// children up to and with that one. `index` is a child index. It takes constant time.
+    #[tactic(auto, using(crate::proofs::Trees::trees_of_forest, crate::proofs::Trees::length_of_ends, crate::proofs::Trees::child_end_is))]
+    pub fn child_end(&self, index: usize) -> usize
+        requires { index < length (trees self.now.children) }
+        ensures { result ≡ length (text_of_all (take (index + 1) (trees self.now.children))) }
+    {
+        match &self.node {
+            Node::Inner(inner) => inner.ends[index],
+            Node::Leaf(..) | Node::Error(_) => unreachable!(),
+        }
+    }
+}

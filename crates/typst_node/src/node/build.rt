@@ -1,0 +1,101 @@
+ghost use Rattle.std.specs.Prelude.{◌≡◌, ◌≢◌, ◌↔◌, [], IfOk, IsErrOf};
+ghost use Rattle.typst_base.specs.declared.kind.SyntaxKind.TheVariants.{Error};
+ghost use Rattle.typst_node.specs.Tree.{leaf_tree, inner_tree};
+ghost use Rattle.typst_node.specs.Count.{SumsFit};
+ghost use Rattle.typst_node.specs.declared.node.build.InnerError.TheVariants.{Overflow, Memory};
+
+use crate::node::inner::{ends_of, sums_of};
+use crate::node::{InnerNode, Node, SyntaxNode};
+use std::alloc::{AllocError, AllocFailed, Global};
+use thiserror::Error;
+use typst_base::{Span, SyntaxKind};
+
+/// Why there is no inner node over the given children. They are dropped.
+#[derive(Clone, Copy, Debug, PartialEq, Eq, Error)]
+pub enum InnerError {
+    /// The length of the text or the number of nodes would pass a usize.
+    #[error("the tree is too large")]
+    Overflow,
+    /// Memory was refused.
+    #[error("out of memory")]
+    Memory,
+}
+
+impl<T: Drop> From<AllocFailed<T>> for InnerError {
+    ghost from_gives = { λ _ e. e ≡ Memory };
+
+    fn from(_e: AllocFailed<T>) -> InnerError {
+        InnerError::Memory
+    }
+}
+
+impl From<AllocError> for InnerError {
+    ghost from_gives = { λ _ e. e ≡ Memory };
+
+    fn from(_e: AllocError) -> InnerError {
+        InnerError::Memory
+    }
+}
+
+/// # Making nodes
+impl SyntaxNode {
+    /// A detached leaf with a copy of the text. The test of the condition is `SyntaxKind::is_error`.
+    /// Only want of memory is an error.
+    pub fn leaf(alloc: Global, kind: SyntaxKind, text: &str) -> Result<SyntaxNode, AllocError>
+        requires { kind ≢ Error }
+        ensures { IfOk result (λ t. t ≡ leaf_tree kind text.now) }
+    {
+        let text = String::from_str(alloc, text)?;
+        Ok(SyntaxNode {
+            node: Node::Leaf(kind, text),
+            span: Span::detached(),
+            warnings: Vec::new(alloc),
+        })
+    }
+
+    /// A detached leaf with an empty text. It takes no memory: the allocator is kept for what is added later.
+    /// The test of the condition is `SyntaxKind::is_error`.
+    pub fn placeholder(alloc: Global, kind: SyntaxKind) -> SyntaxNode
+        requires { kind ≢ Error }
+        ensures { result ≡ leaf_tree kind [] }
+    {
+        SyntaxNode {
+            node: Node::Leaf(kind, String::new(alloc)),
+            span: Span::detached(),
+            warnings: Vec::new(alloc),
+        }
+    }
+
+    /// A detached inner node over these children, with bound 0. The test of the condition is `SyntaxKind::is_error`.
+    ///
+    /// It takes time in proportion to the number of children. On an error the children are dropped: `Overflow` is
+    /// tested before memory is asked for.
+    pub fn inner(
+        alloc: Global,
+        kind: SyntaxKind,
+        children: Vec<SyntaxNode>,
+    ) -> Result<SyntaxNode, InnerError>
+        requires { kind ≢ Error }
+        ensures ok { IfOk result (λ t. t ≡ inner_tree kind children.items) }
+        ensures overflow { IsErrOf result Overflow ↔ ¬ (SumsFit children.items) }
+    {
+        let Some(sums) = sums_of(&children) else {
+            return Err(InnerError::Overflow);
+        };
+        let ends = ends_of(alloc, &children)?;
+        let inner = InnerNode {
+            kind,
+            len: sums.len,
+            descendants: sums.descendants,
+            diagnosis: sums.diagnosis,
+            upper: 0,
+            children,
+            ends,
+        };
+        Ok(SyntaxNode {
+            node: Node::Inner(Box::new(alloc, inner)?),
+            span: Span::detached(),
+            warnings: Vec::new(alloc),
+        })
+    }
+}

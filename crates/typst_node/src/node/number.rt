@@ -1,0 +1,156 @@
+// Numbers in order, and the test whether they are.
+ghost use Rattle.std.specs.Prelude.{◌≡◌, ◌+◌, ◌-◌, ◌*◌, ◌/◌, ◌^◌, ◌<◌, ◌≤◌, ◌⊎◌, ◌↔◌, map, OnOk, OnErr, IsErr, IsTrue};
+ghost use Rattle.typst_node.specs.Tree.{forest, IsInner};
+ghost use Rattle.typst_node.specs.Count.{count, count_of_all};
+ghost use Rattle.typst_node.specs.Labels.{number, bound};
+ghost use Rattle.typst_node.specs.Numbered.{IsNumberedFor, IsNumbered, AllIn};
+ghost use Rattle.typst_node.specs.Plain.{plain};
+ghost use Rattle.typst_node.specs.View.{IsMeasured};
+ghost use Rattle.typst_node.specs.Interval.{IsWithin, IsTreeWithin};
+
+use crate::node::{InnerNode, Node, SyntaxNode};
+use std::ops::Range;
+use thiserror::Error;
+use typst_base::{FileId, Span, SpanNumber};
+
+/// There are fewer numbers than nodes.
+#[derive(Clone, Copy, Debug, PartialEq, Eq, Error)]
+#[error("there are fewer numbers than nodes")]
+pub struct Unnumberable;
+
+/// # Numbering
+impl SyntaxNode {
+    /// Numbers all nodes of the tree within a range of node numbers, in preorder, and spreads them so that later
+    /// edits find numbers between them.
+    ///
+    /// `within` lies in `Span::FULL`. A leaf or an error takes the middle number. An inner node of `n` nodes parts
+    /// the range into strides of `length / 2n` numbers, or where that is 0 of `length / n`: it takes the middle of
+    /// the first stride, and its children take as many strides as they have nodes, each by the same rule.
+    /// It takes time in proportion to the nodes, and no memory.
+    pub fn numberize(&mut self, id: FileId, within: Range<u64>) -> Result<(), Unnumberable>
+        requires low { 2 ≤ within.start }
+        requires high { within.end ≤ 2 ^ 47 }
+        ensures refused { IsErr result ↔ ((within.end ≤ within.start) ⊎ (within.end - within.start < count self.old)) }
+        ensures err { OnErr result (self.new ≡ self.old) }
+        ensures numbered { OnOk result (IsNumberedFor id self.new) }
+        ensures within { OnOk result (AllIn within.start within.end self.new) }
+        ensures bound { OnOk result (IsInner self.old.label.content → bound self.new.label ≡ within.end) }
+        ensures middle { OnOk result (¬ (IsInner self.old.label.content)
+            → number self.new.label ≡ (within.start + within.end) / 2) }
+        ensures first_half { OnOk result (IsInner self.old.label.content → 2 * count self.old ≤ within.end - within.start
+            → AllIn within.start (within.start + (within.end - within.start) / 2) self.new) }
+        ensures plain { plain self.new ≡ plain self.old }
+    {
+        if within.start >= within.end || within.end - within.start < self.descendants() as u64 {
+            return Err(Unnumberable);
+        }
+        self.number_within(id, within.start, within.end);
+        Ok(())
+    }
+
+    /// Whether the tree is numbered: all spans are of one file, numbers strictly increase in preorder, and each
+    /// bound is above its subtree's numbers and at most the next number behind it. It takes time in proportion to
+    /// the nodes, and no memory.
+    pub fn is_numbered(&self) -> bool
+        ensures { IsTrue result ↔ IsNumbered self.now }
+    {
+        match self.span.id() {
+            Some(id) => self.is_within(id, 2, 1 << 47),
+            None => false,
+        }
+    }
+
+    // Whether the numbers and bounds of the tree are in order, from `start` up to `end`.
+    fn is_within(&self, id: FileId, start: u64, end: u64) -> bool
+        ensures { IsTrue result ↔ IsTreeWithin id start end self.now }
+    {
+        if self.span.id() != Some(id) || self.span.number() < start || self.upper() > end {
+            return false;
+        }
+        let number = self.span.number();
+        let mut at = number + 1;
+        let bound = self.upper();
+        for child in self.children() {
+            if !child.is_within(id, at, bound) {
+                return false;
+            }
+            at = child.upper();
+        }
+        at <= bound
+    }
+
+    #[cycle(number)]
+    fn number_within(&mut self, id: FileId, start: u64, end: u64)
+        requires low { 2 ≤ start }
+        requires high { end ≤ 2 ^ 47 }
+        requires room { start + count self.old ≤ end }
+        ensures within { IsTreeWithin id start end self.new }
+        ensures plain { plain self.new ≡ plain self.old }
+        ensures bound { IsInner self.old.label.content → bound self.new.label ≡ end }
+        ensures middle { ¬ (IsInner self.old.label.content) → number self.new.label ≡ (start + end) / 2 }
+        ensures half { IsInner self.old.label.content → 2 * count self.old ≤ end - start
+            → AllIn start (start + (end - start) / 2) self.new }
+    {
+        match &mut self.node {
+            Node::Inner(inner) => {
+                let stride = stride_of(end - start, inner.descendants as u64);
+                self.span = Span::from_number(id, SpanNumber(start + stride / 2));
+                inner.number_below(id, start, end, stride);
+            }
+            Node::Leaf(..) | Node::Error(_) => {
+                self.span = Span::from_number(id, SpanNumber((start + end) / 2));
+            }
+        }
+    }
+}
+
+impl InnerNode {
+    #[cycle(number)]
+    fn number_below(&mut self, id: FileId, start: u64, end: u64, stride: u64)
+        requires measured { IsMeasured self.old }
+        requires low { 2 ≤ start }
+        requires high { end ≤ 2 ^ 47 }
+        requires positive { 1 ≤ stride }
+        requires room { start + stride * self.old.descendants ≤ end }
+        ensures measured { IsMeasured self.new }
+        ensures kind { self.new.kind ≡ self.old.kind }
+        ensures upper { self.new.upper ≡ end }
+        ensures plain { map plain self.new.children.items ≡ map plain self.old.children.items }
+        ensures within { IsWithin id (start + stride) (start + stride * self.old.descendants)
+            (forest self.new.children.items) }
+    {
+        self.upper = end;
+        number_all(&mut self.children, id, start + stride, stride);
+    }
+}
+
+/// Numbers the nodes one behind the other, from `start` on, each within its node count times `stride` numbers.
+#[cycle(number)]
+fn number_all(nodes: &mut [SyntaxNode], id: FileId, start: u64, stride: u64)
+    requires low { 2 ≤ start }
+    requires positive { 1 ≤ stride }
+    requires high { start + stride * count_of_all nodes.old ≤ 2 ^ 47 }
+    ensures within { IsWithin id start (start + stride * count_of_all nodes.old) (forest nodes.new) }
+    ensures plain { map plain nodes.new ≡ map plain nodes.old }
+{
+    let mut start = start;
+    for i in 0..nodes.len() {
+        let node = &mut nodes[i];
+        let end = start + node.descendants() as u64 * stride;
+        node.number_within(id, start, end);
+        start = end;
+    }
+}
+
+/// How many numbers each of `count` nodes gets of `space` numbers: half of an even share, where that is not 0.
+fn stride_of(space: u64, count: u64) -> u64
+    requires some { 1 ≤ count }
+    requires room { count ≤ space }
+    requires few { space < 2 ^ 48 }
+    ensures positive { 1 ≤ result }
+    ensures fits { result * count ≤ space }
+    ensures half { 2 * count ≤ space → 2 * (result * count) ≤ space }
+{
+    let stride = space / (2 * count);
+    if stride == 0 { space / count } else { stride }
+}
