@@ -2,7 +2,10 @@
 #![tactic(auto)]
 
 pub use kind::SyntaxKind;
-pub use span::{FileId, Span, SpanNumber};
+pub use mode::{ModeAfter, SyntaxMode};
+pub use span::{FileId, Span, SpanKind, SpanNumber};
 
 pub mod kind;
+pub mod mode;
+mod name;
 pub mod span;
