@@ -3,9 +3,11 @@
 
 pub use kind::SyntaxKind;
 pub use mode::{ModeAfter, SyntaxMode};
+pub use set::SyntaxSet;
 pub use span::{FileId, Span, SpanKind, SpanNumber};
 
 pub mod kind;
 pub mod mode;
 mod name;
+pub mod set;
 pub mod span;
