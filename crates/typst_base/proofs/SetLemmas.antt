@@ -25,7 +25,7 @@ number_of-lt End = lit< tt
 number_of-lt _ = lit< tt
 
 -- the digit of two words at a place
-pub flag_at : ℕ → ℕ → ℕ → Bool
+unfoldable pub flag_at : ℕ → ℕ → ℕ → Bool
 flag_at low high i = if nat_lt i 128 then bit_at low i == 1 else (bit_at high (i - 128) == 1)
 
 flag_at_low : (low high i : ℕ) → i < 128 → flag_at low high i ≡ (bit_at low i == 1)

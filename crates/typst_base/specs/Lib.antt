@@ -4,5 +4,6 @@ pub mod KindMode
 pub mod KindName
 pub mod KindNumber
 pub mod KindSet
+pub mod NamedSets
 pub mod Span
 pub mod SpanKind

@@ -9,5 +9,6 @@ pub use span::{FileId, Span, SpanKind, SpanNumber};
 pub mod kind;
 pub mod mode;
 mod name;
+pub mod named_sets;
 pub mod set;
 pub mod span;

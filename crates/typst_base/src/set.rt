@@ -1,5 +1,6 @@
 // Sets of kinds.
 ghost use Rattle.std.specs.Prelude.{◌≡◌, ◌||◌, ◌&&◌, IsTrue, false, not};
+ghost use Rattle.typst_base.specs.Flags.{flags};
 ghost use Rattle.typst_base.specs.KindSet.{holds, is_kind};
 ghost use Rattle.typst_base.specs.declared.kind.SyntaxKind.{SyntaxKind};
 
@@ -40,6 +41,13 @@ impl SyntaxSet {
         ensures { (k : SyntaxKind) → holds result k ≡ false }
     {
         SyntaxSet { low: 0, high: 0 }
+    }
+
+    /// The set of the kinds below 128 whose bits are set in this word.
+    pub(crate) fn from_low_word(low: u128) -> SyntaxSet
+        ensures { result ≡ flags 137 low }
+    {
+        SyntaxSet { low, high: 0 }
     }
 
     /// The set with this kind alone.
