@@ -1,3 +1,5 @@
+pub mod DiagSpan
+pub mod DiagSpanKind
 pub mod Flags
 pub mod KindClasses
 pub mod KindMode
@@ -7,3 +9,4 @@ pub mod KindSet
 pub mod NamedSets
 pub mod Span
 pub mod SpanKind
+pub mod SubRange

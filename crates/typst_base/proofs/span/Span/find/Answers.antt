@@ -11,13 +11,14 @@ returns-then-not-is_detached g c =
     let seen = c.loop-span.yielded in
     let span = c.in-Some.span in
     let more = Yields-more steps c.into_iter-span-iterator.result seen c.loop-span.span-iterator span c.next.new.self c.loop-span.yielded_by c.in-Some.ensures.steps in
-    let somewhere : span ≢ detached = λ e. let both = c.if-not-is_detached.ensures.1 e in cc in
-    ( seen ++ span ∷ []
-    , ( c.next.new.self
-      , subst (λ s. Yields steps s (seen ++ span ∷ []) c.next.new.self) c.into_iter-span-iterator.ensures.into_iter_gives more
-      , λ e. absurd (somewhere e)
-      )
-    , first_attached-found seen span c.loop-span.invariant.none somewhere
+    let somewhere : span ≢ detached = λ e. let both = c.if-not-is_detached.ensures.1 e in cc in (
+      seen ++ span ∷ [],
+      (
+        c.next.new.self,
+        subst (λ s. Yields steps s (seen ++ span ∷ []) c.next.new.self) c.into_iter-span-iterator.ensures.into_iter_gives more,
+        λ e. absurd (somewhere e),
+      ),
+      first_attached-found seen span c.loop-span.invariant.none somewhere,
     )
 
 pub loop-span-preserved : goal.loop-span-preserved

@@ -7,5 +7,5 @@ abbrev pub invariant-loop-span : goal.invariant-loop-span
 invariant-loop-span g l = record {
   can : (goal.iterator-loop-span g).can_next l.span-iterator;
   ends : (goal.iterator-loop-span g).is_finite l.span-iterator;
-  none : first_attached l.yielded ≡ detached
+  none : first_attached l.yielded ≡ detached;
 }
