@@ -56,6 +56,12 @@ pub enum DiagSpanKind {
 
 /// # Making a diagnostic span
 impl DiagSpan {
+    /// The diagnostic span that points nowhere.
+    pub(crate) const NOWHERE: DiagSpan = DiagSpan {
+        span: Span::NOWHERE,
+        word: 0,
+    };
+
     /// The low value of an external range that starts at 0.
     const EXTERNAL_BASE: u64 = 1 << 47;
 

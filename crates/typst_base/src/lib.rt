@@ -6,6 +6,7 @@ pub use kind::SyntaxKind;
 pub use mode::{ModeAfter, SyntaxMode};
 pub use set::SyntaxSet;
 pub use span::{FileId, Span, SpanKind, SpanNumber};
+pub use spanned::{SpanDetached, Spanned};
 pub use sub_range::SubRange;
 
 pub mod diag_span;
@@ -15,4 +16,5 @@ mod name;
 pub mod named_sets;
 pub mod set;
 pub mod span;
+pub mod spanned;
 pub mod sub_range;
