@@ -3,6 +3,7 @@
 
 pub use diag_span::{DiagSpan, DiagSpanKind};
 pub use kind::SyntaxKind;
+pub use mapper::{MapperError, RangeMapper};
 pub use mode::{ModeAfter, SyntaxMode};
 pub use set::SyntaxSet;
 pub use span::{FileId, Span, SpanKind, SpanNumber};
@@ -11,6 +12,7 @@ pub use sub_range::SubRange;
 
 pub mod diag_span;
 pub mod kind;
+pub mod mapper;
 pub mod mode;
 mod name;
 pub mod named_sets;
