@@ -66,8 +66,8 @@ found_at base (r ∷ rest) i zero d le h before past =
     record {
       position =
           get_or_append_left (positions_of r) (flat_map positions_of rest) 0 (i - base) inner
-              ∙ get_or-range_with_len r.start (r.end - r.start) (i - base) 0 inside
-              ∙ omega arith;
+          ∙ get_or-range_with_len r.start (r.end - r.start) (i - base) 0 inside
+          ∙ omega arith;
       within = omega arith;
     }
 found_at base (r ∷ rest) i (suc k) d le h before past =
@@ -79,8 +79,8 @@ found_at base (r ∷ rest) i (suc k) d le h before past =
     record {
       position =
           get_or-append_right (positions_of r) (flat_map positions_of rest) (r.end - r.start) (i - base) 0 (length-positions_of r) gone
-              ∙ ap (λ n. get_or (flat_map positions_of rest) n 0) left
-              ∙ found.position;
+          ∙ ap (λ n. get_or (flat_map positions_of rest) n 0) left
+          ∙ found.position;
       within = found.within;
     }
 
@@ -100,9 +100,9 @@ inside_of [] i k d h le before = absurd (omega arith)
 inside_of (r ∷ rest) i k d h le before =
     let last = upto-last 0 (r ∷ rest) (length rest) d (omega arith) in
     elim (leb_tells k (length rest)) [
-        inl low ↦ omega (arith, low.1)
+      | inl low ↦ omega (arith, low.1)
       | inr high ↦ absurd (omega (arith, high.1, before (length rest) high.1, last))
-      ]
+    ]
 
 above_of : (a b : ℕ) → leb a b ≡ false → b < a
 above_of a b e = grind (arith, nat_tests)
@@ -139,22 +139,22 @@ total_of items k d e last =
     let count = length-running 0 (ranges items) in
     let same = ap length e in
     ap (λ (xs : List Segment). (get_or xs k d).upto) e
-        ∙ upto-last 0 (ranges items) k d (omega (arith, count, same))
-        ∙ omega arith
+    ∙ upto-last 0 (ranges items) k d (omega (arith, count, same))
+    ∙ omega arith
 
 pub total_by_last : (items xs : List Segment) (s : Segment) → xs ≡ items → items ≡ running 0 (ranges items) → Some s ≡ slice_get xs (length xs - 1) → s.upto ≡ length (flat_map positions_of (ranges items))
 total_by_last items xs s same e last =
     let at : slice_get items (length items - 1) ≡ Some s = ap (λ ys. slice_get ys (length ys - 1)) (sym same) ∙ sym last in
     let inside = slice_get_within items (length items - 1) s at in
     ap (λ (t : Segment). t.upto) (sym (get_or_from_slice_get items (length items - 1) s s at))
-        ∙ total_of items (length items - 1) s e (omega arith)
+    ∙ total_of items (length items - 1) s e (omega arith)
 
 -- ---- the segments that are kept at the end
 pub kept_all : (kept : List Segment) (upto index : ℕ) (rs : List (Range ℕ)) → length rs ≤ index → kept ++ running upto (drop index rs) ≡ running 0 rs → kept ≡ running 0 rs
 kept_all kept upto index rs past e =
     sym (append-nil kept)
-        ∙ ap (λ (left : List (Range ℕ)). kept ++ running upto left) (sym (drop_all index rs past))
-        ∙ e
+    ∙ ap (λ (left : List (Range ℕ)). kept ++ running upto left) (sym (drop_all index rs past))
+    ∙ e
 
 pub kept_ranges : (kept : List Segment) (rs : List (Range ℕ)) → kept ≡ running 0 rs → ranges kept ≡ rs
 kept_ranges kept rs e = ap ranges e ∙ ranges-running 0 rs

@@ -414,3 +414,6 @@ impl SyntaxKind {
         )
     }
 }
+
+#[cfg(test)]
+mod tests;

@@ -194,3 +194,6 @@ fn find_invalid(segments: &[Range<usize>]) -> Option<&Range<usize>>
     }
     None
 }
+
+#[cfg(test)]
+mod tests;

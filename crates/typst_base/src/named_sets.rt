@@ -166,3 +166,6 @@ pub fn destructuring_item() -> SyntaxSet
 {
     pattern().add(SyntaxKind::Dots)
 }
+
+#[cfg(test)]
+mod tests;

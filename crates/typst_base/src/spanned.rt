@@ -88,3 +88,6 @@ impl<T: fmt::Debug, S> fmt::Debug for Spanned<T, S> {
         self.v.fmt(f)
     }
 }
+
+#[cfg(test)]
+mod tests;

@@ -71,3 +71,6 @@ impl SubRange {
         self.start as usize + offset..self.end as usize + offset
     }
 }
+
+#[cfg(test)]
+mod tests;

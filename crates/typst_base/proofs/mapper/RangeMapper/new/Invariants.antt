@@ -8,5 +8,5 @@ abbrev pub invariant-loop-segment : goal.invariant-loop-segment
 invariant-loop-segment l = record {
   kept : l.kept.items ++ running l.upto (drop l.segment-index l.segments) ≡ running 0 l.segments;
   valid : first_invalid l.before (drop l.segment-index l.segments) ≡ None;
-  fits : l.upto ≤ l.before
+  fits : l.upto ≤ l.before;
 }

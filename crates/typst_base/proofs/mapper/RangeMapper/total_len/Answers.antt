@@ -6,4 +6,4 @@ use Rattle.typst_base.proofs.mapper.RangeMapper.total_len.Goals as goal
 pub returns-in-Some : goal.returns-in-Some
 returns-in-Some c =
     total_by_last c.self.inside.segments.items c.deref.result.now c.in-Some.segment.now c.deref.ensures.value c.self.invariant c.in-Some.ensures.value
-        ∙ ap (λ (m : Mapping). length m.positions) c.self.view_is
+    ∙ ap (λ (m : Mapping). length m.positions) c.self.view_is
