@@ -82,10 +82,10 @@ impl RangeMapper {
         let Ok(mut kept) = Vec::with_capacity(alloc, segments.len()) else {
             return Err(MapperError::Memory);
         };
-        let mut before = 0;
+        let mut last_end = 0;
         let mut upto = 0;
         for segment in segments {
-            before = segment.end;
+            last_end = segment.end;
             upto += segment.end - segment.start;
             let Ok(()) = kept.push(Segment {
                 start: segment.start,

@@ -77,7 +77,7 @@ impl<T, S: Copy + SpanDetached> Spanned<T, S> {
         ensures value { F.post f self.v result.v }
         ensures place { result.span ≡ self.span }
     {
-        let Spanned { v, span } = self;
+        let Self { v, span } = self;
         Spanned { v: f(v), span }
     }
 }

@@ -40,12 +40,19 @@ fn a_part_of_a_span_is_kept(rt: HostRuntime) {
     assert!(rt; whole == DiagSpanKind::Range { id, range: 10..20 });
     let num = SpanNumber(5);
     let node = Span::from_number(id, num);
-    let sub_range = part;
-    let numbered = DiagSpan::from_span(node, part).get();
-    assert!(rt; numbered == DiagSpanKind::Number { id, num, sub_range });
+    let numbered = DiagSpanKind::Number {
+        id,
+        num,
+        sub_range: SubRange::new(2, 5),
+    };
+    assert!(rt; DiagSpan::from_span(node, part).get() == numbered);
     let plain: DiagSpan = node.into();
-    let sub_range = None;
-    assert!(rt; plain.get() == DiagSpanKind::Number { id, num, sub_range });
+    let whole_node = DiagSpanKind::Number {
+        id,
+        num,
+        sub_range: None,
+    };
+    assert!(rt; plain.get() == whole_node);
 }
 
 #[test]

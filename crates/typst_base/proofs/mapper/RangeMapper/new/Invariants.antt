@@ -7,6 +7,6 @@ use Rattle.typst_base.proofs.mapper.RangeMapper.new.Given as goal
 abbrev pub invariant-loop-segment : goal.invariant-loop-segment
 invariant-loop-segment l = record {
   kept : l.kept.items ++ running l.upto (drop l.segment-index l.segments) ≡ running 0 l.segments;
-  valid : first_invalid l.before (drop l.segment-index l.segments) ≡ None;
-  fits : l.upto ≤ l.before;
+  valid : first_invalid l.last_end (drop l.segment-index l.segments) ≡ None;
+  fits : l.upto ≤ l.last_end;
 }
