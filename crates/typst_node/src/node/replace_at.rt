@@ -1,0 +1,155 @@
+// Replacements at a path.
+ghost use Rattle.std.specs.Prelude.{◌≡◌, ◌+◌, ◌-◌, ◌^◌, ◌<◌, ◌≤◌, ◌⊎◌, ◌↔◌, length, set, get_or, map, Ok, OnErr, OnOk, IfOk, IsTrue, IsErrOf};
+ghost use Rattle.typst_node.specs.Window.{site_of};
+ghost use Rattle.typst_node.specs.FirstWindow.{HasNoFirst};
+ghost use Rattle.typst_node.specs.Renumbering.{IsRenumbering};
+ghost use Rattle.typst_node.specs.declared.node.replace.ReplaceError.TheVariants.{Unnumberable, Overflow, Memory};
+ghost use Rattle.typst_node.specs.Tree.{IsInner, trees};
+ghost use Rattle.typst_node.specs.Count.{SumsFit};
+ghost use Rattle.typst_node.specs.Plain.{plain};
+ghost use Rattle.typst_node.specs.Numbered.{IsNumbered, IsNumberedFor};
+ghost use Rattle.typst_node.specs.View.{IsMeasured};
+ghost use Rattle.typst_node.specs.Paths.{IsPath, tree_at, with_children, no_tree};
+ghost use Rattle.typst_node.specs.PlainEdit.{edited_at, TreeFits};
+ghost use Rattle.typst_node.specs.EditBelow.{IsEdit, IsReplacement};
+
+use crate::node::inner::sums_of;
+use crate::node::replace::{Renumbered, ReplaceError};
+use crate::node::{InnerNode, Node, SyntaxNode};
+use std::ops::Range;
+
+impl SyntaxNode {
+    // The node that a path leads to.
+    fn node_at(&self, path: &[usize]) -> &SyntaxNode
+        requires { IsPath path.now self.now }
+        ensures { result.now ≡ tree_at path.now self.now }
+    {
+        match path.split_first() {
+            None => self,
+            Some((index, rest)) => self.children()[*index].node_at(rest),
+        }
+    }
+
+    /// Whether a path leads to a node, and the range lies within its children where it is inner.
+    pub fn edit_fits(&self, path: &[usize], range: Range<usize>) -> bool
+        ensures { IsTrue result ↔ (IsPath path.now self.now × (IsInner (tree_at path.now self.now).label.content → (range.start ≤ range.end) × (range.end ≤ length (trees (tree_at path.now self.now).children)))) }
+    {
+        match path.split_first() {
+            None => {
+                !self.is_inner() || range.start <= range.end && range.end <= self.children().len()
+            }
+            Some((index, rest)) => {
+                *index < self.children().len() && self.children()[*index].edit_fits(rest, range)
+            }
+        }
+    }
+
+    #[cycle(at)]
+    fn replace_below(
+        &mut self,
+        path: &[usize],
+        range: Range<usize>,
+        replacement: Vec<SyntaxNode>,
+    ) -> Result<Renumbered, ReplaceError>
+        requires { IsEdit path.now range.start range.end replacement.items self.old }
+        ensures err { OnErr result (self.new ≡ self.old) }
+        ensures frame { self.new ≡ with_children path.now (trees (tree_at path.now self.new).children) self.old }
+        ensures at { IsReplacement range.start range.end replacement.items (tree_at path.now self.old) (tree_at path.now self.new) result }
+    {
+        match path.split_first() {
+            None => self.replace_children(range, replacement),
+            Some((index, rest)) => match &mut self.node {
+                Node::Inner(inner) => {
+                    let result = inner.replace_in(*index, rest, range, replacement);
+                    return result;
+                }
+                Node::Leaf(..) | Node::Error(_) => unreachable!(),
+            },
+        }
+    }
+}
+
+impl InnerNode {
+    #[cycle(at)]
+    fn replace_in(
+        &mut self,
+        index: usize,
+        path: &[usize],
+        range: Range<usize>,
+        replacement: Vec<SyntaxNode>,
+    ) -> Result<Renumbered, ReplaceError>
+        requires measured { IsMeasured self.old }
+        requires index { index < length self.old.children.items }
+        requires edit { IsEdit path.now range.start range.end replacement.items (get_or self.old.children.items index no_tree) }
+        requires sums { SumsFit (set self.old.children.items index (edited_at path.now range.start range.end replacement.items (get_or self.old.children.items index no_tree))) }
+        ensures measured { IsMeasured self.new }
+        ensures kind { self.new.kind ≡ self.old.kind }
+        ensures upper { self.new.upper ≡ self.old.upper }
+        ensures err { OnErr result (self.new.children.items ≡ self.old.children.items) }
+        ensures frame { self.new.children.items ≡ set self.old.children.items index (with_children path.now (trees (tree_at path.now (get_or self.new.children.items index no_tree)).children) (get_or self.old.children.items index no_tree)) }
+        ensures at { IsReplacement range.start range.end replacement.items (tree_at path.now (get_or self.old.children.items index no_tree)) (tree_at path.now (get_or self.new.children.items index no_tree)) result }
+    {
+        let (_len, _descendants) = (self.len, self.descendants);
+        let result = self.children[index].replace_below(path, range, replacement);
+        self.measure();
+        result
+    }
+}
+
+impl SyntaxNode {
+    // Whether the sums fit after an edit at a path.
+    #[tactic(auto, using(crate::proofs::PathsWhole::count_edited, crate::proofs::PathsWhole::text_edited, crate::proofs::Opens::part_count, crate::proofs::Opens::part_text, crate::proofs::PathsWhole::count_below, crate::proofs::PathsWhole::text_below))]
+    fn sums_fit(&self, path: &[usize], range: Range<usize>, others: &[SyntaxNode]) -> bool
+        requires path { IsPath path.now self.now }
+        requires range { (range.start ≤ range.end) × (range.end ≤ length (trees (tree_at path.now self.now).children)) }
+        ensures { IsTrue result ↔ TreeFits (edited_at path.now range.start range.end others.now self.now) }
+    {
+        let len = self.len();
+        let count = self.descendants();
+        let children = self.node_at(path).children();
+        let Some(gone) = sums_of(&children[range.start..range.end]) else {
+            return false;
+        };
+        let Some(added) = sums_of(others) else {
+            return false;
+        };
+        if (len - gone.len).checked_add(added.len).is_none() {
+            return false;
+        }
+        (count - (gone.descendants - 1))
+            .checked_add(added.descendants - 1)
+            .is_some()
+    }
+
+    /// Replaces the children of a range of the node that a path leads to. A leaf or an error stays as it is.
+    pub fn replace_at(
+        &mut self,
+        path: &[usize],
+        range: Range<usize>,
+        replacement: Vec<SyntaxNode>,
+    ) -> Result<Renumbered, ReplaceError>
+        requires path { IsPath path.now self.old }
+        requires range { IsInner (tree_at path.now self.old).label.content → (range.start ≤ range.end) × (range.end ≤ length (trees (tree_at path.now self.old).children)) }
+        requires numbered { ((tree_at path.now self.old).label.span.file ≡ 0) ⊎ IsNumbered self.old }
+        ensures err { OnErr result (self.new ≡ self.old) }
+        ensures leaf { ¬ (IsInner (tree_at path.now self.old).label.content) → (self.new ≡ self.old) × (result ≡ Ok (record { window = record { start = 0; end = 0 }; tried = 0 })) }
+        ensures overflow { IsErrOf result Overflow ↔ (IsInner (tree_at path.now self.old).label.content × ¬ (TreeFits (edited_at path.now range.start range.end replacement.items self.old))) }
+        ensures unnumberable { IsErrOf result Unnumberable ↔ (IsInner (tree_at path.now self.old).label.content × TreeFits (edited_at path.now range.start range.end replacement.items self.old) × (((tree_at path.now self.old).label.span.file ≡ 0) ⊎ HasNoFirst (site_of range.start range.end replacement.items (tree_at path.now self.old)))) }
+        ensures memory { length replacement.items ≤ range.end - range.start → ¬ (IsErrOf result Memory) }
+        ensures ok { IfOk result (λ r. IsInner (tree_at path.now self.old).label.content → IsRenumbering (site_of range.start range.end replacement.items (tree_at path.now self.old)) r (trees (tree_at path.now self.new).children)) }
+        ensures frame { OnOk result (IsInner (tree_at path.now self.old).label.content → self.new ≡ with_children path.now (trees (tree_at path.now self.new).children) self.old) }
+        ensures plain { OnOk result (IsInner (tree_at path.now self.old).label.content → plain self.new ≡ plain (edited_at path.now range.start range.end replacement.items self.old)) }
+        ensures numbered { OnOk result (IsInner (tree_at path.now self.old).label.content → IsNumberedFor self.old.label.span.file self.new) }
+    {
+        if !self.node_at(path).is_inner() {
+            return Ok(Renumbered {
+                window: 0..0,
+                tried: 0,
+            });
+        }
+        if !self.sums_fit(path, range.start..range.end, &replacement) {
+            return Err(ReplaceError::Overflow);
+        }
+        self.replace_below(path, range, replacement)
+    }
+}
