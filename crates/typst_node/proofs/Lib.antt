@@ -12,3 +12,4 @@ pub mod PathsIn
 pub mod PathsAt
 pub mod PathsWhole
 pub mod Outside
+pub mod Settled

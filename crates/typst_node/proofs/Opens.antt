@@ -4,7 +4,7 @@ use Rattle.std.proofs.lemmas.List.{take-append-drop}
 use Rattle.std.proofs.lemmas.List.Folds.{drop_split}
 use Rattle.std.specs.Prelude.{slice_range}
 use Rattle.std.specs.List.{splice}
-use Rattle.std.proofs.Math.Seq.{take-nil, drop-nil}
+use Rattle.std.proofs.Math.Seq.{take-nil, drop-nil, take-add}
 use Rattle.typst_node.specs.Tree.{Tree}
 use Rattle.typst_node.specs.Count.{count_of_all}
 use Rattle.typst_node.specs.Text.{text_of_all}
@@ -73,6 +73,22 @@ fewer_before s i = omega (arith, count_new s, count_split i s.before)
 pub fewer_behind : (s : Site) (i : ℕ) → count_of_all (take i s.behind) < new_count s
 fewer_behind s i = omega (arith, count_new s, count_split i s.behind)
 
+-- what a wider window gains
+pub gained : (s : Site) (w next a b c d n m : ℕ) → w ≤ next → a ≡ length s.before - next → b ≡ length s.before - w → c ≡ min w (length s.behind) → d ≡ min next (length s.behind)
+    → n ≡ count_of_all (slice_range s.before a b) → m ≡ count_of_all (slice_range s.behind c d) → count_of_all (trees_in s w) + (n + m) ≡ count_of_all (trees_in s next)
+gained s w next a b c d n m wider a_is b_is c_is d_is n_is m_is =
+    let ahead : count_of_all (drop a s.before) ≡ n + count_of_all (drop b s.before) =
+        ap count_of_all (drop_split s.before a b (omega arith)) ∙ (count_append (slice_range s.before a b) (drop b s.before) ∙ ap (λ k. k + count_of_all (drop b s.before)) (sym n_is)) in
+    let many : c + (d - c) ≡ d = omega arith in
+    let back : count_of_all (take d s.behind) ≡ count_of_all (take c s.behind) + m =
+        ap (λ k. count_of_all (take k s.behind)) (sym many) ∙ (ap count_of_all (take-add c (d - c) s.behind)
+        ∙ (count_append (take c s.behind) (slice_range s.behind c d) ∙ ap (λ k. count_of_all (take c s.behind) + k) (sym m_is))) in
+    let a_same : count_of_all (drop a s.before) ≡ count_of_all (drop (length s.before - next) s.before) = ap (λ k. count_of_all (drop k s.before)) a_is in
+    let b_same : count_of_all (drop b s.before) ≡ count_of_all (drop (length s.before - w) s.before) = ap (λ k. count_of_all (drop k s.before)) b_is in
+    let c_same : count_of_all (take c s.behind) ≡ count_of_all (take w s.behind) = ap (λ k. count_of_all (take k s.behind)) c_is ∙ ap count_of_all (take_min w s.behind) in
+    let d_same : count_of_all (take d s.behind) ≡ count_of_all (take next s.behind) = ap (λ k. count_of_all (take k s.behind)) d_is ∙ ap count_of_all (take_min next s.behind) in
+    omega (arith, count_in s w, count_in s next)
+
 -- the widths 0, 1, 2, 4 and so on
 positive_power : (k : ℕ) → 0 < 2 ^ k
 positive_power zero = omega arith
@@ -115,6 +131,12 @@ part_count ts a b h = omega (arith, count_split a ts, ap count_of_all (drop_spli
 
 pub part_text : (ts : List Tree) (a b : ℕ) → a ≤ b → length (text_of_all (slice_range ts a b)) ≤ length (text_of_all ts)
 part_text ts a b h =
+    let whole : length (text_of_all (take a ts)) + length (text_of_all (drop a ts)) ≡ length (text_of_all ts) = sym (length_text_append (take a ts) (drop a ts)) ∙ ap (λ vs. length (text_of_all vs)) (take-append-drop a ts) in
+    let rest : length (text_of_all (drop a ts)) ≡ length (text_of_all (slice_range ts a b)) + length (text_of_all (drop b ts)) = ap (λ vs. length (text_of_all vs)) (drop_split ts a b h) ∙ length_text_append (slice_range ts a b) (drop b ts) in
+    omega arith
+
+pub text_split : (ts : List Tree) (a b : ℕ) → a ≤ b → length (text_of_all (take a ts)) + (length (text_of_all (slice_range ts a b)) + length (text_of_all (drop b ts))) ≡ length (text_of_all ts)
+text_split ts a b h =
     let whole : length (text_of_all (take a ts)) + length (text_of_all (drop a ts)) ≡ length (text_of_all ts) = sym (length_text_append (take a ts) (drop a ts)) ∙ ap (λ vs. length (text_of_all vs)) (take-append-drop a ts) in
     let rest : length (text_of_all (drop a ts)) ≡ length (text_of_all (slice_range ts a b)) + length (text_of_all (drop b ts)) = ap (λ vs. length (text_of_all vs)) (drop_split ts a b h) ∙ length_text_append (slice_range ts a b) (drop b ts) in
     omega arith

@@ -23,3 +23,5 @@ pub mod FirstWindow
 pub mod Renumbering
 pub mod EditBelow
 pub mod Sites
+pub mod Stale
+pub mod Change

@@ -28,3 +28,7 @@ pub record IsRenumbering (s : Site) (r : Renumbered) (new : List Tree) : Type 0 
       → AreIn (open_start s (reach (r.tried - 1)))
       (open_start s (reach (r.tried - 1)) + open_count s (reach (r.tried - 1)) / 2)
       (slice_range new r.window.start r.window.end)
+
+-- the answer on a leaf or an error, where nothing is done
+abbrev pub no_window : Renumbered
+no_window = record { window = record { start = 0; end = 0 }; tried = 0 }

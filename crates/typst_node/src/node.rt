@@ -15,6 +15,7 @@ pub mod copy;
 mod inner;
 pub mod number;
 mod renumber;
+mod settle;
 pub mod replace;
 pub mod replace_at;
 #[cfg(test)]

@@ -1,38 +1,42 @@
 // Replacements of children.
-ghost use Rattle.std.specs.Prelude.{◌≡◌, ◌≢◌, ◌+◌, ◌-◌, ◌*◌, ◌^◌, ◌<◌, ◌≤◌, ◌⊎◌, ◌↔◌, ◌++◌, [], ◌∷◌, suc, map, length, take, drop, slice_range, vec_len, vec_capacity, Some, None, IfSome, Ok, IsOk, IfOk, OnOk, OnErr, IsErrOf, MatchOption, IsTrue};
+ghost use Rattle.std.specs.Prelude.{◌≡◌, ◌+◌, ◌-◌, ◌^◌, ◌<◌, ◌≤◌, ◌⊎◌, ◌↔◌, suc, map, length, slice_range, vec_capacity, None, IfSome, Ok, IsOk, IfOk, OnOk, OnErr, IsErrOf, MatchOption};
 ghost use Rattle.std.specs.List.{splice};
-ghost use Rattle.typst_base.specs.declared.kind.SyntaxKind.TheVariants.{Error};
-ghost use Rattle.typst_node.specs.Count.{SumsFit, count_of_all};
-ghost use Rattle.typst_node.specs.Text.{text_of_all};
 ghost use Rattle.typst_node.specs.Tree.{forest, trees, IsInner};
+ghost use Rattle.typst_node.specs.Count.{SumsFit, count_of_all};
 ghost use Rattle.typst_node.specs.Plain.{plain};
-ghost use Rattle.typst_node.specs.Interval.{IsWithin};
 ghost use Rattle.typst_node.specs.Numbered.{IsNumbered, IsNumberedFor};
-ghost use Rattle.typst_node.specs.View.{IsMeasured, ends_from};
-ghost use Rattle.typst_node.specs.Window.{Site, site_at, site_among, site_of, reach, trees_in};
-ghost use Rattle.typst_node.specs.PlainEdit.{edited};
-ghost use Rattle.typst_node.specs.FirstWindow.{HasNoFirst, IsFirst};
-ghost use Rattle.typst_node.specs.WindowNumbers.{open_start, open_count};
-ghost use Rattle.typst_node.specs.Renumbering.{IsRenumbering};
+ghost use Rattle.typst_node.specs.Interval.{IsWithin};
+ghost use Rattle.typst_node.specs.View.{IsMeasured};
+ghost use Rattle.typst_node.specs.Sums.{AreSums};
+ghost use Rattle.typst_node.specs.PlainEdit.{edited, RangeFits};
+ghost use Rattle.typst_node.specs.Window.{Site, site_at, site_among, site_of};
+ghost use Rattle.typst_node.specs.FirstWindow.{HasNoFirst};
+ghost use Rattle.typst_node.specs.Renumbering.{IsRenumbering, no_window};
+ghost use Rattle.typst_node.specs.Sites.{IsFound};
+ghost use Rattle.typst_node.specs.Change.{IsChange};
 ghost use Rattle.typst_node.specs.declared.node.replace.ReplaceError.TheVariants.{Unnumberable, Overflow, Memory};
 
-use crate::exchange::exchange;
-use crate::node::inner::sums_of;
+use crate::exchange::{exchange, make_place};
+use crate::node::inner::{Sums, sums_of};
 use crate::node::trim::{count_common_first, count_common_last, trim};
-use crate::node::window::{Edit, Found, count_all, find};
+use crate::node::window::{Edit, Found, find};
 use crate::node::{InnerNode, Node, SyntaxNode};
-use std::alloc::AllocError;
+use std::alloc::{AllocError, Global};
 use std::ops::Range;
+use thiserror::Error;
 use typst_base::FileId;
 
-/// Why children are not replaced.
-#[derive(Clone, Copy, Debug, PartialEq, Eq)]
+/// Why children were not replaced. Nothing has changed then, and the replacement is dropped.
+#[derive(Clone, Copy, Debug, PartialEq, Eq, Error)]
 pub enum ReplaceError {
-    /// No window has room, or there is no file id.
+    /// No window of children has room for new numbers, or the edited node has no file id.
+    #[error("no window of children has room for new numbers")]
     Unnumberable,
-    /// The length of the text or the number of nodes passes usize.
+    /// The length of the text or the number of nodes would pass a usize.
+    #[error("the tree is too large")]
     Overflow,
-    /// Memory was refused.
+    /// Memory for a longer list of children was refused.
+    #[error("out of memory")]
     Memory,
 }
 
@@ -44,44 +48,35 @@ impl From<AllocError> for ReplaceError {
     }
 }
 
-/// The window of children that was numbered anew, and how many were tried.
+/// What an accepted replacement numbered anew.
 #[derive(Debug, PartialEq, Eq, Drop)]
 pub struct Renumbered {
+    /// The window: the indices of the children that were numbered anew, in the new list of children.
     pub window: Range<usize>,
+    /// How many windows were tried, this one included.
     pub tried: usize,
 }
 
-// Adds an end where there is room.
-fn push_within(ends: &mut Vec<usize>, end: usize)
-    requires { vec_len ends.old < vec_capacity ends.old }
-    ensures items { ends.new.items ≡ ends.old.items ++ end ∷ [] }
-    ensures capacity { vec_capacity ends.old ≤ vec_capacity ends.new }
-{
-    let _ = ends.push(end);
-}
-
-// Writes where the texts of the children end, where there is room.
-fn write_ends(ends: &mut Vec<usize>, children: &[SyntaxNode])
-    requires fits { length (text_of_all children.now) < 2 ^ 64 }
-    requires room { length children.now ≤ vec_capacity ends.old }
-    ensures { ends.new.items ≡ ends_from 0 children.now }
-{
-    ends.clear();
-    let mut end = 0usize;
-    for child in children {
-        end += child.len();
-        push_within(ends, end);
-    }
+/// What goes and what comes where children are replaced.
+#[derive(Drop)]
+pub(super) struct Change {
+    // The sums of the children that go, and of those that come.
+    pub(super) gone: Sums,
+    pub(super) added: Sums,
+    // The node count of the edited node after the change.
+    pub(super) total: usize,
 }
 
 impl InnerNode {
-    // The number of nodes with others in the place of some children, if the sums fit.
+    /// The sums of what goes and of what comes with others in the place of some children, if the node's own sums fit
+    /// a usize then. It reads these children and the others alone.
     #[tactic(auto, using(crate::proofs::Opens::splice_count, crate::proofs::Opens::splice_text, crate::proofs::Opens::part_count, crate::proofs::Opens::part_text))]
-    fn new_count(&self, from: usize, to: usize, others: &[SyntaxNode]) -> Option<usize>
+    fn change(&self, from: usize, to: usize, others: &[SyntaxNode]) -> Option<Change>
         requires measured { IsMeasured self.now }
         requires window { from ≤ to }
         requires inside { to ≤ length self.now.children.items }
-        ensures { let new = splice self.now.children.items from to others.now in MatchOption result (¬ (SumsFit new)) (λ n. SumsFit new × (n ≡ suc (count_of_all new))) }
+        ensures { let new = splice self.now.children.items from to others.now in MatchOption result (¬ (SumsFit new))
+            (λ c. SumsFit new × IsChange from to self.now.children.items others.now c) }
     {
         let (len, descendants) = (self.len, self.descendants);
         let Some(gone) = sums_of(&self.children[from..to]) else {
@@ -93,29 +88,15 @@ impl InnerNode {
         if (len - gone.len).checked_add(added.len).is_none() {
             return None;
         }
-        (descendants - (gone.descendants - 1)).checked_add(added.descendants - 1)
-    }
-
-    // Measures the children again, where the list of ends has room.
-    pub(crate) fn measure(&mut self)
-        requires kind { self.old.kind ≢ Error }
-        requires fits { SumsFit self.old.children.items }
-        requires room { length self.old.children.items ≤ vec_capacity self.old.ends }
-        ensures measured { IsMeasured self.new }
-        ensures kind { self.new.kind ≡ self.old.kind }
-        ensures upper { self.new.upper ≡ self.old.upper }
-        ensures children { self.new.children ≡ self.old.children }
-    {
-        let Some(sums) = sums_of(&self.children) else {
-            return;
+        let Some(total) =
+            (descendants - (gone.descendants - 1)).checked_add(added.descendants - 1)
+        else {
+            return None;
         };
-        self.len = sums.len;
-        self.descendants = sums.descendants;
-        self.diagnosis = sums.diagnosis;
-        write_ends(&mut self.ends, &self.children);
+        Some(Change { gone, added, total })
     }
 
-    // Asks for the room that more children take.
+    /// Asks for the room that more children take.
     #[tactic(auto, using(crate::proofs::Trees::length_of_ends))]
     fn make_room(&mut self, more: usize) -> Result<(), AllocError>
         requires { IsMeasured self.old }
@@ -131,12 +112,19 @@ impl InnerNode {
         self.ends.reserve(more)
     }
 
-    // Puts others in the place of some children. It takes memory only where the list grows.
-    fn put(&mut self, from: usize, to: usize, others: Vec<SyntaxNode>) -> Result<(), AllocError>
+    /// Puts others in the place of some children. It takes memory only where the list grows, and asks for it first.
+    fn put(
+        &mut self,
+        from: usize,
+        to: usize,
+        others: Vec<SyntaxNode>,
+        change: &Change,
+    ) -> Result<(), AllocError>
         requires measured { IsMeasured self.old }
         requires window { from ≤ to }
         requires inside { to ≤ length self.old.children.items }
         requires fits { SumsFit (splice self.old.children.items from to others.items) }
+        requires change { IsChange from to self.old.children.items others.items change.now }
         ensures measured { IsMeasured self.new }
         ensures kind { self.new.kind ≡ self.old.kind }
         ensures upper { self.new.upper ≡ self.old.upper }
@@ -144,13 +132,15 @@ impl InnerNode {
         ensures err { OnErr result (self.new.children.items ≡ self.old.children.items) }
         ensures succeeds { length others.items ≤ to - from → IsOk result }
     {
-        self.make_room(others.len().saturating_sub(to - from))?;
+        let many = others.len();
+        self.make_room(many.saturating_sub(to - from))?;
         exchange(&mut self.children, from, to, others)?;
-        self.measure();
+        make_place(&mut self.ends, from, to, many);
+        self.settle(from, from + many, &change.gone, &change.added);
         Ok(())
     }
 
-    // The first window with room for an edit.
+    /// The first window with room for others in the place of some children.
     #[tactic(auto, using(crate::proofs::Opens::splice_count, crate::proofs::Opens::part_count))]
     fn window(
         &self,
@@ -158,13 +148,14 @@ impl InnerNode {
         from: usize,
         to: usize,
         others: &[SyntaxNode],
-        total: usize,
+        change: &Change,
     ) -> Option<Found>
         requires number { number < 2 ^ 48 }
         requires window { from ≤ to }
         requires inside { to ≤ length self.now.children.items }
-        requires total { total ≡ suc (count_of_all (splice self.now.children.items from to others.now)) }
-        ensures { let s : Site = site_at (number + 1) self.now.upper from to others.now self.now.children.items in MatchOption result (HasNoFirst s) (λ f. IsFirst s (f.tried - 1) × (1 ≤ f.tried) × (f.width ≡ reach (f.tried - 1)) × (f.start ≡ open_start s f.width) × (1 ≤ f.stride) × (f.stride * count_of_all (trees_in s f.width) ≤ open_count s f.width) × (2 * count_of_all (trees_in s f.width) ≤ open_count s f.width → 2 * (f.stride * count_of_all (trees_in s f.width)) ≤ open_count s f.width)) }
+        requires change { IsChange from to self.now.children.items others.now change.now }
+        ensures { let s : Site = site_at (number + 1) self.now.upper from to others.now self.now.children.items in
+            MatchOption result (HasNoFirst s) (IsFound s) }
     {
         let (before, _) = self.children.split_at(from);
         let (_, behind) = self.children.split_at(to);
@@ -174,15 +165,15 @@ impl InnerNode {
             behind,
             first: number + 1,
             end: self.upper,
-            added: count_all(others),
-            total,
+            added: change.added.descendants - 1,
+            total: change.total,
         };
         find(&edit)
     }
 }
 
 impl InnerNode {
-    // Replaces some children where nothing of them stays.
+    /// Replaces some children of which none stays: decides by counts alone, asks for memory, and only then writes.
     fn replace_changed(
         &mut self,
         id: Option<FileId>,
@@ -208,19 +199,20 @@ impl InnerNode {
         ensures plain { OnOk result (map plain self.new.children.items ≡ map plain (splice self.old.children.items from to others.items)) }
         ensures within { OnOk result (MatchOption id ⊥ (λ file. IsWithin file (number + 1) self.old.upper (forest self.new.children.items))) }
     {
-        let Some(total) = self.new_count(from, to, &others) else {
+        let Some(change) = self.change(from, to, &others) else {
             return Err(ReplaceError::Overflow);
         };
         let Some(id) = id else {
             return Err(ReplaceError::Unnumberable);
         };
-        let Some(found) = self.window(number, from, to, &others, total) else {
+        let Some(found) = self.window(number, from, to, &others, &change) else {
             return Err(ReplaceError::Unnumberable);
         };
         let start = from.saturating_sub(found.width);
         let end = from + others.len() + found.width.min(self.children.len() - to);
-        self.put(from, to, others)?;
-        self.renumber(id, start, end, found.start, found.stride);
+        self.put(from, to, others, &change)?;
+        let numbering = found.numbering;
+        self.renumber(id, start, end, numbering.start, numbering.stride);
         Ok(Renumbered {
             window: start..end,
             tried: found.tried,
@@ -229,8 +221,8 @@ impl InnerNode {
 }
 
 impl InnerNode {
-    // Replaces some children. What stays at the beginning and at the end keeps its place.
-    pub(crate) fn replace(
+    /// Replaces some children. Those stay that the replacement has alike at its beginning or at its end.
+    fn replace(
         &mut self,
         id: Option<FileId>,
         number: u64,

@@ -1,5 +1,5 @@
 // Replacements at a path.
-ghost use Rattle.std.specs.Prelude.{◌≡◌, ◌+◌, ◌-◌, ◌^◌, ◌<◌, ◌≤◌, ◌⊎◌, ◌↔◌, length, set, get_or, map, Ok, OnErr, OnOk, IfOk, IsTrue, IsErrOf};
+ghost use Rattle.std.specs.Prelude.{suc, [], ◌∷◌, ◌≡◌, ◌+◌, ◌-◌, ◌^◌, ◌<◌, ◌≤◌, ◌⊎◌, ◌↔◌, length, set, get_or, map, Ok, OnErr, OnOk, IfOk, IsTrue, IsErrOf};
 ghost use Rattle.typst_node.specs.Window.{site_of};
 ghost use Rattle.typst_node.specs.FirstWindow.{HasNoFirst};
 ghost use Rattle.typst_node.specs.Renumbering.{IsRenumbering};
@@ -13,7 +13,9 @@ ghost use Rattle.typst_node.specs.Paths.{IsPath, tree_at, with_children, no_tree
 ghost use Rattle.typst_node.specs.PlainEdit.{edited_at, TreeFits};
 ghost use Rattle.typst_node.specs.EditBelow.{IsEdit, IsReplacement};
 
-use crate::node::inner::sums_of;
+ghost use Rattle.typst_node.specs.Sums.{AreSums};
+ghost use Rattle.typst_node.specs.Count.{count};
+use crate::node::inner::{Sums, sums_of};
 use crate::node::replace::{Renumbered, ReplaceError};
 use crate::node::{InnerNode, Node, SyntaxNode};
 use std::ops::Range;
@@ -90,9 +92,23 @@ impl InnerNode {
         ensures at { IsReplacement range.start range.end replacement.items (tree_at path.now (get_or self.old.children.items index no_tree)) (tree_at path.now (get_or self.new.children.items index no_tree)) result }
     {
         let (_len, _descendants) = (self.len, self.descendants);
+        let gone = sums_of_one(&self.children[index]);
         let result = self.children[index].replace_below(path, range, replacement);
-        self.measure();
+        let added = sums_of_one(&self.children[index]);
+        self.settle(index, index + 1, &gone, &added);
         result
+    }
+}
+
+/// The sums of a single child.
+fn sums_of_one(child: &SyntaxNode) -> Sums
+    requires { suc (count child.now) < 2 ^ 64 }
+    ensures { AreSums result (child.now ∷ []) }
+{
+    Sums {
+        len: child.len(),
+        descendants: child.descendants() + 1,
+        diagnosis: child.diagnosis(),
     }
 }
 

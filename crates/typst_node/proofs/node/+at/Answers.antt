@@ -1,4 +1,4 @@
-use Rattle.std.proofs.Common.{◌≡◌, ℕ, ◌<◌, List, ◌∷◌, length, set, get_or, refl, sym, ap, subst, ◌∙◌, arith, rules}
+use Rattle.std.proofs.Common.{◌≡◌, ℕ, ◌+◌, ◌<◌, List, [], ◌∷◌, length, set, get_or, refl, sym, ap, subst, ◌∙◌, arith, rules}
 use Rattle.std.proofs.lemmas.Grind.{common_steps}
 use Rattle.std.proofs.lemmas.List.{length-set}
 use Rattle.std.proofs.lemmas.Result.{IfOk-weaker}
@@ -10,7 +10,11 @@ use Rattle.typst_node.specs.View.{tree_of}
 use Rattle.typst_node.specs.PlainEdit.{edited_at}
 use Rattle.typst_node.specs.Paths.{no_tree}
 use Rattle.typst_node.specs.EditBelow.{IsEdit}
-use Rattle.typst_node.proofs.Trees.{length_of_ends}
+use Rattle.std.specs.Prelude.{slice_range}
+use Rattle.typst_node.specs.Count.{count}
+use Rattle.typst_node.specs.Sums.{AreSums}
+use Rattle.typst_node.proofs.Trees.{count_at}
+use Rattle.typst_node.proofs.Settled.{set_splice, slice_one, put_stale}
 use Rattle.typst_node.proofs.Edited.{inner_kids, inner_label}
 use Rattle.typst_node.proofs.PathsIn.{edit_below, edit_sums}
 use Rattle.typst_node.proofs.PathsAt.{frame_nil, inner_nil, at_nil, frame_cons, at_cons, fits_after}
@@ -34,12 +38,41 @@ SyntaxNode::replace_below-returns-clause-at t c =
       numbered = IfOk-weaker r _ _ (λ x h. h inner) e.numbered;
     }
 
-pub InnerNode::replace_in-measure-requires-clause-room : goal.InnerNode::replace_in-measure-requires-clause-room
-InnerNode::replace_in-measure-requires-clause-room t c =
-    omega (arith, length-set c.args.self.now.children.items c.args.index c.replace_below-result.new.self, length_of_ends 0 c.args.self.now.children.items, ap length c.requires.measured.ends)
+pub InnerNode::replace_in-sums_of_one-gone-requires : goal.InnerNode::replace_in-sums_of_one-gone-requires
+InnerNode::replace_in-sums_of_one-gone-requires t c =
+    let same : count c.index.result.now ≡ count (get_or c.args.self.now.children.items c.args.index c.index.result.now) = ap count c.index.ensures in
+    omega (arith, count_at c.args.self.now.children.items c.args.index c.index.result.now c.requires.index, same, c.requires.measured.descendants)
 
-pub InnerNode::replace_in-measure-requires-clause-fits : goal.InnerNode::replace_in-measure-requires-clause-fits
-InnerNode::replace_in-measure-requires-clause-fits t c =
+pub InnerNode::replace_in-sums_of_one-added-requires : goal.InnerNode::replace_in-sums_of_one-added-requires
+InnerNode::replace_in-sums_of_one-added-requires t c =
+    let items = c.args.self.now.children.items in
+    let old : c.index_mut.result.now ≡ get_or items c.args.index no_tree = grind (arith, common_steps) in
+    let fits : SumsFit items = (omega (arith, c.requires.measured.len), omega (arith, c.requires.measured.descendants)) in
+    let sums : SumsFit (set items c.args.index c.replace_below-result.new.self) =
+    fits_after c.args.path.now c.args.range.start c.args.range.end c.args.replacement.items items c.args.index c.index_mut.result.now c.replace_below-result.new.self c.replace_below-result.result old fits
+    c.replace_below-result.ensures.err c.replace_below-result.ensures.frame c.replace_below-result.ensures.at c.requires.sums in
+    let news = set items c.args.index c.replace_below-result.new.self in
+    let same : count c.index-2.result.now ≡ count (get_or news c.args.index c.index-2.result.now) = ap count c.index-2.ensures in
+    omega (arith, count_at news c.args.index c.index-2.result.now (omega (arith, length-set items c.args.index c.replace_below-result.new.self, c.requires.index)), same, sums.1)
+
+pub InnerNode::replace_in-settle-requires-clause-stale : goal.InnerNode::replace_in-settle-requires-clause-stale
+InnerNode::replace_in-settle-requires-clause-stale t c =
+    let items = c.args.self.now.children.items in
+    let i = c.args.index in
+    let child = c.replace_below-result.new.self in
+    let one : c.index.result.now ∷ [] ≡ slice_range items i (i + 1) = ap (λ x. x ∷ []) c.index.ensures ∙ slice_one items i c.index.result.now c.requires.index in
+    put_stale c.args.self.now _ (child ∷ []) i (i + 1) c.sums_of_one-gone.result (omega arith) (omega (arith, c.requires.index)) c.requires.measured
+    (subst (λ (ts : List Tree). AreSums c.sums_of_one-gone.result ts) one c.sums_of_one-gone.ensures) (set_splice items i child c.requires.index) refl refl refl refl (omega arith) refl refl
+
+pub InnerNode::replace_in-settle-requires-clause-added : goal.InnerNode::replace_in-settle-requires-clause-added
+InnerNode::replace_in-settle-requires-clause-added t c =
+    let news = set c.args.self.now.children.items c.args.index c.replace_below-result.new.self in
+    let many : c.args.index < length news = omega (arith, length-set c.args.self.now.children.items c.args.index c.replace_below-result.new.self, c.requires.index) in
+    let one : c.index-2.result.now ∷ [] ≡ slice_range news c.args.index (c.args.index + 1) = ap (λ x. x ∷ []) c.index-2.ensures ∙ slice_one news c.args.index c.index-2.result.now many in
+    subst (λ (ts : List Tree). AreSums c.sums_of_one-added.result ts) one c.sums_of_one-added.ensures
+
+pub InnerNode::replace_in-settle-requires-clause-fits : goal.InnerNode::replace_in-settle-requires-clause-fits
+InnerNode::replace_in-settle-requires-clause-fits t c =
     let items = c.args.self.now.children.items in
     let old : c.index_mut.result.now ≡ get_or items c.args.index no_tree = grind (arith, common_steps) in
     let fits : SumsFit items = (omega (arith, c.requires.measured.len), omega (arith, c.requires.measured.descendants)) in

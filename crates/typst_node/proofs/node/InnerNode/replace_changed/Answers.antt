@@ -20,7 +20,7 @@ renumber-requires-clause-low c =
     let s = site_at (c.args.number + 1) c.args.self.now.upper c.args.from c.args.to ys xs in
     let within = if_some c.args.id c.in-Some-id.id (λ file. IsWithin file (c.args.number + 1) c.args.self.now.upper (forest xs)) c.in-Some-id.is c.requires.within in
     let h = old_within c.in-Some-id.id c.args.number c.args.self.now.upper c.args.from c.args.to xs ys c.requires.window within in
-    omega (arith, site_above c.in-Some-id.id s (slice_range xs c.args.from c.args.to) c.in-Some-window.found.width h, found.3)
+    omega (arith, site_above c.in-Some-id.id s (slice_range xs c.args.from c.args.to) c.in-Some-window.found.width h, found.numbering.start)
 
 pub renumber-requires-clause-high : goal.renumber-requires-clause-high
 renumber-requires-clause-high c =
@@ -34,9 +34,9 @@ renumber-requires-clause-high c =
     let ordered = site_ordered c.in-Some-id.id s (slice_range xs c.args.from c.args.to) w h in
     let below = site_below c.in-Some-id.id s (slice_range xs c.args.from c.args.to) w h in
     let upper : c.args.self.now.upper ≤ 2 ^ 47 = if_some c.args.id c.in-Some-id.id (λ file. c.args.self.now.upper ≤ 2 ^ 47) c.in-Some-id.is c.requires.upper in
-    let window = put_window c.in-Some-id.id c.args.number c.args.self.now.upper c.args.from c.args.to w c.saturating_sub-start.result (c.args.from + c.len.result + c.min.result) c.in-Some-window.found.start c.in-Some-window.found.stride xs ys
+    let window = put_window c.in-Some-id.id c.args.number c.args.self.now.upper c.args.from c.args.to w c.saturating_sub-start.result (c.args.from + c.len.result + c.min.result) c.in-Some-window.found.numbering.start c.in-Some-window.found.numbering.stride xs ys
     c.put.new.self.children.items c.put.new.self.children.items c.requires.window c.requires.inside c.saturating_sub-start.ensures (omega arith) c.in_ok-put.ensures.ok in
-    rw window (omega (arith, found.3, found.5))
+    rw window (omega (arith, found.numbering.start, found.numbering.fits))
 
 pub returns-clause-ok : goal.returns-clause-ok
 returns-clause-ok c =
@@ -46,25 +46,25 @@ returns-clause-ok c =
     let s = site_at (c.args.number + 1) c.args.self.now.upper c.args.from c.args.to ys xs in
     let f = c.in-Some-window.found in
     let w = f.width in
-    let e : w ≡ reach (f.tried - 1) = found.2 in
+    let e : w ≡ reach (f.tried - 1) = found.width in
     let start = c.saturating_sub-start.result in
     let stop = c.args.from + c.len.result + c.min.result in
     let stops : stop ≡ c.args.from + length ys + min w (length xs - c.args.to) = omega arith in
     let new = c.renumber.new.self.children.items in
     record {
-      tried = found.1;
-      first = found.0;
+      tried = found.tried;
+      first = found.first;
       start = coe 0 1 (i. start ≡ window_start s (e i)) (omega (arith, length-take c.args.from xs));
       end = coe 0 1 (i. stop ≡ window_end s (e i)) (omega (arith, length-take c.args.from xs, length-drop c.args.to xs));
       before = coe 0 1 (i. take start new ≡ trees_before s (e i))
-          (new_before c.in-Some-id.id c.args.number c.args.self.now.upper c.args.from c.args.to w start stop f.start f.stride xs ys c.put.new.self.children.items new c.requires.window c.requires.inside c.saturating_sub-start.ensures stops c.in_ok-put.ensures.ok
+          (new_before c.in-Some-id.id c.args.number c.args.self.now.upper c.args.from c.args.to w start stop f.numbering.start f.numbering.stride xs ys c.put.new.self.children.items new c.requires.window c.requires.inside c.saturating_sub-start.ensures stops c.in_ok-put.ensures.ok
           c.renumber.ensures.before c.renumber.ensures.behind);
       behind = coe 0 1 (i. drop stop new ≡ trees_behind s (e i))
-          (new_behind c.in-Some-id.id c.args.number c.args.self.now.upper c.args.from c.args.to w start stop f.start f.stride xs ys c.put.new.self.children.items new c.requires.window c.requires.inside c.saturating_sub-start.ensures stops c.in_ok-put.ensures.ok
+          (new_behind c.in-Some-id.id c.args.number c.args.self.now.upper c.args.from c.args.to w start stop f.numbering.start f.numbering.stride xs ys c.put.new.self.children.items new c.requires.window c.requires.inside c.saturating_sub-start.ensures stops c.in_ok-put.ensures.ok
           c.renumber.ensures.before c.renumber.ensures.behind);
       half = coe 0 1 (i. 2 * count_of_all (trees_in s (e i)) ≤ open_count s (e i) → AreIn (open_start s (e i)) (open_start s (e i) + open_count s (e i) / 2) (slice_range new start stop))
-          (λ room. new_half c.in-Some-id.id c.args.number c.args.self.now.upper c.args.from c.args.to w start stop f.start f.stride xs ys c.put.new.self.children.items new c.requires.window c.requires.inside c.saturating_sub-start.ensures stops c.in_ok-put.ensures.ok
-          c.renumber.ensures.before c.renumber.ensures.behind found.3 c.renumber.ensures.within (found.6 room));
+          (λ room. new_half c.in-Some-id.id c.args.number c.args.self.now.upper c.args.from c.args.to w start stop f.numbering.start f.numbering.stride xs ys c.put.new.self.children.items new c.requires.window c.requires.inside c.saturating_sub-start.ensures stops c.in_ok-put.ensures.ok
+          c.renumber.ensures.before c.renumber.ensures.behind found.numbering.start c.renumber.ensures.within (found.numbering.half room));
     }
 
 pub returns-clause-within : goal.returns-clause-within
@@ -78,5 +78,5 @@ returns-clause-within c =
     let stops : stop ≡ c.args.from + length ys + min f.width (length xs - c.args.to) = omega arith in
     let within = if_some c.args.id c.in-Some-id.id (λ file. IsWithin file (c.args.number + 1) c.args.self.now.upper (forest xs)) c.in-Some-id.is c.requires.within in
     subst (λ (p : Option ℕ). MatchOption p ⊥ (λ file. IsWithin file (c.args.number + 1) c.args.self.now.upper (forest c.renumber.new.self.children.items))) (sym c.in-Some-id.is)
-    (new_within c.in-Some-id.id c.args.number c.args.self.now.upper c.args.from c.args.to f.width start stop f.start f.stride xs ys c.put.new.self.children.items c.renumber.new.self.children.items c.requires.window c.requires.inside c.saturating_sub-start.ensures stops c.in_ok-put.ensures.ok
-    c.renumber.ensures.before c.renumber.ensures.behind found.3 c.renumber.ensures.within within found.5)
+    (new_within c.in-Some-id.id c.args.number c.args.self.now.upper c.args.from c.args.to f.width start stop f.numbering.start f.numbering.stride xs ys c.put.new.self.children.items c.renumber.new.self.children.items c.requires.window c.requires.inside c.saturating_sub-start.ensures stops c.in_ok-put.ensures.ok
+    c.renumber.ensures.before c.renumber.ensures.behind found.numbering.start c.renumber.ensures.within within found.numbering.fits)
