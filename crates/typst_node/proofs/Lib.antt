@@ -13,3 +13,5 @@ pub mod PathsAt
 pub mod PathsWhole
 pub mod Outside
 pub mod Settled
+pub mod Paths
+pub mod Offsets

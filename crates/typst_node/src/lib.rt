@@ -22,3 +22,5 @@ pub use node::replace::{Renumbered, ReplaceError};
 pub mod diagnosis;
 mod exchange;
 pub mod node;
+#[cfg(test)]
+mod tests;
