@@ -1,6 +1,6 @@
 -- Inner nodes seen as trees.
 use Rattle.std.proofs.Common.{◌≡◌, ℕ, ◌+◌, ◌<◌, ◌≤◌, ◌^◌, ◌⊎◌, inl, inr, List, map, refl, sym, ap, subst, ◌∙◌, arith, Box, Global, Option, Some, None}
-use Rattle.std.specs.Prelude.{SomeIff, IfSome, MatchOption}
+use Rattle.std.specs.Prelude.{SomeIff, IfSome, MatchOption, Result, Ok, Err, IfOk, OnOk}
 use Rattle.typst_node.specs.Tree.{AsInner, Forest, Tree, trees, forest, IsInner}
 use Rattle.typst_node.specs.Labels.{number, bound, bound_of}
 use Rattle.typst_node.specs.Plain.{plain, plain_label, plain_forest}
@@ -14,7 +14,7 @@ use Rattle.std.specs.Box.{with_value}
 use Rattle.std.specs.List.{splice}
 use Rattle.typst_node.specs.PlainEdit.{edited}
 use Rattle.typst_node.proofs.Plain.{forest_plain}
-use Rattle.typst_node.proofs.Trees.{trees_of_forest}
+use Rattle.typst_node.proofs.Trees.{trees_of_forest, forest-trees}
 use Rattle.typst_node.proofs.Ordered.{within_from_numbered, numbered_from_within}
 
 module _ (a : Inside) (b : Box InnerNode Global) (t : Tree) (is : a.node ≡ Inner b) (view : tree_of a ≡ t) where
@@ -97,3 +97,16 @@ file_none (Some x) f some e = absurd (omega (arith, some.0))
 pub or_left : (P Q R : Type 0) → (P → Q) → P ⊎ R → Q ⊎ R
 or_left P Q R f (inl p) = inl (f p)
 or_left P Q R f (inr r) = inr r
+
+pub or_right : {P Q R : Type 0} → P ⊎ Q → (Q → R) → P ⊎ R
+or_right (inl p) f = inl p
+or_right (inr q) f = inr (f q)
+
+-- what follows from two facts of an Ok
+pub IfOk_both : {T E : Type 0} (r : Result T E) {P Q : T → Type 0} {O : Type 0} → IfOk r P → OnOk r O → ((x : T) → P x → O → Q x) → IfOk r Q
+IfOk_both (Ok x) h o f = f x h o
+IfOk_both (Err e) h o f = tt
+
+-- a tree is an older one with other children, where their labels are the same
+pub whole_frame : (t u : Tree) → u.label ≡ t.label → u ≡ record { label = t.label; children = forest (trees u.children) }
+whole_frame t u e = λ i. record { label = e i; children = sym (forest-trees u.children) i }

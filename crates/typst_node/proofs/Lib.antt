@@ -15,3 +15,4 @@ pub mod Outside
 pub mod Settled
 pub mod Paths
 pub mod Offsets
+pub mod Firsts

@@ -78,11 +78,11 @@ pub gained : (s : Site) (w next a b c d n m : ℕ) → w ≤ next → a ≡ leng
     → n ≡ count_of_all (slice_range s.before a b) → m ≡ count_of_all (slice_range s.behind c d) → count_of_all (trees_in s w) + (n + m) ≡ count_of_all (trees_in s next)
 gained s w next a b c d n m wider a_is b_is c_is d_is n_is m_is =
     let ahead : count_of_all (drop a s.before) ≡ n + count_of_all (drop b s.before) =
-        ap count_of_all (drop_split s.before a b (omega arith)) ∙ (count_append (slice_range s.before a b) (drop b s.before) ∙ ap (λ k. k + count_of_all (drop b s.before)) (sym n_is)) in
+    ap count_of_all (drop_split s.before a b (omega arith)) ∙ (count_append (slice_range s.before a b) (drop b s.before) ∙ ap (λ k. k + count_of_all (drop b s.before)) (sym n_is)) in
     let many : c + (d - c) ≡ d = omega arith in
     let back : count_of_all (take d s.behind) ≡ count_of_all (take c s.behind) + m =
-        ap (λ k. count_of_all (take k s.behind)) (sym many) ∙ (ap count_of_all (take-add c (d - c) s.behind)
-        ∙ (count_append (take c s.behind) (slice_range s.behind c d) ∙ ap (λ k. count_of_all (take c s.behind) + k) (sym m_is))) in
+    ap (λ k. count_of_all (take k s.behind)) (sym many) ∙ (ap count_of_all (take-add c (d - c) s.behind)
+    ∙ (count_append (take c s.behind) (slice_range s.behind c d) ∙ ap (λ k. count_of_all (take c s.behind) + k) (sym m_is))) in
     let a_same : count_of_all (drop a s.before) ≡ count_of_all (drop (length s.before - next) s.before) = ap (λ k. count_of_all (drop k s.before)) a_is in
     let b_same : count_of_all (drop b s.before) ≡ count_of_all (drop (length s.before - w) s.before) = ap (λ k. count_of_all (drop k s.before)) b_is in
     let c_same : count_of_all (take c s.behind) ≡ count_of_all (take w s.behind) = ap (λ k. count_of_all (take k s.behind)) c_is ∙ ap count_of_all (take_min w s.behind) in

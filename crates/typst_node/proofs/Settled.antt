@@ -5,7 +5,7 @@ use Rattle.std.proofs.Math.Seq.{take-add}
 use Rattle.std.proofs.lemmas.List.Folds.{list_any-append, drop_split}
 use Rattle.std.specs.Prelude.{slice_range}
 use Rattle.std.specs.List.{list_any, AllByRecursion, splice}
-use Rattle.typst_node.specs.Tree.{Label, Tree, Forest, none, tree, forest}
+use Rattle.typst_node.specs.Tree.{Label, Tree, forest}
 use Rattle.typst_node.specs.Preorder.{preorder}
 use Rattle.typst_node.specs.Text.{text, text_of_all}
 use Rattle.typst_node.specs.View.{ends_from}

@@ -1,5 +1,5 @@
 -- Common beginnings and endings, and what is left without them.
-use Rattle.std.proofs.Common.{◌≡◌, ℕ, suc, ◌+◌, ◌-◌, ◌<◌, ◌≤◌, Bool, true, false, List, [], ◌∷◌, ◌++◌, length, min, map, take, drop, get_or, reverse, refl, sym, ap, ◌∙◌, arith, add-one, drop-cons, append_assoc, length-take, length-drop}
+use Rattle.std.proofs.Common.{◌≡◌, ℕ, suc, zero, ◌+◌, ◌-◌, ◌<◌, ◌≤◌, Bool, true, false, List, [], ◌∷◌, ◌++◌, length, min, map, take, drop, get_or, reverse, refl, sym, ap, ◌∙◌, arith, add-one, drop-cons, append_assoc, length-take, length-drop}
 use Rattle.std.proofs.lemmas.List.{length-reverse, drop-take, take-take, drop-drop, reverse-reverse, take-append-drop, map-append, reverse-append, take_at}
 use Rattle.std.proofs.lemmas.List.Folds.{drop_split}
 use Rattle.std.specs.Prelude.{slice_range}
@@ -43,6 +43,15 @@ first_alike (t ∷ ts) (u ∷ us) = first_alike_at t u ts us (tree_eq (plain t) 
 -- a step along the common beginning
 pub first_more : (t u : Tree) (ts us : List Tree) → plain t ≡ plain u → common_first (t ∷ ts) (u ∷ us) ≡ suc (common_first ts us)
 first_more t u ts us e = ap (λ b. one_more_if b (common_first ts us)) (tree_eq_same (plain t) (plain u) e)
+
+-- no longer beginning is common
+pub first_longest : (ts us : List Tree) (n : ℕ) → n ≤ length ts → n ≤ length us → map plain (take n ts) ≡ map plain (take n us) → n ≤ common_first ts us
+first_longest ts us zero h k e = omega arith
+first_longest [] us (suc n) h k e = absurd (omega arith)
+first_longest (t ∷ ts) [] (suc n) h k e = absurd (omega arith)
+first_longest (t ∷ ts) (u ∷ us) (suc n) h k e =
+    let first : plain t ≡ plain u = cc in
+    omega (arith, first_longest ts us n (omega arith) (omega arith) (cc), first_more t u ts us first)
 
 pub first_ends : (t u : Tree) (ts us : List Tree) → ¬ (plain t ≡ plain u) → common_first (t ∷ ts) (u ∷ us) ≡ 0
 first_ends t u ts us n = ap (λ b. one_more_if b (common_first ts us)) (not_true (tree_eq (plain t) (plain u)) (λ e. n (tree_same (plain t) (plain u) e)))

@@ -1,7 +1,7 @@
 -- The first window with room.
-use Rattle.std.specs.Prelude.{ℕ, ◌<◌, ◌≤◌, length}
+use Rattle.std.specs.Prelude.{ℕ, ◌+◌, ◌-◌, ◌^◌, ◌<◌, ◌≤◌, length, max}
 use Rattle.typst_node.specs.Window.{Site, reach}
-use Rattle.typst_node.specs.Room.{HasRoom}
+use Rattle.typst_node.specs.Room.{HasRoom, new_count}
 
 -- the window with at most w neighbours on each side holds all children
 abbrev pub HoldsAll : Site → ℕ → Type 0
@@ -16,3 +16,11 @@ pub record IsFirst (s : Site) (k : ℕ) : Type 0 where
 -- there is no first window
 abbrev pub HasNoFirst : Site → Type 0
 HasNoFirst s = (k : ℕ) → ¬ (IsFirst s k)
+
+-- At most 2 and the binary digits of the larger number of neighbours were tried: of any number of digits that holds it.
+abbrev pub IsFoundSoon : Site → ℕ → Type 0
+IsFoundSoon s tried = (digits : ℕ) → max (length s.before) (length s.behind) < 2 ^ digits → tried ≤ 2 + digits
+
+-- the open numbers of the whole parent, behind its own and below its bound, are fewer than its new nodes, and those are more than itself
+abbrev pub IsCrowded : Site → Type 0
+IsCrowded s = (s.end - s.first < new_count s) × (1 < new_count s)

@@ -25,3 +25,4 @@ pub mod EditBelow
 pub mod Sites
 pub mod Stale
 pub mod Change
+pub mod Outside

@@ -1,5 +1,5 @@
 -- Paths that lead to a node, the subtree there, and the tree with other children there.
-use Rattle.std.specs.Prelude.{ℕ, ◌≡◌, ◌<◌, List, [], ◌∷◌, length, set, get_or}
+use Rattle.std.specs.Prelude.{ℕ, ◌<◌, List, [], ◌∷◌, length, set, get_or}
 use Rattle.typst_base.specs.Span.{detached}
 use Rattle.typst_base.specs.declared.kind.SyntaxKind.TheVariants as kinds
 use Rattle.typst_node.specs.Tree.{Tree, AsInner, none, forest, trees}
@@ -25,10 +25,3 @@ with_children (i ∷ path) kids t = record {
   label = t.label;
   children = forest (set (trees t.children) i (with_children path kids (get_or (trees t.children) i no_tree)));
 }
-
--- a path leads below the node of another one
-abbrev pub IsBelow : List ℕ → List ℕ → Type 0
-IsBelow [] [] = ⊥
-IsBelow [] (j ∷ q) = Unit {0}
-IsBelow (i ∷ p) [] = ⊥
-IsBelow (i ∷ p) (j ∷ q) = (i ≡ j) × IsBelow p q

@@ -15,11 +15,11 @@ pub mod copy;
 mod inner;
 pub mod number;
 mod renumber;
-mod settle;
 pub mod replace;
 pub mod replace_at;
 #[cfg(test)]
 mod replace_tests;
+mod settle;
 pub mod spanless;
 mod trim;
 mod window;

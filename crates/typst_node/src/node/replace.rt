@@ -1,5 +1,5 @@
 // Replacements of children.
-ghost use Rattle.std.specs.Prelude.{◌≡◌, ◌+◌, ◌-◌, ◌^◌, ◌<◌, ◌≤◌, ◌⊎◌, ◌↔◌, suc, map, length, slice_range, vec_capacity, None, IfSome, Ok, IsOk, IfOk, OnOk, OnErr, IsErrOf, MatchOption};
+ghost use Rattle.std.specs.Prelude.{[], ◌≡◌, ◌+◌, ◌-◌, ◌^◌, ◌<◌, ◌≤◌, ◌⊎◌, ◌↔◌, suc, map, length, slice_range, vec_capacity, None, IfSome, Ok, IsOk, IfOk, OnOk, OnErr, IsErrOf, MatchOption};
 ghost use Rattle.std.specs.List.{splice};
 ghost use Rattle.typst_node.specs.Tree.{forest, trees, IsInner};
 ghost use Rattle.typst_node.specs.Count.{SumsFit, count_of_all};
@@ -10,7 +10,8 @@ ghost use Rattle.typst_node.specs.View.{IsMeasured};
 ghost use Rattle.typst_node.specs.Sums.{AreSums};
 ghost use Rattle.typst_node.specs.PlainEdit.{edited, RangeFits};
 ghost use Rattle.typst_node.specs.Window.{Site, site_at, site_among, site_of};
-ghost use Rattle.typst_node.specs.FirstWindow.{HasNoFirst};
+ghost use Rattle.typst_node.specs.FirstWindow.{HasNoFirst, IsFoundSoon, IsCrowded};
+ghost use Rattle.typst_node.specs.Outside.{KeepsOutside};
 ghost use Rattle.typst_node.specs.Renumbering.{IsRenumbering, no_window};
 ghost use Rattle.typst_node.specs.Sites.{IsFound};
 ghost use Rattle.typst_node.specs.Change.{IsChange};
@@ -88,8 +89,7 @@ impl InnerNode {
         if (len - gone.len).checked_add(added.len).is_none() {
             return None;
         }
-        let Some(total) =
-            (descendants - (gone.descendants - 1)).checked_add(added.descendants - 1)
+        let Some(total) = (descendants - (gone.descendants - 1)).checked_add(added.descendants - 1)
         else {
             return None;
         };
@@ -257,21 +257,26 @@ impl InnerNode {
 
 impl SyntaxNode {
     /// Replaces the children of a range. A leaf or an error stays as it is.
-    pub fn replace_children(
+    pub(super) fn replace_range(
         &mut self,
         range: Range<usize>,
         replacement: Vec<SyntaxNode>,
     ) -> Result<Renumbered, ReplaceError>
-        requires range { IsInner self.old.label.content → (range.start ≤ range.end) × (range.end ≤ length (trees self.old.children)) }
+        requires range { RangeFits range.start range.end self.old }
         requires numbered { (self.old.label.span.file ≡ 0) ⊎ IsNumbered self.old }
         ensures err { OnErr result (self.new ≡ self.old) }
-        ensures leaf { ¬ (IsInner self.old.label.content) → (self.new ≡ self.old) × (result ≡ Ok (record { window = record { start = 0; end = 0 }; tried = 0 })) }
-        ensures overflow { IsErrOf result Overflow ↔ (IsInner self.old.label.content × ¬ (SumsFit (splice (trees self.old.children) range.start range.end replacement.items))) }
-        ensures unnumberable { IsErrOf result Unnumberable ↔ (IsInner self.old.label.content × SumsFit (splice (trees self.old.children) range.start range.end replacement.items) × ((self.old.label.span.file ≡ 0) ⊎ HasNoFirst (site_of range.start range.end replacement.items self.old))) }
+        ensures leaf { ¬ (IsInner self.old.label.content) → (self.new ≡ self.old) × (result ≡ Ok no_window) }
+        ensures overflow { IsErrOf result Overflow ↔ (IsInner self.old.label.content
+            × ¬ (SumsFit (splice (trees self.old.children) range.start range.end replacement.items))) }
+        ensures unnumberable { IsErrOf result Unnumberable ↔ (IsInner self.old.label.content
+            × SumsFit (splice (trees self.old.children) range.start range.end replacement.items)
+            × ((self.old.label.span.file ≡ 0) ⊎ HasNoFirst (site_of range.start range.end replacement.items self.old))) }
         ensures memory { length replacement.items ≤ range.end - range.start → ¬ (IsErrOf result Memory) }
-        ensures ok { IfOk result (λ r. IsInner self.old.label.content → IsRenumbering (site_of range.start range.end replacement.items self.old) r (trees self.new.children)) }
+        ensures ok { IfOk result (λ r. IsInner self.old.label.content
+            → IsRenumbering (site_of range.start range.end replacement.items self.old) r (trees self.new.children)) }
         ensures label { self.new.label ≡ self.old.label }
-        ensures plain { OnOk result (IsInner self.old.label.content → plain self.new ≡ plain (edited range.start range.end replacement.items self.old)) }
+        ensures plain { OnOk result (IsInner self.old.label.content
+            → plain self.new ≡ plain (edited range.start range.end replacement.items self.old)) }
         ensures numbered { OnOk result (IsInner self.old.label.content → IsNumberedFor self.old.label.span.file self.new) }
     {
         let id = self.span.id();
@@ -288,5 +293,62 @@ impl SyntaxNode {
                 });
             }
         }
+    }
+}
+
+/// # Replacing children of the node itself
+impl SyntaxNode {
+    /// Replaces the children of a range, and numbers as few of their neighbours anew as there is room for.
+    ///
+    /// `range` is of child indices. Old children that the replacement has alike at its beginning or its end, by
+    /// [`SyntaxNode::spanless_eq`], stay with their numbers. The window begins as the rest of the replacement and
+    /// widens by 1, 2, 4, 8 and so on neighbours on each side, until its open numbers, between the children beside
+    /// it, are at least twice its nodes or at least all nodes of this one. Its nodes get new numbers of this node's
+    /// file. All others keep theirs.
+    ///
+    /// A leaf or an error stays as it is, and the answer is the window `0..0` and 0 tried.
+    ///
+    /// The test of the conditions is [`SyntaxNode::edit_fits`] with an empty path, and
+    /// [`SyntaxNode::is_numbered`]. After an error nothing has changed, and the replacement is dropped. Where more
+    /// than one could be given, it is `Overflow`, else `Unnumberable`, else `Memory`, which is only given where the
+    /// number of children grows.
+    ///
+    /// It takes time in proportion to the children of the range, to the replacement, and to the trees of the window.
+    /// Where the number of children changes, those behind the range are moved, and where their length changes their
+    /// ends are counted anew. The children are searched for errors or warnings where the range held some and the
+    /// replacement doesn't. Lists grow by their own allocator.
+    pub fn replace_children(
+        &mut self,
+        _alloc: Global,
+        range: Range<usize>,
+        replacement: Vec<SyntaxNode>,
+    ) -> Result<Renumbered, ReplaceError>
+        requires range { RangeFits range.start range.end self.old }
+        requires numbered { (self.old.label.span.file ≡ 0) ⊎ IsNumbered self.old }
+
+        // A leaf or an error, and each refusal, changes nothing.
+        ensures leaf { ¬ (IsInner self.old.label.content) → (self.new ≡ self.old) × (result ≡ Ok no_window) }
+        ensures err { OnErr result (self.new ≡ self.old) }
+        ensures overflow { IsErrOf result Overflow ↔ (IsInner self.old.label.content
+            × ¬ (SumsFit (splice (trees self.old.children) range.start range.end replacement.items))) }
+        ensures unnumberable { IsErrOf result Unnumberable ↔ (IsInner self.old.label.content
+            × SumsFit (splice (trees self.old.children) range.start range.end replacement.items)
+            × ((self.old.label.span.file ≡ 0) ⊎ HasNoFirst (site_of range.start range.end replacement.items self.old))) }
+        ensures crowded { IsErrOf result Unnumberable
+            → (self.old.label.span.file ≡ 0) ⊎ IsCrowded (site_of range.start range.end replacement.items self.old) }
+        ensures memory { length replacement.items ≤ range.end - range.start → ¬ (IsErrOf result Memory) }
+
+        // What an accepted replacement makes.
+        ensures plain { OnOk result (IsInner self.old.label.content
+            → plain self.new ≡ plain (edited range.start range.end replacement.items self.old)) }
+        ensures numbered { OnOk result (IsInner self.old.label.content → IsNumberedFor self.old.label.span.file self.new) }
+        ensures window { IfOk result (λ r. IsInner self.old.label.content
+            → IsRenumbering (site_of range.start range.end replacement.items self.old) r (trees self.new.children)) }
+        ensures tried { IfOk result (λ r. IsInner self.old.label.content
+            → IsFoundSoon (site_of range.start range.end replacement.items self.old) r.tried) }
+        ensures outside { IfOk result (λ r. IsInner self.old.label.content → KeepsOutside [] r self.old self.new) }
+        ensures label { self.new.label ≡ self.old.label }
+    {
+        self.replace_range(range, replacement)
     }
 }

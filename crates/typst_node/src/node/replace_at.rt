@@ -1,27 +1,28 @@
-// Replacements at a path.
-ghost use Rattle.std.specs.Prelude.{suc, [], ◌∷◌, ◌≡◌, ◌+◌, ◌-◌, ◌^◌, ◌<◌, ◌≤◌, ◌⊎◌, ◌↔◌, length, set, get_or, map, Ok, OnErr, OnOk, IfOk, IsTrue, IsErrOf};
-ghost use Rattle.typst_node.specs.Window.{site_of};
-ghost use Rattle.typst_node.specs.FirstWindow.{HasNoFirst};
-ghost use Rattle.typst_node.specs.Renumbering.{IsRenumbering};
-ghost use Rattle.typst_node.specs.declared.node.replace.ReplaceError.TheVariants.{Unnumberable, Overflow, Memory};
+// Replacements at any depth.
+ghost use Rattle.std.specs.Prelude.{[], ◌∷◌, ◌≡◌, ◌+◌, ◌-◌, ◌^◌, ◌<◌, ◌≤◌, ◌⊎◌, ◌↔◌, suc, length, set, get_or, Ok, OnErr, OnOk, IfOk, IsTrue, IsErrOf};
 ghost use Rattle.typst_node.specs.Tree.{IsInner, trees};
-ghost use Rattle.typst_node.specs.Count.{SumsFit};
+ghost use Rattle.typst_node.specs.Count.{SumsFit, count};
 ghost use Rattle.typst_node.specs.Plain.{plain};
 ghost use Rattle.typst_node.specs.Numbered.{IsNumbered, IsNumberedFor};
 ghost use Rattle.typst_node.specs.View.{IsMeasured};
-ghost use Rattle.typst_node.specs.Paths.{IsPath, tree_at, with_children, no_tree};
-ghost use Rattle.typst_node.specs.PlainEdit.{edited_at, TreeFits};
-ghost use Rattle.typst_node.specs.EditBelow.{IsEdit, IsReplacement};
-
 ghost use Rattle.typst_node.specs.Sums.{AreSums};
-ghost use Rattle.typst_node.specs.Count.{count};
+ghost use Rattle.typst_node.specs.Paths.{IsPath, tree_at, with_children, no_tree};
+ghost use Rattle.typst_node.specs.PlainEdit.{edited_at, EditFits, TreeFits};
+ghost use Rattle.typst_node.specs.Window.{site_of};
+ghost use Rattle.typst_node.specs.FirstWindow.{HasNoFirst, IsFoundSoon, IsCrowded};
+ghost use Rattle.typst_node.specs.Renumbering.{IsRenumbering, no_window};
+ghost use Rattle.typst_node.specs.Outside.{KeepsOutside};
+ghost use Rattle.typst_node.specs.EditBelow.{IsEdit, IsReplacement};
+ghost use Rattle.typst_node.specs.declared.node.replace.ReplaceError.TheVariants.{Unnumberable, Overflow, Memory};
+
 use crate::node::inner::{Sums, sums_of};
 use crate::node::replace::{Renumbered, ReplaceError};
 use crate::node::{InnerNode, Node, SyntaxNode};
+use std::alloc::Global;
 use std::ops::Range;
 
 impl SyntaxNode {
-    // The node that a path leads to.
+    /// The node that a path of child indices leads to.
     fn node_at(&self, path: &[usize]) -> &SyntaxNode
         requires { IsPath path.now self.now }
         ensures { result.now ≡ tree_at path.now self.now }
@@ -32,20 +33,7 @@ impl SyntaxNode {
         }
     }
 
-    /// Whether a path leads to a node, and the range lies within its children where it is inner.
-    pub fn edit_fits(&self, path: &[usize], range: Range<usize>) -> bool
-        ensures { IsTrue result ↔ (IsPath path.now self.now × (IsInner (tree_at path.now self.now).label.content → (range.start ≤ range.end) × (range.end ≤ length (trees (tree_at path.now self.now).children)))) }
-    {
-        match path.split_first() {
-            None => {
-                !self.is_inner() || range.start <= range.end && range.end <= self.children().len()
-            }
-            Some((index, rest)) => {
-                *index < self.children().len() && self.children()[*index].edit_fits(rest, range)
-            }
-        }
-    }
-
+    /// Replaces the children of a range of the inner node that a path leads to, where the sums of this one fit then.
     #[cycle(at)]
     fn replace_below(
         &mut self,
@@ -59,7 +47,7 @@ impl SyntaxNode {
         ensures at { IsReplacement range.start range.end replacement.items (tree_at path.now self.old) (tree_at path.now self.new) result }
     {
         match path.split_first() {
-            None => self.replace_children(range, replacement),
+            None => self.replace_range(range, replacement),
             Some((index, rest)) => match &mut self.node {
                 Node::Inner(inner) => {
                     let result = inner.replace_in(*index, rest, range, replacement);
@@ -72,6 +60,7 @@ impl SyntaxNode {
 }
 
 impl InnerNode {
+    /// Replaces children of a node below one child, and corrects what is kept of it.
     #[cycle(at)]
     fn replace_in(
         &mut self,
@@ -113,7 +102,7 @@ fn sums_of_one(child: &SyntaxNode) -> Sums
 }
 
 impl SyntaxNode {
-    // Whether the sums fit after an edit at a path.
+    /// Whether the length and the node count of this node fit a usize after an edit at a path.
     #[tactic(auto, using(crate::proofs::PathsWhole::count_edited, crate::proofs::PathsWhole::text_edited, crate::proofs::Opens::part_count, crate::proofs::Opens::part_text, crate::proofs::PathsWhole::count_below, crate::proofs::PathsWhole::text_below))]
     fn sums_fit(&self, path: &[usize], range: Range<usize>, others: &[SyntaxNode]) -> bool
         requires path { IsPath path.now self.now }
@@ -136,26 +125,74 @@ impl SyntaxNode {
             .checked_add(added.descendants - 1)
             .is_some()
     }
+}
 
-    /// Replaces the children of a range of the node that a path leads to. A leaf or an error stays as it is.
+/// # Replacing children at any depth
+impl SyntaxNode {
+    /// Whether a path of child indices leads to a node, and the range of child indices lies within its children, if
+    /// it is an inner node: the condition of [`SyntaxNode::replace_at`]. It takes time in proportion to the path.
+    pub fn edit_fits(&self, path: &[usize], range: Range<usize>) -> bool
+        ensures { IsTrue result ↔ EditFits path.now range.start range.end self.now }
+    {
+        match path.split_first() {
+            None => {
+                !self.is_inner() || range.start <= range.end && range.end <= self.children().len()
+            }
+            Some((index, rest)) => {
+                *index < self.children().len() && self.children()[*index].edit_fits(rest, range)
+            }
+        }
+    }
+
+    /// Replaces the children of a range of the node that a path of child indices leads to, as
+    /// [`SyntaxNode::replace_children`] does of that node, with the window among its children. All lengths, node
+    /// counts, diagnoses and child ends on the way are corrected. The other nodes keep their numbers.
+    ///
+    /// The tests of the conditions are [`SyntaxNode::edit_fits`] and [`SyntaxNode::is_numbered`]. `Overflow` is given
+    /// exactly where the length or the node count of the node that is called, the whole tree's, would pass a usize.
+    /// After an error nothing has changed, and the replacement is dropped.
+    ///
+    /// It takes as long as the replacement at the node itself, and at each node above it as long as the children
+    /// behind the path are many where the length changes, and as its children are many where an error or a warning
+    /// may have gone. Lists grow by their own allocator.
     pub fn replace_at(
         &mut self,
+        _alloc: Global,
         path: &[usize],
         range: Range<usize>,
         replacement: Vec<SyntaxNode>,
     ) -> Result<Renumbered, ReplaceError>
-        requires path { IsPath path.now self.old }
-        requires range { IsInner (tree_at path.now self.old).label.content → (range.start ≤ range.end) × (range.end ≤ length (trees (tree_at path.now self.old).children)) }
+        requires fits { EditFits path.now range.start range.end self.old }
         requires numbered { ((tree_at path.now self.old).label.span.file ≡ 0) ⊎ IsNumbered self.old }
+
+        // A leaf or an error, and each refusal, changes nothing.
+        ensures leaf { ¬ (IsInner (tree_at path.now self.old).label.content)
+            → (self.new ≡ self.old) × (result ≡ Ok no_window) }
         ensures err { OnErr result (self.new ≡ self.old) }
-        ensures leaf { ¬ (IsInner (tree_at path.now self.old).label.content) → (self.new ≡ self.old) × (result ≡ Ok (record { window = record { start = 0; end = 0 }; tried = 0 })) }
-        ensures overflow { IsErrOf result Overflow ↔ (IsInner (tree_at path.now self.old).label.content × ¬ (TreeFits (edited_at path.now range.start range.end replacement.items self.old))) }
-        ensures unnumberable { IsErrOf result Unnumberable ↔ (IsInner (tree_at path.now self.old).label.content × TreeFits (edited_at path.now range.start range.end replacement.items self.old) × (((tree_at path.now self.old).label.span.file ≡ 0) ⊎ HasNoFirst (site_of range.start range.end replacement.items (tree_at path.now self.old)))) }
+        ensures overflow { IsErrOf result Overflow ↔ (IsInner (tree_at path.now self.old).label.content
+            × ¬ (TreeFits (edited_at path.now range.start range.end replacement.items self.old))) }
+        ensures unnumberable { IsErrOf result Unnumberable ↔ (IsInner (tree_at path.now self.old).label.content
+            × TreeFits (edited_at path.now range.start range.end replacement.items self.old)
+            × (((tree_at path.now self.old).label.span.file ≡ 0)
+            ⊎ HasNoFirst (site_of range.start range.end replacement.items (tree_at path.now self.old)))) }
+        ensures crowded { IsErrOf result Unnumberable → ((tree_at path.now self.old).label.span.file ≡ 0)
+            ⊎ IsCrowded (site_of range.start range.end replacement.items (tree_at path.now self.old)) }
         ensures memory { length replacement.items ≤ range.end - range.start → ¬ (IsErrOf result Memory) }
-        ensures ok { IfOk result (λ r. IsInner (tree_at path.now self.old).label.content → IsRenumbering (site_of range.start range.end replacement.items (tree_at path.now self.old)) r (trees (tree_at path.now self.new).children)) }
-        ensures frame { OnOk result (IsInner (tree_at path.now self.old).label.content → self.new ≡ with_children path.now (trees (tree_at path.now self.new).children) self.old) }
-        ensures plain { OnOk result (IsInner (tree_at path.now self.old).label.content → plain self.new ≡ plain (edited_at path.now range.start range.end replacement.items self.old)) }
-        ensures numbered { OnOk result (IsInner (tree_at path.now self.old).label.content → IsNumberedFor self.old.label.span.file self.new) }
+
+        // What an accepted replacement makes.
+        ensures plain { OnOk result (IsInner (tree_at path.now self.old).label.content
+            → plain self.new ≡ plain (edited_at path.now range.start range.end replacement.items self.old)) }
+        ensures numbered { OnOk result (IsInner (tree_at path.now self.old).label.content
+            → IsNumberedFor self.old.label.span.file self.new) }
+        ensures window { IfOk result (λ r. IsInner (tree_at path.now self.old).label.content
+            → IsRenumbering (site_of range.start range.end replacement.items (tree_at path.now self.old)) r
+            (trees (tree_at path.now self.new).children)) }
+        ensures tried { IfOk result (λ r. IsInner (tree_at path.now self.old).label.content
+            → IsFoundSoon (site_of range.start range.end replacement.items (tree_at path.now self.old)) r.tried) }
+        ensures outside { IfOk result (λ r. IsInner (tree_at path.now self.old).label.content
+            → KeepsOutside path.now r self.old self.new) }
+        ensures beside { OnOk result (IsInner (tree_at path.now self.old).label.content
+            → self.new ≡ with_children path.now (trees (tree_at path.now self.new).children) self.old) }
     {
         if !self.node_at(path).is_inner() {
             return Ok(Renumbered {

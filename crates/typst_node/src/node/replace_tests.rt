@@ -46,7 +46,7 @@ fn tree_e(alloc: Global) -> Result<SyntaxNode, Fail> {
 fn replaces_children(rt: HostRuntime) -> Result<(), Fail> {
     let alloc = rt.alloc();
     let mut tree = tree_a(alloc)?;
-    let done = tree.replace_children(1..1, texts(alloc, &["x"])?);
+    let done = tree.replace_children(alloc, 1..1, texts(alloc, &["x"])?);
     assert_eq!(rt;
         done,
         Ok(Renumbered {
@@ -58,7 +58,7 @@ fn replaces_children(rt: HostRuntime) -> Result<(), Fail> {
     assert_eq!(rt; tree.full_text(alloc)?.as_str(), "abxc");
     assert_eq!(rt; tree.len(), 4);
     let mut tree = tree_a(alloc)?;
-    let done = tree.replace_children(0..1, Vec::new(alloc));
+    let done = tree.replace_children(alloc, 0..1, Vec::new(alloc));
     assert_eq!(rt;
         done,
         Ok(Renumbered {
@@ -68,7 +68,7 @@ fn replaces_children(rt: HostRuntime) -> Result<(), Fail> {
     );
     assert_eq!(rt; numbers(alloc, &tree)?.as_slice(), [7].as_slice());
     let mut tree = tree_a(alloc)?;
-    let done = tree.replace_children(0..2, texts(alloc, &["ab", "c"])?);
+    let done = tree.replace_children(alloc, 0..2, texts(alloc, &["ab", "c"])?);
     assert_eq!(rt;
         done,
         Ok(Renumbered {
@@ -78,15 +78,15 @@ fn replaces_children(rt: HostRuntime) -> Result<(), Fail> {
     );
     assert_eq!(rt; numbers(alloc, &tree)?.as_slice(), [5, 7].as_slice());
     let mut tree = SyntaxNode::inner(alloc, SyntaxKind::Markup, texts(alloc, &["a"])?)?;
-    let done = tree.replace_children(0..1, texts(alloc, &["z"])?);
+    let done = tree.replace_children(alloc, 0..1, texts(alloc, &["z"])?);
     assert_eq!(rt; done, Err(ReplaceError::Unnumberable));
     let id = FileId::new(1).ok_or("no id")?;
     tree.numberize(id, 2..4).ok().ok_or("refused")?;
-    let done = tree.replace_children(0..1, texts(alloc, &["z"])?);
+    let done = tree.replace_children(alloc, 0..1, texts(alloc, &["z"])?);
     assert_eq!(rt; done, Err(ReplaceError::Unnumberable));
     assert_eq!(rt; tree.full_text(alloc)?.as_str(), "a");
     let mut leaf = text(alloc, "a")?;
-    let done = leaf.replace_children(3..1, texts(alloc, &["z"])?);
+    let done = leaf.replace_children(alloc, 3..1, texts(alloc, &["z"])?);
     assert_eq!(rt;
         done,
         Ok(Renumbered {
@@ -101,7 +101,7 @@ fn replaces_children(rt: HostRuntime) -> Result<(), Fail> {
 fn widens_windows(rt: HostRuntime) -> Result<(), Fail> {
     let alloc = rt.alloc();
     let mut tree = tree_e(alloc)?;
-    let done = tree.replace_children(4..4, texts(alloc, &["x"])?);
+    let done = tree.replace_children(alloc, 4..4, texts(alloc, &["x"])?);
     assert_eq!(rt;
         done,
         Ok(Renumbered {
@@ -115,7 +115,7 @@ fn widens_windows(rt: HostRuntime) -> Result<(), Fail> {
     );
     assert_eq!(rt; tree.full_text(alloc)?.as_str(), "abcdxefgh");
     let mut tree = tree_e(alloc)?;
-    let done = tree.replace_children(0..0, texts(alloc, &["x"])?);
+    let done = tree.replace_children(alloc, 0..0, texts(alloc, &["x"])?);
     assert_eq!(rt;
         done,
         Ok(Renumbered {
@@ -124,7 +124,7 @@ fn widens_windows(rt: HostRuntime) -> Result<(), Fail> {
         })
     );
     let mut tree = tree_e(alloc)?;
-    let done = tree.replace_children(8..8, texts(alloc, &["x"])?);
+    let done = tree.replace_children(alloc, 8..8, texts(alloc, &["x"])?);
     assert_eq!(rt;
         done,
         Ok(Renumbered {
@@ -138,6 +138,7 @@ fn widens_windows(rt: HostRuntime) -> Result<(), Fail> {
     );
     let mut tree = tree_e(alloc)?;
     let done = tree.replace_children(
+        alloc,
         0..8,
         texts(alloc, &["a", "b", "c", "y", "e", "f", "g", "h"])?,
     );
@@ -168,11 +169,11 @@ fn replaces_at_a_path(rt: HostRuntime) -> Result<(), Fail> {
     assert_eq!(rt; tree.edit_fits(&[0, 1], 0..1), true);
     assert_eq!(rt; tree.edit_fits(&[0, 1], 0..2), false);
     assert_eq!(rt; tree.edit_fits(&[5], 0..0), false);
-    let done = tree.replace_at(&[0, 1], 0..1, texts(alloc, &["x", "y"])?);
+    let done = tree.replace_at(alloc, &[0, 1], 0..1, texts(alloc, &["x", "y"])?);
     assert_eq!(rt; done, Err(ReplaceError::Unnumberable));
     let mut one = Vec::new(alloc);
     one.push(SyntaxNode::inner(alloc, SyntaxKind::Markup, texts(alloc, &["x", "y"])?)?)?;
-    let done = tree.replace_at(&[0], 1..2, one);
+    let done = tree.replace_at(alloc, &[0], 1..2, one);
     assert_eq!(rt;
         done,
         Ok(Renumbered {

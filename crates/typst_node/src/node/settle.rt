@@ -139,6 +139,13 @@ impl InnerNode {
             gone.diagnosis,
             added.diagnosis,
         );
-        settle_ends(&mut self.ends, &self.children, from, to, gone.len, added.len);
+        settle_ends(
+            &mut self.ends,
+            &self.children,
+            from,
+            to,
+            gone.len,
+            added.len,
+        );
     }
 }

@@ -77,7 +77,7 @@ fn window_stride(space: u64, nodes: u64, total: u64) -> Option<u64>
     requires { nodes < total }
     ensures { MatchOption result (¬ ((2 * nodes ≤ space) ⊎ (total ≤ space)))
         (λ stride. ((2 * nodes ≤ space) ⊎ (total ≤ space)) × (1 ≤ stride) × (stride * nodes ≤ space)
-            × (2 * nodes ≤ space → 2 * (stride * nodes) ≤ space)) }
+        × (2 * nodes ≤ space → 2 * (stride * nodes) ≤ space)) }
 {
     if nodes == 0 {
         Some(1)

@@ -21,14 +21,14 @@ use Rattle.typst_node.proofs.PathsAt.{frame_nil, inner_nil, at_nil, frame_cons, 
 use Rattle.typst_node.proofs.node.+at.Goals as goal
 
 pub SyntaxNode::replace_below-returns-clause-frame : goal.SyntaxNode::replace_below-returns-clause-frame
-SyntaxNode::replace_below-returns-clause-frame t c = frame_nil c.args.path.now c.args.self.now c.replace_children.new.self c.in-None.ensures.cases c.replace_children.ensures.label
+SyntaxNode::replace_below-returns-clause-frame t c = frame_nil c.args.path.now c.args.self.now c.replace_range.new.self c.in-None.ensures.cases c.replace_range.ensures.label
 
 pub SyntaxNode::replace_below-returns-clause-at : goal.SyntaxNode::replace_below-returns-clause-at
 SyntaxNode::replace_below-returns-clause-at t c =
     let inner = inner_nil c.args.path.now c.args.self.now c.in-None.ensures.cases c.requires.inner in
-    let e = c.replace_children.ensures in
-    let r = c.replace_children.result in
-    at_nil c.args.path.now c.args.range.start c.args.range.end c.args.replacement.items c.args.self.now c.replace_children.new.self r c.in-None.ensures.cases record {
+    let e = c.replace_range.ensures in
+    let r = c.replace_range.result in
+    at_nil c.args.path.now c.args.range.start c.args.range.end c.args.replacement.items c.args.self.now c.replace_range.new.self r c.in-None.ensures.cases record {
       unnumberable = (λ h. let q = e.unnumberable.0 h in (q.1, q.2), λ g. e.unnumberable.1 (inner, g.0, g.1));
       overflow = (λ h. (e.overflow.0 h).1, λ g. e.overflow.1 (inner, g));
       memory = e.memory;

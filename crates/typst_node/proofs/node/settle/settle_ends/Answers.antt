@@ -1,9 +1,9 @@
-use Rattle.std.proofs.Common.{arith, ◌≡◌, ◌+◌, ◌-◌, ◌<◌, ◌≤◌, ◌^◌, ◌++◌, List, ℕ, [], length, map, take, drop, refl, sym, ap, subst, ◌∙◌, append-nil, length-drop}
+use Rattle.std.proofs.Common.{arith, ◌≡◌, ◌+◌, ◌-◌, ◌<◌, ◌≤◌, ◌^◌, ◌++◌, List, ℕ, [], length, map, take, drop, sym, ap, subst, ◌∙◌, append-nil, length-drop}
 use Rattle.std.proofs.lemmas.List.{take_all, drop_all, take-append-drop}
 use Rattle.std.specs.List.{AllByRecursion}
 use Rattle.typst_node.specs.Text.{text_of_all}
 use Rattle.typst_node.specs.View.{ends_from}
-use Rattle.typst_node.proofs.Settled.{can_shift, shifted, ends_whole, text_front}
+use Rattle.typst_node.proofs.Settled.{can_shift, shifted, ends_whole}
 use Rattle.typst_node.proofs.Opens.{text_split}
 use Rattle.typst_node.proofs.node.settle.settle_ends.Goals as goal
 

@@ -1,4 +1,4 @@
-use Rattle.std.proofs.Common.{arith, ◌≡◌, ◌+◌, ◌≤◌, length, take, drop, get_or, refl, sym, ap, ◌∙◌}
+use Rattle.std.proofs.Common.{arith, ◌≡◌, ◌+◌, length, take, get_or, refl, ap, ◌∙◌}
 use Rattle.std.proofs.lemmas.List.{drop-set-lt}
 use Rattle.typst_node.specs.Text.{text, text_of_all}
 use Rattle.typst_node.proofs.Settled.{start_at, start_none, text_more, text_front, end_more}
@@ -8,7 +8,7 @@ use Rattle.typst_node.proofs.node.settle.write_ends.Goals.{then-from-eq0, else-f
 pub loop-i-init : goal.loop-i-init
 loop-i-init c = record {
   end = elim c.if-from-eq0.branch [
-    then-from-eq0 w ↦ w.end-is ∙ start_none c.args.children.now c.args.from w.if-from-eq0.true
+    | then-from-eq0 w ↦ w.end-is ∙ start_none c.args.children.now c.args.from w.if-from-eq0.true
     | else-from-eq0 w ↦ w.end-is ∙ start_at c.args.ends.now c.args.children.now c.args.from (omega (arith, w.if-from-eq0.false)) (omega arith) c.requires.before
   ];
   before = c.requires.before;
