@@ -2,5 +2,17 @@ pub mod Trees
 pub mod Plain
 pub mod Within
 pub mod Ordered
+pub mod SameApart
+pub mod Exchanged
+pub mod Opens
+pub mod Trimmed
+pub mod Replaced
+pub mod Edited
+pub mod PathsIn
+pub mod PathsAt
+pub mod PathsWhole
+pub mod Outside
+pub mod Settled
 pub mod Paths
 pub mod Offsets
+pub mod Firsts

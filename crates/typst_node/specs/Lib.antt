@@ -12,3 +12,17 @@ pub mod Codes
 pub mod View
 pub mod Smaller
 pub mod Sums
+pub mod Equal
+pub mod Paths
+pub mod PlainEdit
+pub mod ChangedChildren
+pub mod Window
+pub mod WindowNumbers
+pub mod Room
+pub mod FirstWindow
+pub mod Renumbering
+pub mod EditBelow
+pub mod Sites
+pub mod Stale
+pub mod Change
+pub mod Outside

@@ -1,9 +1,8 @@
 -- What a node is seen as, and what is kept in it.
-use Rattle.std.specs.Prelude.{ℕ, ◌≡◌, ◌≢◌, ◌+◌, ◌<◌, ◌≤◌, suc, List, [], ◌∷◌, length, map, reverse, string_bytes}
+use Rattle.std.specs.Prelude.{ℕ, ◌≡◌, ◌≢◌, ◌+◌, suc, List, [], ◌∷◌, length, map, reverse, string_bytes}
 use Rattle.std.specs.List.{list_any}
-use Rattle.typst_base.specs.declared.kind.SyntaxKind.{SyntaxKind}
 use Rattle.typst_base.specs.declared.kind.SyntaxKind.TheVariants as kinds
-use Rattle.typst_node.specs.Tree.{HintText, WarningText, Content, AsLeaf, AsError, AsInner, Label, Forest, Tree, forest}
+use Rattle.typst_node.specs.Tree.{HintText, WarningText, Content, AsLeaf, AsError, AsInner, Tree, forest}
 use Rattle.typst_node.specs.Preorder.{preorder}
 use Rattle.typst_node.specs.Text.{text, text_of_all}
 use Rattle.typst_node.specs.Count.{count_of_all}

@@ -17,8 +17,10 @@ pub use diagnosis::Diagnosis;
 pub use node::SyntaxNode;
 pub use node::build::InnerError;
 pub use node::number::Unnumberable;
+pub use node::replace::{Renumbered, ReplaceError};
 
 pub mod diagnosis;
+mod exchange;
 pub mod node;
 #[cfg(test)]
 mod tests;

@@ -11,8 +11,18 @@ use std::marker::Model;
 use typst_base::{Span, SyntaxKind};
 
 pub mod build;
+pub mod copy;
 mod inner;
 pub mod number;
+mod renumber;
+pub mod replace;
+pub mod replace_at;
+#[cfg(test)]
+mod replace_tests;
+mod settle;
+pub mod spanless;
+mod trim;
+mod window;
 
 /// A node of a syntax tree: a leaf, an inner node or an error, under any number of warnings.
 ///
