@@ -8,7 +8,7 @@ ghost use Rattle.typst_node.specs.Labels.{bound};
 use crate::diagnosis::Diagnosis;
 use std::alloc::{AllocError, Global};
 use std::marker::Model;
-use typst_base::{Span, SyntaxKind};
+use typst_base::{Span, SubRange, SyntaxKind};
 
 pub mod build;
 mod inner;
@@ -64,7 +64,7 @@ struct ErrorNode {
 /// What is said of a node that is syntax, but dubious.
 #[derive(Drop)]
 struct Warning {
-    sub_range: Option<(u32, u32)>,
+    sub_range: Option<SubRange>,
     message: String,
     hints: Vec<Hint>,
 }
@@ -73,7 +73,7 @@ struct Warning {
 #[derive(Drop)]
 struct Hint {
     text: String,
-    sub_range: Option<(u32, u32)>,
+    sub_range: Option<SubRange>,
 }
 
 impl Model for SyntaxNode {
