@@ -4,3 +4,7 @@ pub mod Within
 pub mod Ordered
 pub mod Paths
 pub mod Offsets
+pub mod HintLemmas
+pub mod Each
+pub mod Relabelled
+pub mod SynthesizedLemmas

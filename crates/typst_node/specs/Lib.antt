@@ -12,3 +12,7 @@ pub mod Codes
 pub mod View
 pub mod Smaller
 pub mod Sums
+pub mod Warnings
+pub mod Hints
+pub mod Synthesized
+pub mod Diagnostics

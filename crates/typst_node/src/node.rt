@@ -13,6 +13,8 @@ use typst_base::{Span, SubRange, SyntaxKind};
 pub mod build;
 mod inner;
 pub mod number;
+pub mod synthesize;
+pub mod warn;
 
 /// A node of a syntax tree: a leaf, an inner node or an error, under any number of warnings.
 ///
