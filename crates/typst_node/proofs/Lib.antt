@@ -16,3 +16,7 @@ pub mod Settled
 pub mod Paths
 pub mod Offsets
 pub mod Firsts
+pub mod HintLemmas
+pub mod Each
+pub mod Relabelled
+pub mod SynthesizedLemmas

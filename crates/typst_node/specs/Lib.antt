@@ -26,3 +26,7 @@ pub mod Sites
 pub mod Stale
 pub mod Change
 pub mod Outside
+pub mod Warnings
+pub mod Hints
+pub mod Synthesized
+pub mod Diagnostics

@@ -8,7 +8,7 @@ ghost use Rattle.typst_node.specs.Labels.{bound};
 use crate::diagnosis::Diagnosis;
 use std::alloc::{AllocError, Global};
 use std::marker::Model;
-use typst_base::{Span, SyntaxKind};
+use typst_base::{Span, SubRange, SyntaxKind};
 
 pub mod build;
 pub mod copy;
@@ -23,6 +23,8 @@ mod settle;
 pub mod spanless;
 mod trim;
 mod window;
+pub mod synthesize;
+pub mod warn;
 
 /// A node of a syntax tree: a leaf, an inner node or an error, under any number of warnings.
 ///
@@ -74,7 +76,7 @@ struct ErrorNode {
 /// What is said of a node that is syntax, but dubious.
 #[derive(Drop)]
 struct Warning {
-    sub_range: Option<(u32, u32)>,
+    sub_range: Option<SubRange>,
     message: String,
     hints: Vec<Hint>,
 }
@@ -83,7 +85,7 @@ struct Warning {
 #[derive(Drop)]
 struct Hint {
     text: String,
-    sub_range: Option<(u32, u32)>,
+    sub_range: Option<SubRange>,
 }
 
 impl Model for SyntaxNode {
