@@ -1,0 +1,132 @@
+// The vectors of the folder vectors/, written by vectors/embed: change them there.
+
+/// A script, and what it prints and ends with.
+pub(super) struct Vector {
+    pub(super) name: &'static str,
+    pub(super) script: &'static [u8],
+    pub(super) stdout: &'static [u8],
+    pub(super) stderr: &'static str,
+    pub(super) status: u8,
+}
+
+pub(super) const VECTORS: [Vector; 17] = [
+    Vector {
+        name: "a_blank_behind_a_word",
+        script: b"leaf 6 a\nroot \n",
+        stdout: b"",
+        stderr: "line 2: bad command\n",
+        status: 2,
+    },
+    Vector {
+        name: "a_carriage_return",
+        script: b"leaf 6 a\r\nroot\r\n",
+        stdout: b"",
+        stderr: "line 2: bad command\n",
+        status: 2,
+    },
+    Vector {
+        name: "a_number_too_large",
+        script: b"inner 5 18446744073709551616\n",
+        stdout: b"",
+        stderr: "line 1: bad command\n",
+        status: 2,
+    },
+    Vector {
+        name: "cut_character_at_the_end",
+        script: b"leaf 6 a\nroot\nshow\nleaf 6 \xc3",
+        stdout: b"6 1 2 1 a\n",
+        stderr: "cannot read\n",
+        status: 1,
+    },
+    Vector {
+        name: "empty_lines_no_end_of_line",
+        script: b"\n\nleaf 6 a\n\nroot\nshow",
+        stdout: b"6 1 2 1 a\n",
+        stderr: "",
+        status: 0,
+    },
+    Vector {
+        name: "errors_number_as_a_kind",
+        script: b"leaf 1 x\n",
+        stdout: b"",
+        stderr: "line 1: bad command\n",
+        status: 2,
+    },
+    Vector {
+        name: "kind_137",
+        script: b"leaf 136 x\nleaf 137 x\n",
+        stdout: b"",
+        stderr: "line 2: bad command\n",
+        status: 2,
+    },
+    Vector {
+        name: "last_numbers",
+        script: b"leaf 6 ab\nleaf 6 c\ninner 5 2\nroot\nnumber 9 140737488355325 140737488355328\nshow\nnumber 9 140737488355326 140737488355328\n",
+        stdout: b"5 140737488355325 140737488355328 3\n  6 140737488355326 140737488355327 2 ab\n  6 140737488355327 140737488355328 1 c\nrefused\n",
+        stderr: "",
+        status: 0,
+    },
+    Vector {
+        name: "no_blank_before_the_text",
+        script: b"leaf 6 \nleaf 6\n",
+        stdout: b"",
+        stderr: "line 2: bad command\n",
+        status: 2,
+    },
+    Vector {
+        name: "no_utf_8",
+        script: b"leaf 6 a\nroot\nshow\nleaf 6 \xff\n",
+        stdout: b"6 1 2 1 a\n",
+        stderr: "cannot read\n",
+        status: 1,
+    },
+    Vector {
+        name: "nothing",
+        script: b"",
+        stdout: b"",
+        stderr: "",
+        status: 0,
+    },
+    Vector {
+        name: "number_without_a_tree",
+        script: b"number 1 2 14\n",
+        stdout: b"",
+        stderr: "line 1: bad command\n",
+        status: 2,
+    },
+    Vector {
+        name: "popping_too_many",
+        script: b"leaf 6 a\ninner 5 18446744073709551615\n",
+        stdout: b"",
+        stderr: "line 2: bad command\n",
+        status: 2,
+    },
+    Vector {
+        name: "root_with_none",
+        script: b"root\n",
+        stdout: b"",
+        stderr: "line 1: bad command\n",
+        status: 2,
+    },
+    Vector {
+        name: "root_with_two",
+        script: b"leaf 6 a\nleaf 6 b\nroot\n",
+        stdout: b"",
+        stderr: "line 3: bad command\n",
+        status: 2,
+    },
+    Vector {
+        name: "show_without_a_tree",
+        script: b"leaf 6 a\nshow\n",
+        stdout: b"",
+        stderr: "line 2: bad command\n",
+        status: 2,
+    },
+    Vector {
+        name: "whole_range",
+        script: b"leaf 6 ab\nleaf 6 c\ninner 5 2\nroot\nnumber 1 2 140737488355328\nshow\nnumber 1 2 140737488355329\n",
+        stdout: b"5 11728124029612 140737488355328 3\n  6 35184372088833 35184372088834 2 ab\n  6 58640620148054 58640620148055 1 c\n",
+        stderr: "line 7: bad command\n",
+        status: 2,
+    },
+];
