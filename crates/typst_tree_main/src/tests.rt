@@ -223,3 +223,33 @@ fn a_writer_that_fails_ends_the_script(rt: HostRuntime) -> Result<(), Fail> {
     }
     Ok(())
 }
+
+#[test]
+fn a_writer_may_fail_in_mid_run(rt: HostRuntime) -> Result<(), Fail> {
+    let alloc = rt.alloc();
+    let mut script: Vec<u8> = Vec::new(alloc);
+    let mut shown: Vec<u8> = Vec::new(alloc);
+    script.extend_from_slice(NUMBERED)?;
+    shown.extend_from_slice(NUMBERED_SHOWN)?;
+    // More than a buffer holds.
+    for _ in 0..300 {
+        script.extend_from_slice(b"show\n")?;
+        shown.extend_from_slice(NUMBERED_SHOWN)?;
+    }
+    for recovers in [false, true] {
+        for calls_left in [0, 1, 100, 8191, 8192, 8193, 10000] {
+            let mut out: Vec<u8> = Vec::new(alloc);
+            let writer = FailingWriter {
+                written: &mut out,
+                calls_left,
+                recovers,
+                has_failed: false,
+            };
+            let done = run(alloc, script.as_slice(), writer);
+            assert_eq!(rt; done, Err(Fault::Write), "after {calls_left} calls");
+            assert!(rt; shown.starts_with(&out), "after {calls_left} calls");
+            assert!(rt; calls_left <= out.len(), "after {calls_left} calls");
+        }
+    }
+    Ok(())
+}

@@ -1,4 +1,4 @@
-// The vectors of the folder vectors/, written by vectors/embed: change them there.
+// The vectors of the folder vectors/ and the repository's examples, written by vectors/embed: change them there.
 
 /// A script, and what it prints and ends with.
 pub(super) struct Vector {
@@ -9,7 +9,7 @@ pub(super) struct Vector {
     pub(super) status: u8,
 }
 
-pub(super) const VECTORS: [Vector; 17] = [
+pub(super) const VECTORS: [Vector; 19] = [
     Vector {
         name: "a_blank_behind_a_word",
         script: b"leaf 6 a\nroot \n",
@@ -128,5 +128,19 @@ pub(super) const VECTORS: [Vector; 17] = [
         stdout: b"5 11728124029612 140737488355328 3\n  6 35184372088833 35184372088834 2 ab\n  6 58640620148054 58640620148055 1 c\n",
         stderr: "line 7: bad command\n",
         status: 2,
+    },
+    Vector {
+        name: "heading",
+        script: b"leaf 23 =\nleaf 7  \nleaf 6 Gr\xc3\xb6\xc3\x9fe\ninner 5 1\ninner 22 3\nleaf 7  \nleaf 6 Hello\nleaf 7  \nleaf 55 *\nleaf 6 world\ninner 5 1\nleaf 55 *\ninner 13 3\ninner 98 0\ninner 5 6\nroot\n\nshow\nnumber 1 2 10\nnumber 1 2 302\nshow\nnumber 2 2 20\nshow\n",
+        stdout: b"5 1 0 23\n  22 1 0 9\n    23 1 2 1 =\n    7 1 2 1  \n    5 1 0 7\n      6 1 2 7 Gr\xc3\xb6\xc3\x9fe\n  7 1 2 1  \n  6 1 2 5 Hello\n  7 1 2 1  \n  13 1 0 7\n    55 1 2 1 *\n    5 1 0 5\n      6 1 2 5 world\n    55 1 2 1 *\n  98 1 0 0\nrefused\n5 7 302 23\n  22 14 62 9\n    23 19 20 1 =\n    7 24 25 1  \n    5 28 37 7\n      6 30 31 7 Gr\xc3\xb6\xc3\x9fe\n  7 67 68 1  \n  6 77 78 5 Hello\n  7 87 88 1  \n  13 94 142 7\n    55 99 100 1 *\n    5 103 112 5\n      6 105 106 5 world\n    55 114 115 1 *\n  98 144 152 0\n5 2 20 23\n  22 3 8 9\n    23 4 5 1 =\n    7 5 6 1  \n    5 6 8 7\n      6 7 8 7 Gr\xc3\xb6\xc3\x9fe\n  7 8 9 1  \n  6 9 10 5 Hello\n  7 10 11 1  \n  13 11 16 7\n    55 12 13 1 *\n    5 13 15 5\n      6 14 15 5 world\n    55 15 16 1 *\n  98 16 17 0\n",
+        stderr: "",
+        status: 0,
+    },
+    Vector {
+        name: "numbered",
+        script: b"leaf 6 ab\nleaf 6 c\ninner 5 2\nroot\nnumber 1 2 14\nshow\n",
+        stdout: b"5 3 14 3\n  6 5 6 2 ab\n  6 7 8 1 c\n",
+        stderr: "",
+        status: 0,
     },
 ];
