@@ -1,8 +1,8 @@
 -- Where the first blank of a text parts it, and that numbers have none.
-use Rattle.std.specs.Prelude.{ℕ, ◌≡◌, ◌≢◌, ◌<◌, List, [], ◌∷◌, ◌++◌, Option, None, Some, IfSome, IsSomeAnd, Contains, Bool, true, not, ◌==◌, length, refl}
+use Rattle.std.specs.Prelude.{ℕ, ◌≡◌, ◌≢◌, ◌<◌, List, ◌∷◌, Option, None, Some, IfSome, IsSomeAnd, Contains, true, not, ◌==◌, length}
 use Rattle.std.specs.List.{list_all}
 use Rattle.std.specs.Str.Parse.{AllDigits}
-use Rattle.std.proofs.Common.{arith, ◌∙◌, sym, get_or, Bor, length-append}
+use Rattle.std.proofs.Common.{arith, ◌∙◌, get_or, Bor, length-append}
 use Rattle.std.proofs.lemmas.List.{get_or_default}
 use Rattle.std.proofs.lemmas.List.Sums.{AllPass-from_list_all}
 use Rattle.std.proofs.lemmas.Grind.{common_steps}

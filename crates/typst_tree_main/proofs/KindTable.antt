@@ -1,6 +1,6 @@
 -- Each number below 137 is the number of a kind.
-use Rattle.std.specs.Prelude.{ℕ, ◌≡◌, ◌<◌, ◌≤◌, ◌↔◌, ◌+◌, List, [], ◌∷◌, Option, Some, IsNone, map, refl}
-use Rattle.std.proofs.Common.{arith, ◌∙◌, sym, ap, get_or, length}
+use Rattle.std.specs.Prelude.{ℕ, ◌≡◌, ◌<◌, ◌≤◌, ◌↔◌, ◌+◌, List, [], ◌∷◌, Option, Some, IsNone, map}
+use Rattle.std.proofs.Common.{arith, ◌∙◌, sym, ap, get_or}
 use Rattle.std.proofs.lemmas.List.{get_or-map}
 use Rattle.std.proofs.lemmas.List.FromFn.{get_or-range_with_len}
 use Rattle.typst_base.specs.KindNumber.{number_of}

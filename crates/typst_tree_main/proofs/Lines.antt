@@ -1,6 +1,6 @@
 -- What follows from that a line is a command's.
-use Rattle.std.specs.Prelude.{ℕ, ◌≡◌, ◌≢◌, ◌≤◌, List, [], ◌∷◌, ◌++◌, codes, refl}
-use Rattle.std.proofs.Common.{arith, ◌∙◌, sym, ap, drop, get_or}
+use Rattle.std.specs.Prelude.{ℕ, ◌≡◌, ◌≢◌, ◌≤◌, List, ◌∷◌, ◌++◌, codes, refl}
+use Rattle.std.proofs.Common.{arith, ap, drop, get_or}
 use Rattle.typst_base.specs.declared.kind.SyntaxKind.{SyntaxKind}
 use Rattle.typst_tree_main.specs.Word.{blank, IsSplit, IsNumber, IsKindNumber, IsFileNumber}
 use Rattle.typst_tree_main.specs.Command.{IsLineOf}

@@ -1,5 +1,5 @@
 -- A child is smaller than its parent, so that showing a tree ends.
-use Rattle.std.specs.Prelude.{ℕ, ◌<◌, ◌+◌, suc, zero, List, length}
+use Rattle.std.specs.Prelude.{ℕ, ◌<◌, ◌+◌, suc, zero, length}
 use Rattle.std.proofs.Common.{arith, get_or}
 use Rattle.typst_node.specs.Tree.{Tree, Forest, none, tree, trees}
 

@@ -1,5 +1,5 @@
 -- How the program ends after a fault.
-use Rattle.std.specs.Prelude.{ℕ}
+use Rattle.std.specs.Prelude.{ℕ, ◌≡◌, ◌⊎◌}
 use Rattle.typst_tree_main.specs.declared.fault.Fault.{Fault}
 use Rattle.typst_tree_main.specs.declared.fault.Fault.TheVariants.{BadCommand, Read, Write, Memory, Overflow}
 use Rattle.typst_node.specs.declared.node.build.InnerError.{InnerError}
@@ -17,3 +17,7 @@ status_of Overflow = 1
 abbrev pub fault_of : InnerError → Fault
 fault_of TooLarge = Overflow
 fault_of NoMemory = Memory
+
+-- a fault of writing, or want of memory
+abbrev pub IsWriteFault : Fault → Type 0
+IsWriteFault fault = (fault ≡ Write) ⊎ (fault ≡ Memory)

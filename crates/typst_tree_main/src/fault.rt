@@ -1,7 +1,7 @@
 // What stops a script, and how the program then ends.
 ghost use Rattle.std.specs.Prelude.{◌≡◌, ◌≢◌};
 ghost use Rattle.std.specs.IoError.{error_kind};
-ghost use Rattle.typst_tree_main.specs.Fault.{status_of, fault_of};
+ghost use Rattle.typst_tree_main.specs.Fault.{status_of, fault_of, IsWriteFault};
 ghost use Rattle.typst_tree_main.specs.declared.fault.Fault.TheVariants.{Memory, Read, Write};
 
 use std::alloc::{AllocError, AllocFailed};
@@ -56,6 +56,7 @@ impl Fault {
     pub fn of_writing(error: io::Error) -> Fault
         ensures memory { error_kind error ≡ ErrorKind.OutOfMemory → result ≡ Memory }
         ensures other { error_kind error ≢ ErrorKind.OutOfMemory → result ≡ Write }
+        ensures either { IsWriteFault result }
     {
         match error.kind() {
             ErrorKind::OutOfMemory => Fault::Memory,

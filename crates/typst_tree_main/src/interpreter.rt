@@ -1,6 +1,10 @@
 // Carries out the commands of a script.
-ghost use Rattle.std.specs.Prelude.{◌≢◌, ◌≤◌, ◌^◌};
+ghost use Rattle.std.specs.Prelude.{ℕ, ◌≡◌, ◌≢◌, ◌<◌, ◌≤◌, ◌^◌, List, [], length, OnOk, IfErr, IsErrOf, IsNone, Err, ◌↔◌};
 ghost use Rattle.typst_base.specs.declared.kind.SyntaxKind.TheVariants.{Error};
+ghost use Rattle.typst_tree_main.specs.Command.{IsLineOf};
+ghost use Rattle.typst_tree_main.specs.declared.command.Command.{Command};
+ghost use Rattle.typst_tree_main.specs.declared.command.Command.TheVariants.{Leaf, Inner, Root, Number};
+ghost use Rattle.typst_tree_main.specs.declared.fault.Fault.TheVariants.{BadCommand, Memory};
 
 use crate::command::Command;
 use crate::fault::Fault;
@@ -21,8 +25,13 @@ pub struct Interpreter {
 }
 
 impl Interpreter {
+    ghost use Rattle.typst_tree_main.specs.Done.{IsDone, CanBeDone};
+
     /// An empty stack, and no tree.
-    pub fn new(alloc: Global) -> Interpreter {
+    pub fn new(alloc: Global) -> Interpreter
+        ensures stack { result.stack.items ≡ [] }
+        ensures tree { IsNone result.tree }
+    {
         Interpreter {
             stack: Vec::new(alloc),
             tree: None,
@@ -37,7 +46,11 @@ impl Interpreter {
         line: u64,
         text: &str,
         out: &mut W,
-    ) -> Result<(), Fault> {
+    ) -> Result<(), Fault>
+        ensures skipped { text.now ≡ [] → (self.new.stack.items ≡ self.old.stack.items) × (self.new.tree ≡ self.old.tree) }
+        ensures done { OnOk result (text.now ≢ []
+            → (command : Command) × IsLineOf command text.now × IsDone command self.old self.new) }
+    {
         self.line = line;
         if text.is_empty() {
             return Ok(());
@@ -45,6 +58,26 @@ impl Interpreter {
         let Some(command) = Command::parse(text) else {
             return Err(self.bad());
         };
+        self.carry_out(alloc, command, out)
+    }
+
+    /// That the line at work can't be done.
+    fn bad(&self) -> Fault
+        ensures { result ≡ BadCommand self.now.line }
+    {
+        Fault::BadCommand { line: self.line }
+    }
+
+    fn carry_out<W: Write>(
+        &mut self,
+        alloc: Global,
+        command: Command<'_>,
+        out: &mut W,
+    ) -> Result<(), Fault>
+        requires { (line : List ℕ) × IsLineOf command line }
+        ensures done { OnOk result (IsDone command.entry self.old self.new) }
+        ensures bad { IsErrOf result (BadCommand self.old.line) ↔ ¬ (CanBeDone command.entry self.old) }
+    {
         match command {
             Command::Leaf { kind, text } => self.leaf(alloc, kind, text),
             Command::Inner { kind, count } => self.inner(alloc, kind, count),
@@ -54,13 +87,10 @@ impl Interpreter {
         }
     }
 
-    /// That the line at work can't be done.
-    fn bad(&self) -> Fault {
-        Fault::BadCommand { line: self.line }
-    }
-
     fn leaf(&mut self, alloc: Global, kind: SyntaxKind, text: &str) -> Result<(), Fault>
         requires { kind ≢ Error }
+        ensures done { OnOk result (IsDone (Leaf kind text.entry) self.old self.new) }
+        ensures err { IfErr result (λ fault. fault ≡ Memory) }
     {
         self.stack.push(SyntaxNode::leaf(alloc, kind, text)?)?;
         Ok(())
@@ -68,6 +98,8 @@ impl Interpreter {
 
     fn inner(&mut self, alloc: Global, kind: SyntaxKind, count: u64) -> Result<(), Fault>
         requires { kind ≢ Error }
+        ensures done { OnOk result (IsDone (Inner kind count) self.old self.new) }
+        ensures bad { IsErrOf result (BadCommand self.old.line) ↔ (length self.old.stack.items < count) }
     {
         let start = self
             .stack
@@ -79,7 +111,10 @@ impl Interpreter {
         Ok(())
     }
 
-    fn root(&mut self) -> Result<(), Fault> {
+    fn root(&mut self) -> Result<(), Fault>
+        ensures done { OnOk result (IsDone Root self.old self.new) }
+        ensures bad { IsErrOf result (BadCommand self.old.line) ↔ (length self.old.stack.items ≢ 1) }
+    {
         if self.stack.len() != 1 {
             return Err(self.bad());
         }
@@ -96,9 +131,13 @@ impl Interpreter {
     ) -> Result<(), Fault>
         requires low { 2 ≤ low }
         requires high { high ≤ 2 ^ 47 }
+        ensures done { OnOk result (IsDone (Number file low high) self.old self.new) }
+        ensures bad { IsErrOf result (BadCommand self.old.line) ↔ IsNone self.old.tree }
     {
         let bad = self.bad();
-        let tree = self.tree.as_mut().ok_or(bad)?;
+        let Some(tree) = &mut self.tree else {
+            return Err(bad);
+        };
         match tree.numberize(file, low..high) {
             Ok(()) => Ok(()),
             Err(_) => out.write_all(b"refused\n").map_err(Fault::of_writing),
