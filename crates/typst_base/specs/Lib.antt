@@ -1,2 +1,12 @@
+pub mod DiagSpan
+pub mod DiagSpanKind
+pub mod Flags
+pub mod KindClasses
+pub mod KindMode
+pub mod KindName
 pub mod KindNumber
+pub mod KindSet
+pub mod NamedSets
 pub mod Span
+pub mod SpanKind
+pub mod SubRange

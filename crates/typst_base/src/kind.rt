@@ -1,4 +1,6 @@
-ghost use Rattle.std.specs.Prelude.{◌≡◌, ◌<◌, ◌↔◌, ◌≤◌, IsTrue, IsNone, Some};
+// The kinds of nodes, their numbers and their classes.
+ghost use Rattle.std.specs.Prelude.{◌≡◌, ◌↔◌, ◌<◌, ◌≤◌, IsNone, IsTrue, Some};
+ghost use Rattle.typst_base.specs.KindClasses.{is_block_kind, is_grouping_kind, is_keyword_kind, is_stmt_kind, is_terminator_kind, is_trivia_kind};
 ghost use Rattle.typst_base.specs.KindNumber.{number_of};
 ghost use Rattle.typst_base.specs.declared.kind.SyntaxKind.{SyntaxKind};
 ghost use Rattle.typst_base.specs.declared.kind.SyntaxKind.TheVariants.{Error};
@@ -286,22 +288,17 @@ const KINDS: [SyntaxKind; 137] = [
     SyntaxKind::DestructAssignment,
 ];
 
+/// # Numbers
 impl SyntaxKind {
-    /// Whether this is the kind of errors.
-    pub fn is_error(self) -> bool
-        ensures { IsTrue result ↔ (self ≡ Error) }
-    {
-        self == SyntaxKind::Error
-    }
-
-    /// The kind's number, from 0 to 136.
+    /// The kind's number, from 0 to 136, in the order of the variants.
     pub fn to_u8(self) -> u8
-        ensures { result ≡ number_of self }
+        ensures is { result ≡ number_of self }
+        ensures small { result < 137 }
     {
         self as u8
     }
 
-    /// The kind with this number, if there is one.
+    /// The kind with this number, or `None` from 137 on.
     pub fn from_u8(raw: u8) -> Option<SyntaxKind>
         ensures of_its_number { (kind : SyntaxKind) → number_of kind ≡ raw → result ≡ Some kind }
         ensures none { IsNone result ↔ (137 ≤ raw) }
@@ -312,5 +309,108 @@ impl SyntaxKind {
         } else {
             None
         }
+    }
+}
+
+/// # Classes
+impl SyntaxKind {
+    /// The kind of errors.
+    pub fn is_error(self) -> bool
+        ensures { IsTrue result ↔ (self ≡ Error) }
+    {
+        self == SyntaxKind::Error
+    }
+
+    /// A bracket of any shape, opening or closing.
+    pub fn is_grouping(self) -> bool
+        ensures { result ≡ is_grouping_kind self }
+    {
+        matches!(
+            self,
+            SyntaxKind::LeftBrace
+                | SyntaxKind::RightBrace
+                | SyntaxKind::LeftBracket
+                | SyntaxKind::RightBracket
+                | SyntaxKind::LeftParen
+                | SyntaxKind::RightParen
+        )
+    }
+
+    /// What ends an expression: the end of tokens, a semicolon or a closing bracket.
+    pub fn is_terminator(self) -> bool
+        ensures { result ≡ is_terminator_kind self }
+    {
+        matches!(
+            self,
+            SyntaxKind::End
+                | SyntaxKind::RightBrace
+                | SyntaxKind::RightBracket
+                | SyntaxKind::RightParen
+                | SyntaxKind::Semicolon
+        )
+    }
+
+    /// A block of code or of content.
+    pub fn is_block(self) -> bool
+        ensures { result ≡ is_block_kind self }
+    {
+        matches!(self, SyntaxKind::CodeBlock | SyntaxKind::ContentBlock)
+    }
+
+    /// A statement, which a semicolon or a line break ends.
+    pub fn is_stmt(self) -> bool
+        ensures { result ≡ is_stmt_kind self }
+    {
+        matches!(
+            self,
+            SyntaxKind::LetBinding
+                | SyntaxKind::SetRule
+                | SyntaxKind::ShowRule
+                | SyntaxKind::ModuleImport
+                | SyntaxKind::ModuleInclude
+        )
+    }
+
+    /// A keyword.
+    pub fn is_keyword(self) -> bool
+        ensures { result ≡ is_keyword_kind self }
+    {
+        matches!(
+            self,
+            SyntaxKind::Not
+                | SyntaxKind::And
+                | SyntaxKind::Or
+                | SyntaxKind::None
+                | SyntaxKind::Auto
+                | SyntaxKind::Let
+                | SyntaxKind::Set
+                | SyntaxKind::Show
+                | SyntaxKind::Context
+                | SyntaxKind::If
+                | SyntaxKind::Else
+                | SyntaxKind::For
+                | SyntaxKind::In
+                | SyntaxKind::While
+                | SyntaxKind::Break
+                | SyntaxKind::Continue
+                | SyntaxKind::Return
+                | SyntaxKind::Import
+                | SyntaxKind::Include
+                | SyntaxKind::As
+        )
+    }
+
+    /// What a parser passes over: blanks, comments and paragraph breaks.
+    pub fn is_trivia(self) -> bool
+        ensures { result ≡ is_trivia_kind self }
+    {
+        matches!(
+            self,
+            SyntaxKind::Shebang
+                | SyntaxKind::LineComment
+                | SyntaxKind::BlockComment
+                | SyntaxKind::Space
+                | SyntaxKind::Parbreak
+        )
     }
 }

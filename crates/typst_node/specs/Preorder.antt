@@ -11,10 +11,19 @@ preorder (tree l c r) = l ∷ (preorder c ++ preorder r)
 abbrev pub nodes : Tree → List Label
 nodes t = t.label ∷ preorder t.children
 
--- a path is a list of child indices; these are the paths below trees side by side, of which the first has this index
+-- the subtrees of trees side by side, in preorder
+abbrev pub subtrees_of : Forest → List Tree
+subtrees_of none = []
+subtrees_of (tree l c r) = record { label = l; children = c } ∷ (subtrees_of c ++ subtrees_of r)
+
+-- a tree's subtrees, itself included, in preorder
+abbrev pub subtrees : Tree → List Tree
+subtrees t = t ∷ subtrees_of t.children
+
+-- a path is a list of child indices; these are the paths of trees side by side, of which the first has this index
 abbrev pub paths_from : ℕ → Forest → List (List ℕ)
 paths_from i none = []
-paths_from i (tree l c r) = ((i ∷ []) ∷ map (λ p. i ∷ p) (paths_from 0 c)) ++ paths_from (i + 1) r
+paths_from i (tree l c r) = map (λ path. i ∷ path) ([] ∷ paths_from 0 c) ++ paths_from (i + 1) r
 
 -- the paths of a tree's nodes, in preorder
 abbrev pub paths : Tree → List (List ℕ)

@@ -37,6 +37,10 @@ abbrev pub text_there : Option Tree → List ℕ
 text_there None = []
 text_there (Some t) = own_text t.label
 
+-- the paths that stand before a path in preorder
+abbrev pub paths_before : List ℕ → Tree → List (List ℕ)
+paths_before path t = before_first (is_same_path path) (paths t)
+
 -- the byte length of the texts that stand before a path in preorder
 abbrev pub offset : List ℕ → Tree → ℕ
-offset path t = length (flat_map (λ p. text_there (at p t)) (before_first (is_same_path path) (paths t)))
+offset path t = length (flat_map (λ other. text_there (at other t)) (paths_before path t))

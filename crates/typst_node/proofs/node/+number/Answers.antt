@@ -29,8 +29,8 @@ InnerNode::number_below-returns-clause-measured t c =
 
 pub SyntaxNode::number_within-returns-in-Inner-clause-within : goal.SyntaxNode::number_within-returns-in-Inner-clause-within
 SyntaxNode::number_within-returns-in-Inner-clause-within t c =
-    let file : c.from_number-self-inside.result.file ≡ c.args.id = ap (λ s. s.file) c.from_number-self-inside.ensures in
-    let low : c.from_number-self-inside.result.low ≡ c.args.start + c.stride_of-stride.result / 2 = ap (λ s. s.low) c.from_number-self-inside.ensures in
+    let file : c.from_number-self-inside.result.file ≡ c.args.id = ap (λ s. s.file) c.from_number-self-inside.ensures.is in
+    let low : c.from_number-self-inside.result.low ≡ c.args.start + c.stride_of-stride.result / 2 = ap (λ s. s.low) c.from_number-self-inside.ensures.is in
     let many : c.deref_mut.result.now.descendants ≡ c.deref.result.now.descendants = ap (λ x. x.descendants) c.deref_mut.ensures.value ∙ sym (ap (λ x. x.descendants) c.deref.ensures) in
     (file, omega arith, within_wider c.args.id _ _ _ _ _ c.number_below.ensures.within (omega arith) (rw many (omega arith)), omega arith)
 
@@ -65,7 +65,7 @@ number::number_all-loop-i-preserved t c =
 
 pub SyntaxNode::number_within-returns-in-Inner-clause-half : goal.SyntaxNode::number_within-returns-in-Inner-clause-half
 SyntaxNode::number_within-returns-in-Inner-clause-half t c inner room =
-    let low : c.from_number-self-inside.result.low ≡ c.args.start + c.stride_of-stride.result / 2 = ap (λ s. s.low) c.from_number-self-inside.ensures in
+    let low : c.from_number-self-inside.result.low ≡ c.args.start + c.stride_of-stride.result / 2 = ap (λ s. s.low) c.from_number-self-inside.ensures.is in
     let many : c.deref_mut.result.now.descendants ≡ c.deref.result.now.descendants = ap (λ x. x.descendants) c.deref_mut.ensures.value ∙ sym (ap (λ x. x.descendants) c.deref.ensures) in
     let all : c.deref.result.now.descendants ≡ count c.args.self.now = ap (λ x. x.descendants) c.deref.ensures ∙ inner_count c.self.inside c.in-Inner.inner c.args.self.now c.in-Inner.is c.self.invariant c.self.view_is in
     let half = c.stride_of-stride.ensures.half (rw all room) in

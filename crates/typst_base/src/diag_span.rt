@@ -1,0 +1,181 @@
+// Spans of diagnostics.
+ghost use Rattle.std.specs.Prelude.{◌≡◌, ◌≢◌, ◌<◌, ◌↔◌, IsTrue, None, SomeIff};
+ghost use Rattle.typst_base.specs.DiagSpan.{cut_external_end, external, of_span, sub_range_of};
+ghost use Rattle.typst_base.specs.DiagSpanKind.{diag_kind_of, to_bytes};
+ghost use Rattle.typst_base.specs.Span.{detached};
+ghost use Rattle.typst_base.specs.SubRange.{interval};
+
+use crate::span::{FileId, Span, SpanNumber};
+use crate::sub_range::SubRange;
+use std::marker::Model;
+use std::ops::Range;
+
+/// The place that a diagnostic is about: a span with an optional part of it, or a range of a file
+/// that isn't a source file (an external range), whose ends may be larger than a span's.
+#[derive(Clone, Copy, Debug, PartialEq, Eq, Hash)]
+pub struct DiagSpan {
+    span: Span,
+    word: u64,
+}
+
+impl Model for DiagSpan {
+    ghost use Rattle.std.specs.Prelude.{ℕ};
+    ghost use Rattle.typst_base.specs.DiagSpan.{DiagParts, diag_code};
+
+    ghost Value = { DiagParts };
+
+    ghost coded = { diag_code };
+
+    ghost view = { λ a. record { span = a.span; word = a.word } };
+
+    ghost inverse = { λ d. record { span = d.span; word = d.word } };
+}
+
+/// What a diagnostic span points to.
+#[derive(Debug, PartialEq, Eq, Hash, Drop)]
+pub enum DiagSpanKind {
+    /// No place at all.
+    Detached,
+    /// The node with this number in this file, or a part of it.
+    Number {
+        /// The file.
+        id: FileId,
+        /// The node's number.
+        num: SpanNumber,
+        /// The part of the node, or `None` for the whole node.
+        sub_range: Option<SubRange>,
+    },
+    /// These bytes of this file.
+    Range {
+        /// The file.
+        id: FileId,
+        /// The bytes, from the start up to, not including, the end.
+        range: Range<usize>,
+    },
+}
+
+/// # Making a diagnostic span
+impl DiagSpan {
+    /// The diagnostic span that points nowhere.
+    pub(crate) const NOWHERE: DiagSpan = DiagSpan {
+        span: Span::NOWHERE,
+        word: 0,
+    };
+
+    /// The low value of an external range that starts at 0.
+    const EXTERNAL_BASE: u64 = 1 << 47;
+
+    /// The largest end of an external range, 2^46 - 1.
+    const EXTERNAL_MAX: u64 = (1 << 46) - 1;
+
+    /// The diagnostic span that points nowhere.
+    pub fn detached() -> DiagSpan
+        ensures { result ≡ of_span detached None }
+    {
+        DiagSpan::from_span(Span::detached(), None)
+    }
+
+    /// The span of these bytes of a file that isn't a source file. Each end is cut to 2^46 - 1.
+    pub fn from_range(id: FileId, range: Range<usize>) -> DiagSpan
+        ensures is { result ≡ external id range.start range.end }
+        ensures comes_back { diag_kind_of result
+            ≡ to_bytes id
+            (interval (cut_external_end range.start) (cut_external_end range.end)) }
+    {
+        let start = (range.start as u64).min(Self::EXTERNAL_MAX);
+        let end = (range.end as u64).min(Self::EXTERNAL_MAX);
+        DiagSpan {
+            span: Span::from_parts(id, Self::EXTERNAL_BASE + start),
+            word: end,
+        }
+    }
+
+    /// This span, or the given part of it.
+    pub fn from_span(span: Span, sub_range: Option<SubRange>) -> DiagSpan
+        ensures is { result ≡ of_span span sub_range }
+        ensures part_comes_back { sub_range_of result.word ≡ sub_range }
+    {
+        let word = match sub_range {
+            Some(part) => {
+                let part = part.to_relative();
+                ((part.start as u64) << 32) + part.end as u64
+            }
+            None => 0,
+        };
+        DiagSpan { span, word }
+    }
+}
+
+/// # Reading a diagnostic span
+impl DiagSpan {
+    /// Whether its span points nowhere.
+    pub fn is_detached(self) -> bool
+        ensures { IsTrue result ↔ (self.span ≡ detached) }
+    {
+        self.span.is_detached()
+    }
+
+    /// The file, or `None` for a span without one.
+    pub fn id(self) -> Option<FileId>
+        ensures { SomeIff result (0 < self.span.file) self.span.file }
+    {
+        self.span.id()
+    }
+
+    /// What the diagnostic span points to.
+    ///
+    /// The part of a span that is a range is answered as a range, counted as the range is.
+    pub fn get(self) -> DiagSpanKind
+        ensures { result ≡ diag_kind_of self }
+    {
+        let Some(id) = self.id() else {
+            return DiagSpanKind::Detached;
+        };
+        let low = self.span.number();
+        if low < Self::EXTERNAL_BASE {
+            return DiagSpanKind::Number {
+                id,
+                num: SpanNumber(low),
+                sub_range: self.sub_range(),
+            };
+        }
+        if low < Span::RANGE_BASE {
+            return DiagSpanKind::Range {
+                id,
+                range: (low - Self::EXTERNAL_BASE) as usize..self.word as usize,
+            };
+        }
+        let whole = Span::range_of(low);
+        let range = match self.sub_range() {
+            Some(part) => part.to_absolute(whole.start),
+            None => whole,
+        };
+        DiagSpanKind::Range { id, range }
+    }
+
+    /// The part that the word stands for.
+    fn sub_range(self) -> Option<SubRange>
+        ensures { result ≡ sub_range_of self.word }
+    {
+        SubRange::new((self.word >> 32) as usize, (self.word % (1 << 32)) as usize)
+    }
+
+    /// This diagnostic span, or the other one if this one is detached.
+    pub fn or(self, other: DiagSpan) -> DiagSpan
+        ensures detached_gives_other { self.span ≡ detached → result ≡ other }
+        ensures else_itself { self.span ≢ detached → result ≡ self }
+    {
+        if self.is_detached() { other } else { self }
+    }
+}
+
+impl From<Span> for DiagSpan {
+    ghost use Rattle.std.specs.Prelude.{◌≡◌, None};
+    ghost use Rattle.typst_base.specs.DiagSpan.{of_span};
+
+    ghost from_gives = { λ s d. d ≡ of_span s None };
+
+    fn from(span: Span) -> DiagSpan {
+        DiagSpan::from_span(span, None)
+    }
+}
