@@ -1,10 +1,11 @@
 // Carries out the commands of a script.
-ghost use Rattle.std.specs.Prelude.{ℕ, ◌≡◌, ◌≢◌, ◌<◌, ◌≤◌, ◌^◌, List, [], length, OnOk, IfErr, IsErrOf, IsNone, Err, ◌↔◌};
+ghost use Rattle.std.specs.Prelude.{ℕ, ◌≡◌, ◌≢◌, ◌<◌, ◌≤◌, ◌^◌, ◌-◌, ◌↔◌, List, [], length, drop, OnOk, IfErr, IsErrOf, IsNone, IsOk, Err};
 ghost use Rattle.typst_base.specs.declared.kind.SyntaxKind.TheVariants.{Error};
+ghost use Rattle.typst_node.specs.Count.{SumsFit};
 ghost use Rattle.typst_tree_main.specs.Command.{IsLineOf};
 ghost use Rattle.typst_tree_main.specs.declared.command.Command.{Command};
 ghost use Rattle.typst_tree_main.specs.declared.command.Command.TheVariants.{Leaf, Inner, Root, Number};
-ghost use Rattle.typst_tree_main.specs.declared.fault.Fault.TheVariants.{BadCommand, Memory};
+ghost use Rattle.typst_tree_main.specs.declared.fault.Fault.TheVariants.{BadCommand, Memory, Overflow};
 
 use crate::command::Command;
 use crate::fault::Fault;
@@ -47,9 +48,12 @@ impl Interpreter {
         text: &str,
         out: &mut W,
     ) -> Result<(), Fault>
-        ensures skipped { text.now ≡ [] → (self.new.stack.items ≡ self.old.stack.items) × (self.new.tree ≡ self.old.tree) }
+        ensures skipped { text.now ≡ [] → IsOk result × (self.new.stack.items ≡ self.old.stack.items)
+            × (self.new.tree ≡ self.old.tree) }
         ensures done { OnOk result (text.now ≢ []
             → (command : Command) × IsLineOf command text.now × IsDone command self.old self.new) }
+        ensures no_command { text.now ≢ [] → ((command : Command) → ¬ (IsLineOf command text.now))
+            → result ≡ Err (BadCommand line) }
     {
         self.line = line;
         if text.is_empty() {
@@ -100,6 +104,8 @@ impl Interpreter {
         requires { kind ≢ Error }
         ensures done { OnOk result (IsDone (Inner kind count) self.old self.new) }
         ensures bad { IsErrOf result (BadCommand self.old.line) ↔ (length self.old.stack.items < count) }
+        ensures overflow { IsErrOf result Overflow
+            → ¬ (SumsFit (drop (length self.old.stack.items - count) self.old.stack.items)) }
     {
         let start = self
             .stack
