@@ -9,6 +9,17 @@ use std::str;
 const MOST_BYTES: u64 = 1 << 40;
 
 /// Runs a script to its end or its first fault. What was printed before a fault is written too.
+///
+/// A script is lines of UTF-8 that end in LF or at the end of input, each a [`Command`](crate::command::Command) or
+/// empty. They are done one by one, so a fault counts only once the lines before it are done.
+///
+/// `BadCommand` comes from a line that is no command, or asks for nodes or a tree that aren't there; `Read` from the
+/// reader, from a line that isn't UTF-8, and from input that goes on behind 2^40 bytes; `Write` from the writer;
+/// `Memory` where memory runs out; `Overflow` where the sums of an inner node pass a `usize`.
+///
+/// Reading and writing go through buffers. A line takes time in proportion to its bytes, and `inner`, `number` and
+/// `show` also in proportion to the nodes that they take, number and print. A leaf asks for memory once, and the stack
+/// now and then as it grows.
 pub fn run<R: Read + Drop, W: Write + Drop>(
     alloc: Global,
     reader: R,
@@ -17,7 +28,7 @@ pub fn run<R: Read + Drop, W: Write + Drop>(
     run_within(alloc, reader, writer, MOST_BYTES)
 }
 
-/// Runs a script of at most so many bytes.
+/// Runs a script of at most so many bytes: input that goes on behind them is a fault of reading.
 pub(crate) fn run_within<R: Read + Drop, W: Write + Drop>(
     alloc: Global,
     reader: R,
