@@ -10,3 +10,4 @@ pub mod Digits
 pub mod Weights
 pub mod Rising
 pub mod Searching
+pub mod Covers

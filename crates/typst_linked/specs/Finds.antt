@@ -44,3 +44,9 @@ abbrev pub AreLooksForSpan : SpanKind → Place → ℕ → Type 0
 AreLooksForSpan Detached place looks = looks ≡ 0
 AreLooksForSpan (Number id num) place looks = AreLooksFor num.0 place looks
 AreLooksForSpan (Range id range) place looks = looks ≡ 0
+
+-- only a search by a number reads a number at each step
+abbrev pub HasLookEachStepFor : SpanKind → Place → ℕ → Option Place → Type 0
+HasLookEachStepFor Detached place looks answer = answer ≡ None
+HasLookEachStepFor (Number id num) place looks answer = HasLookEachStep place looks answer
+HasLookEachStepFor (Range id range) place looks answer = looks ≡ 0

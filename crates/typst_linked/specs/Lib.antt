@@ -6,5 +6,7 @@ pub mod Children
 pub mod Siblings
 pub mod Search
 pub mod Floor
+pub mod Part
 pub mod Ranges
 pub mod Finds
+pub mod Leaves

@@ -21,10 +21,9 @@ IsFirstCover start end place i = Covers start end (child_place place i) × ((j :
 
 -- On this path from a place each step goes to the first child whose range covers the wanted one, its end has exactly
 -- the wanted range, and no earlier node has.
-pub record IsRangePath (start end : ℕ) (place : Place) (path : List ℕ) : Type 0 where
-  pub exact : HasRange start end (below place path)
-  pub steps : (p q : List ℕ) (i : ℕ) → path ≡ p ++ i ∷ q → IsFirstCover start end (below place p) i
-  pub earlier : (p q : List ℕ) (i : ℕ) → path ≡ p ++ i ∷ q → ¬ (HasRange start end (below place p))
+abbrev pub IsRangePath : ℕ → ℕ → Place → List ℕ → Type 0
+IsRangePath start end place [] = HasRange start end place
+IsRangePath start end place (i ∷ path) = ¬ (HasRange start end place) × IsFirstCover start end place i × IsRangePath start end (child_place place i) path
 
 -- the answer to a search by a range: the place that such a path leads to, or there is no such path
 abbrev pub FindsRange : ℕ → ℕ → Place → Option Place → Type 0

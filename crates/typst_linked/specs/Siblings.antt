@@ -1,12 +1,12 @@
 -- The siblings of a place.
-use Rattle.std.specs.Prelude.{ℕ, zero, suc, ◌+◌, ◌-◌, List, [], ◌∷◌, length, take, drop, reverse, Option, None, Some, Bool, not, nat_lt, if◌then◌else◌}
+use Rattle.std.specs.Prelude.{ℕ, zero, suc, ◌+◌, ◌-◌, List, [], ◌∷◌, length, take, drop, reverse, slice_get, Option, None, Some, Bool, not, nat_lt, if◌then◌else◌}
 use Rattle.std.specs.List.{position_from}
 use Rattle.std.specs.Option.{option_map, option_and_then}
 use Rattle.typst_base.specs.declared.kind.SyntaxKind.{SyntaxKind}
 use Rattle.typst_base.specs.KindClasses.{is_trivia_kind}
 use Rattle.typst_node.specs.Tree.{Tree, trees, kind_of}
 use Rattle.typst_node.specs.Preorder.{at}
-use Rattle.typst_linked.specs.Place.{Place, subtree, child_place, last_step}
+use Rattle.typst_linked.specs.Place.{Place, child_place, last_step}
 
 abbrev pub kind_at : Tree → SyntaxKind
 kind_at t = kind_of t.label.content
@@ -28,13 +28,17 @@ abbrev pub children_of : Option Tree → List Tree
 children_of None = []
 children_of (Some t) = trees t.children
 
-abbrev pub siblings_at : Tree → List ℕ → List Tree
-siblings_at root [] = []
-siblings_at root (i ∷ path) = children_of (at (front (i ∷ path)) root)
+-- the subtree at a path's parent; a root has none
+abbrev pub parent_at : Tree → List ℕ → Option Tree
+parent_at root [] = None
+parent_at root (i ∷ path) = at (front (i ∷ path)) root
+
+abbrev pub parent_tree : Place → Option Tree
+parent_tree place = parent_at place.root place.path
 
 -- the children of a place's parent; a root has no siblings
 abbrev pub siblings : Place → List Tree
-siblings place = siblings_at place.root place.path
+siblings place = children_of (parent_tree place)
 
 -- The index of another tree of a list, seen from an index: of the tree directly before, of the one directly behind,
 -- of the nearest before whose kind isn't trivia, and of the nearest behind.
@@ -56,4 +60,8 @@ abbrev pub sibling : (ℕ → List Tree → Option ℕ) → Place → Option Pla
 sibling pick place = option_map (child_place (parent_place place)) (pick (last_step place.path) (siblings place))
 
 abbrev pub sibling_kind : (ℕ → List Tree → Option ℕ) → Place → Option SyntaxKind
-sibling_kind pick place = option_and_then (λ other. option_map kind_at (subtree other)) (sibling pick place)
+sibling_kind pick place = option_and_then (λ i. option_map kind_at (slice_get (siblings place) i)) (pick (last_step place.path) (siblings place))
+
+-- the parent's kind
+abbrev pub parent_kind_of : Place → Option SyntaxKind
+parent_kind_of place = option_map kind_at (parent_tree place)

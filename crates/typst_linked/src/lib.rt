@@ -12,3 +12,5 @@ mod halving;
 mod looks;
 mod node;
 mod siblings;
+#[cfg(test)]
+mod tests;

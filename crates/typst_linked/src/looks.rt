@@ -1,5 +1,7 @@
 // How much a search reads.
-ghost use Rattle.std.specs.Prelude.{◌≡◌, ◌+◌, ◌<◌, ◌≤◌, ◌^◌};
+ghost use Rattle.std.specs.Prelude.{◌≡◌, ◌+◌, ◌<◌, ◌≤◌, ◌^◌, length, take};
+ghost use Rattle.typst_node.specs.Tree.{trees};
+ghost use Rattle.typst_node.specs.Text.{text_of_all};
 ghost use Rattle.typst_node.specs.Labels.{number};
 
 use std::marker::Model;
@@ -43,5 +45,16 @@ impl Looks {
     {
         self.count += 1;
         node.span().number()
+    }
+
+    // Reads the end of a node's child and counts it.
+    pub(crate) fn end_of(&mut self, node: &SyntaxNode, index: usize) -> usize
+        requires room { self.old + 1 < 2 ^ 64 }
+        requires child { index < length (trees node.now.children) }
+        ensures end { result ≡ length (text_of_all (take (index + 1) (trees node.now.children))) }
+        ensures counted { self.new ≡ self.old + 1 }
+    {
+        self.count += 1;
+        node.child_end(index)
     }
 }

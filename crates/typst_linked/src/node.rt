@@ -3,10 +3,13 @@ ghost use Rattle.std.specs.Prelude.{◌≡◌, ◌+◌, ◌<◌, ◌≤◌, [], 
 ghost use Rattle.typst_node.specs.Tree.{Tree, trees};
 ghost use Rattle.typst_node.specs.Text.{text, text_of_all, offset};
 ghost use Rattle.typst_linked.specs.Place.{subtree, child_place, last_step, HasChild, BeginsAt};
+ghost use Rattle.std.specs.Option.{ForSome};
+ghost use Rattle.typst_linked.specs.Part.{IsPart};
 ghost use Rattle.typst_linked.specs.Siblings.{siblings};
 ghost use Rattle.typst_linked.specs.Children.{IsAllOf};
 
 use crate::children::LinkedChildren;
+use crate::floor::Part;
 use std::alloc::{AllocError, Global};
 use std::marker::Model;
 use std::ops::{Deref, Range};
@@ -166,6 +169,15 @@ impl<'a> LinkedNode<'a> {
         let begin = child_begin(self.node, index);
         let parent = Rc::new(alloc, self)?;
         Ok(LinkedNode::child_at(parent, index, begin))
+    }
+
+    // The same for a child of which it is known where its text begins.
+    pub(crate) fn into_part(self, alloc: Global, part: Part) -> Result<Self, AllocError>
+        requires { ForSome (subtree self) (λ t. IsPart (trees t.children) part) }
+        ensures { IfOk result (λ l. l ≡ child_place self.entry part.index) }
+    {
+        let parent = Rc::new(alloc, self)?;
+        Ok(LinkedNode::child_at(parent, part.index, part.begin))
     }
 }
 
