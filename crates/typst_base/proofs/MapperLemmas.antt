@@ -1,14 +1,13 @@
 -- What the kept segments of a mapper say of the positions.
-use Rattle.std.proofs.Common.{◌≡◌, ◌≢◌, ℕ, zero, suc, ◌+◌, ◌-◌, ◌*◌, ◌<◌, ◌≤◌, Bool, true, false, ◌||◌, List, [], ◌∷◌, ◌++◌, length, map, get_or, drop, take, refl, ap, sym, ◌∙◌, arith, subst, Option, Some, None, nat_lt, if◌then◌else◌, inl, inr, ◌⊎◌, length-append, append_assoc, add-one, leb, leb-true}
-use Rattle.std.proofs.Math.Seq.{drop-cons}
+use Rattle.std.proofs.Common.{◌≡◌, ℕ, zero, suc, ◌+◌, ◌-◌, ◌<◌, ◌≤◌, true, false, List, [], ◌∷◌, ◌++◌, length, get_or, drop, refl, ap, sym, ◌∙◌, arith, subst, Some, inl, inr, length-append, leb, leb-true}
 use Rattle.std.proofs.lemmas.Bool.Decides.{nat_tests, leb_tells}
 use Rattle.std.specs.List.Sorted.{IsNonDecreasingBy, IsPartitionPoint}
 use Rattle.std.proofs.lemmas.List.{append-nil, drop_all, get_or_append_left, get_or-append_right}
 use Rattle.std.proofs.lemmas.List.FromFn.{length-range_with_len, get_or-range_with_len}
 use Rattle.std.proofs.lemmas.Option.{get_or_from_slice_get, slice_get_within}
-use Rattle.std.specs.List.{flat_map, range_with_len, slice_get}
+use Rattle.std.specs.List.{flat_map, slice_get}
 use Rattle.std.specs.declared.ops.Range.{Range}
-use Rattle.typst_base.specs.Mapping.{first_invalid, positions_of}
+use Rattle.typst_base.specs.Mapping.{positions_of}
 use Rattle.typst_base.specs.Segments.{ranges, running}
 use Rattle.typst_base.specs.declared.mapper.Segment.{Segment}
 

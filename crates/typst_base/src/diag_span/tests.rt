@@ -2,6 +2,7 @@
 use crate::diag_span::{DiagSpan, DiagSpanKind};
 use crate::span::{FileId, Span, SpanNumber};
 use crate::sub_range::SubRange;
+use std::ops::Range;
 
 #[test]
 fn external_ranges_come_back_with_their_ends_cut(rt: HostRuntime) {
@@ -29,30 +30,43 @@ fn external_ranges_come_back_with_their_ends_cut(rt: HostRuntime) {
     }
 }
 
+/// The bytes that a range span and a part of it point to, or `0..0` if they point to none.
+fn bytes_of(range: Range<usize>, part: Option<SubRange>) -> Range<usize> {
+    let Some(id) = FileId::new(1) else {
+        return 0..0;
+    };
+    match DiagSpan::from_span(Span::from_range(id, range), part).get() {
+        DiagSpanKind::Range { range, .. } => range,
+        _ => 0..0,
+    }
+}
+
 #[test]
-fn a_part_of_a_span_is_kept(rt: HostRuntime) {
+fn a_part_of_a_range_is_counted_as_the_range_is(rt: HostRuntime) {
+    assert!(rt; bytes_of(10..20, SubRange::new(2, 5)) == (12..15));
+    assert!(rt; bytes_of(10..20, None) == (10..20));
+}
+
+#[test]
+fn a_part_of_a_node_is_kept(rt: HostRuntime) {
     let id = FileId::new(1).expect(&rt, "an id");
-    let part = SubRange::new(2, 5);
-    let range = Span::from_range(id, 10..20);
-    let within = DiagSpan::from_span(range, part).get();
-    assert!(rt; within == DiagSpanKind::Range { id, range: 12..15 });
-    let whole = DiagSpan::from_span(range, None).get();
-    assert!(rt; whole == DiagSpanKind::Range { id, range: 10..20 });
-    let num = SpanNumber(5);
-    let node = Span::from_number(id, num);
-    let numbered = DiagSpanKind::Number {
-        id,
-        num,
-        sub_range: SubRange::new(2, 5),
-    };
-    assert!(rt; DiagSpan::from_span(node, part).get() == numbered);
+    let node = Span::from_number(id, SpanNumber(5));
+    match DiagSpan::from_span(node, SubRange::new(2, 5)).get() {
+        DiagSpanKind::Number { num, sub_range, .. } => {
+            assert_eq!(rt; num.0, 5);
+            let part = sub_range.expect(&rt, "a part").to_relative();
+            assert!(rt; part == (2..5));
+        }
+        _ => panic!(rt; "no number"),
+    }
     let plain: DiagSpan = node.into();
-    let whole_node = DiagSpanKind::Number {
-        id,
-        num,
-        sub_range: None,
-    };
-    assert!(rt; plain.get() == whole_node);
+    match plain.get() {
+        DiagSpanKind::Number { num, sub_range, .. } => {
+            assert_eq!(rt; num.0, 5);
+            assert!(rt; sub_range.is_none());
+        }
+        _ => panic!(rt; "no number"),
+    }
 }
 
 #[test]
