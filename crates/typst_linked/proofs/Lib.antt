@@ -11,3 +11,4 @@ pub mod Weights
 pub mod Rising
 pub mod Searching
 pub mod Covers
+pub mod Walks

@@ -6,7 +6,7 @@ use Rattle.std.proofs.lemmas.List.{take_more, reverse-append}
 use Rattle.typst_node.specs.Tree.{Tree, trees}
 use Rattle.typst_node.specs.Preorder.{at}
 use Rattle.typst_linked.specs.Place.{Place, subtree, child_place}
-use Rattle.typst_linked.specs.Siblings.{front, siblings, children_of, is_solid, solid_before, solid_behind, parent_place}
+use Rattle.typst_linked.specs.Siblings.{front, siblings, children_of, is_solid, solid_before, solid_behind, parent_place, parent_tree, parent_at}
 use Rattle.typst_linked.proofs.Firsts.{bool_cases}
 
 front-cons : (i j : ℕ) (p : List ℕ) → front (i ∷ (p ++ j ∷ [])) ≡ i ∷ front (p ++ j ∷ [])
@@ -23,6 +23,13 @@ parent_of_child p i = λ x. record { root = p.root; path = front-push p.path i x
 siblings_below : (root : Tree) (p : List ℕ) (i : ℕ) → siblings (record { root = root; path = p ++ i ∷ [] }) ≡ children_of (at p root)
 siblings_below root [] i = refl
 siblings_below root (j ∷ p) i = ap (λ q. children_of (at q root)) (front-push (j ∷ p) i)
+
+pub parent_tree-child : (p : Place) (i : ℕ) → parent_tree (child_place p i) ≡ subtree p
+parent_tree-child p i = above p.root p.path i
+  where
+    above : (root : Tree) (p : List ℕ) (i : ℕ) → parent_at root (p ++ i ∷ []) ≡ at p root
+    above root [] i = refl
+    above root (j ∷ p) i = ap (λ q. at q root) (front-push (j ∷ p) i)
 
 -- the siblings of a child are its parent's children
 pub siblings-child : (p : Place) (i : ℕ) (t : Tree) → subtree p ≡ Some t → siblings (child_place p i) ≡ trees t.children

@@ -93,7 +93,7 @@ has_other wanted m h = elim (bool_cases (has_number wanted m)) [
 ]
 
 -- what is found below a place is found in its subtree
-found_at : (search : Tree → Option (List ℕ)) (start : Place) (s : Tree) (answer : Option (List ℕ)) → subtree start ≡ Some s → search s ≡ answer → found_below search start ≡ option_map (below start) answer
+pub found_at : (search : Tree → Option (List ℕ)) (start : Place) (s : Tree) (answer : Option (List ℕ)) → subtree start ≡ Some s → search s ≡ answer → found_below search start ≡ option_map (below start) answer
 found_at search start s answer hs e = ap (λ o. option_map (below start) (option_and_then search o)) hs ∙ ap (option_map (below start)) e
 
 -- it is there

@@ -16,11 +16,16 @@ use std::ops::{Deref, Range};
 use std::rc::Rc;
 use typst_node::SyntaxNode;
 
+/// A node of a borrowed tree that knows its parents, its index among its siblings and where its text begins.
+///
+/// Parents are shared, so a clone takes no memory: its only error is that the parent is shared too often.
 #[derive(Drop)]
 pub struct LinkedNode<'a> {
     node: &'a SyntaxNode,
     parent: Option<Rc<LinkedNode<'a>>>,
+    // Among the parent's children; 0 for a root.
     index: usize,
+    // In bytes from the beginning of the root's text.
     offset: usize,
 }
 
@@ -127,7 +132,7 @@ impl<'a> LinkedNode<'a> {
 
 /// # Children
 impl<'a> LinkedNode<'a> {
-    /// The children, in order and from both ends.
+    /// The children, in order and from both ends. Only want of memory is an error.
     pub fn children(&self, alloc: Global) -> Result<LinkedChildren<'a>, AllocError>
         ensures { IfOk result (IsAllOf self.now) }
     {

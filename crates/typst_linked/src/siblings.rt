@@ -2,7 +2,7 @@
 ghost use Rattle.std.specs.Prelude.{◌≡◌, ◌+◌, ◌<◌, ◌≤◌, length, IfOk, IfSome};
 ghost use Rattle.std.specs.Option.{option_map, ForSome};
 ghost use Rattle.typst_linked.specs.Place.{child_place, last_step};
-ghost use Rattle.typst_linked.specs.Siblings.{parent_place, before_it, behind_it, solid_before, solid_behind, siblings, sibling, sibling_kind};
+ghost use Rattle.typst_linked.specs.Siblings.{parent_place, before_it, behind_it, solid_before, solid_behind, siblings, sibling, sibling_kind, parent_kind_of};
 
 use crate::node::LinkedNode;
 use std::alloc::AllocError;
@@ -40,6 +40,38 @@ impl<'a> LinkedNode<'a> {
         ensures { IfOk result (λ r. r ≡ sibling behind_it self.now) }
     {
         self.sibling_at(next_index(self.siblings(), self.index()))
+    }
+
+    /// The kind of the parent.
+    pub fn parent_kind(&self) -> Option<SyntaxKind>
+        ensures { result ≡ parent_kind_of self.now }
+    {
+        let Some(parent) = self.parent() else {
+            return None;
+        };
+        Some(parent.get().kind())
+    }
+
+    /// The kind of the nearest sibling before this node whose kind isn't trivia.
+    pub fn prev_sibling_kind(&self) -> Option<SyntaxKind>
+        ensures { result ≡ sibling_kind solid_before self.now }
+    {
+        let siblings = self.siblings();
+        let Some(index) = last_solid(siblings, self.index()) else {
+            return None;
+        };
+        Some(siblings[index].kind())
+    }
+
+    /// The kind of the nearest sibling behind this node whose kind isn't trivia.
+    pub fn next_sibling_kind(&self) -> Option<SyntaxKind>
+        ensures { result ≡ sibling_kind solid_behind self.now }
+    {
+        let siblings = self.siblings();
+        let Some(index) = first_solid(siblings, self.index()) else {
+            return None;
+        };
+        Some(siblings[index].kind())
     }
 
     // The child of the parent with an index, if one is given.
