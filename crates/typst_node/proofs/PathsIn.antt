@@ -42,7 +42,7 @@ child_within file a b (t ∷ ts) (suc i) d h w =
     let low = within_le file (number t.label + 1) (bound t.label) t.children w.2 in
     within_wider file (bound t.label) b a b (tree_forest (get_or ts i d)) rest (omega (arith, w.1)) (omega arith)
 
-child_numbered : (t : Tree) (i : ℕ) → i < length (trees t.children) → IsNumbered t → IsNumbered (get_or (trees t.children) i no_tree)
+pub child_numbered : (t : Tree) (i : ℕ) → i < length (trees t.children) → IsNumbered t → IsNumbered (get_or (trees t.children) i no_tree)
 child_numbered t i h n =
     let w = within_from_numbered n.0 t n.2 in
     let kids : IsWithin n.0 (number t.label + 1) (bound t.label) (forest (trees t.children)) = subst (IsWithin n.0 (number t.label + 1) (bound t.label)) (sym (forest-trees t.children)) w.2 in
