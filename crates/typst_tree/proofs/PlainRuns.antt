@@ -24,8 +24,8 @@ set_map h (suc i) x (y ∷ ys) = ap (λ zs. h y ∷ zs) (set_map h i x ys)
 splice_alike : (ts us others : List Tree) (from to : ℕ) → map plain ts ≡ map plain us → map plain (splice ts from to others) ≡ map plain (splice us from to others)
 splice_alike ts us others from to same =
     let parts : (vs : List Tree) → map plain (splice vs from to others) ≡ take from (map plain vs) ++ (map plain others ++ drop to (map plain vs)) = λ vs.
-        map-append plain (take from vs) (others ++ drop to vs)
-        ∙ (λ i. sym (take-map plain from vs) i ++ (map-append plain others (drop to vs) ∙ ap (λ ws. map plain others ++ ws) (sym (drop_map plain to vs))) i) in
+    map-append plain (take from vs) (others ++ drop to vs)
+    ∙ (λ i. sym (take-map plain from vs) i ++ (map-append plain others (drop to vs) ∙ ap (λ ws. map plain others ++ ws) (sym (drop_map plain to vs))) i) in
     parts ts ∙ (ap (λ vs. take from vs ++ (map plain others ++ drop to vs)) same ∙ sym (parts us))
 
 whole_alike : (l m : Label) (ts us : List Tree) → plain_label l ≡ plain_label m → map plain ts ≡ map plain us

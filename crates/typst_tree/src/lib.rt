@@ -18,8 +18,6 @@ pub use typst_base::{
     SpanKind, SpanNumber, Spanned, SubRange, SyntaxKind, SyntaxMode, SyntaxSet, named_sets,
 };
 pub use typst_linked::{LinkedChildren, LinkedNode, Looks};
-pub use typst_node::{
-    Diagnosis, InnerError, Renumbered, ReplaceError, SyntaxNode, Unnumberable,
-};
+pub use typst_node::{Diagnosis, InnerError, Renumbered, ReplaceError, SyntaxNode, Unnumberable};
 
 pub mod session;

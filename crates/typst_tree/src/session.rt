@@ -1,9 +1,13 @@
 // Runs of replacements and searches on one tree.
-ghost use Rattle.std.specs.Prelude.{◌≡◌, ◌++◌, ◌↔◌, IsTrue, IfOk};
+ghost use Rattle.std.specs.Prelude.{◌≡◌, ◌++◌, ◌↔◌, ℕ, List, Some, IsTrue, IfOk};
+ghost use Rattle.typst_linked.specs.Search.{with_number};
+ghost use Rattle.typst_node.specs.Labels.{number};
 ghost use Rattle.typst_node.specs.Numbered.{IsNumbered, IsNumberedFor};
+ghost use Rattle.typst_node.specs.Paths.{IsPath, tree_at};
 ghost use Rattle.typst_node.specs.Plain.{plain};
 ghost use Rattle.typst_tree.specs.Step.{Step, FitsInner};
 ghost use Rattle.typst_tree.specs.Found.{TellsPlace};
+ghost use Rattle.typst_tree.specs.Kept.{IsKept};
 ghost use Rattle.typst_tree.specs.Run.{Answers, Run, edited_by};
 ghost use Rattle.typst_tree.specs.declared.session.Request.TheVariants.{Find, Replace};
 
@@ -31,7 +35,7 @@ pub enum Request {
 }
 
 /// What became of a request.
-#[derive(Drop)]
+#[derive(Debug, PartialEq, Eq, Drop)]
 pub enum Reply {
     /// The children were replaced, and this window was numbered anew.
     Renumbered(Renumbered),
@@ -73,6 +77,12 @@ pub fn run(alloc: Global, root: &mut SyntaxNode, slots: &mut [Slot])
     ensures run { Run root.old slots.old slots.new root.new }
     ensures numbered { IsNumberedFor root.old.label.span.file root.new }
     ensures plain { plain root.new ≡ plain (edited_by slots.old slots.new root.old) }
+    ensures kept { (p q : List ℕ) → IsPath p root.old
+        → IsKept root.old slots.old slots.new root.new p q
+        → IsPath q root.new × ((tree_at q root.new).label ≡ (tree_at p root.old).label) }
+    ensures found_again { (p q : List ℕ) → IsPath p root.old
+        → IsKept root.old slots.old slots.new root.new p q
+        → with_number (number (tree_at p root.old).label) root.new ≡ Some q }
 {
     for slot in slots.iter_mut() {
         answer(alloc, root, slot);
