@@ -21,3 +21,5 @@ pub use typst_linked::{LinkedChildren, LinkedNode, Looks};
 pub use typst_node::{Diagnosis, InnerError, Renumbered, ReplaceError, SyntaxNode, Unnumberable};
 
 pub mod session;
+#[cfg(test)]
+mod tests;
