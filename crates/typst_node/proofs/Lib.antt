@@ -16,3 +16,4 @@ pub mod Settled
 pub mod Paths
 pub mod Offsets
 pub mod Firsts
+pub mod Same

@@ -12,6 +12,7 @@ use typst_base::{Span, SyntaxKind};
 
 pub mod build;
 pub mod copy;
+pub mod equal;
 mod inner;
 pub mod number;
 mod renumber;
