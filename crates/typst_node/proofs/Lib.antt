@@ -17,3 +17,4 @@ pub mod Paths
 pub mod Offsets
 pub mod Firsts
 pub mod Same
+pub mod Fed

@@ -26,3 +26,4 @@ pub mod Sites
 pub mod Stale
 pub mod Change
 pub mod Outside
+pub mod Hashed

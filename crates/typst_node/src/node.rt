@@ -13,6 +13,7 @@ use typst_base::{Span, SyntaxKind};
 pub mod build;
 pub mod copy;
 pub mod equal;
+pub mod hash;
 mod inner;
 pub mod number;
 mod renumber;
