@@ -20,3 +20,5 @@ pub mod HintLemmas
 pub mod Each
 pub mod Relabelled
 pub mod SynthesizedLemmas
+pub mod Same
+pub mod Fed

@@ -8,7 +8,7 @@ use Rattle.typst_node.specs.Tree.{Tree}
 use Rattle.typst_node.specs.Count.{SumsFit}
 use Rattle.typst_node.specs.Plain.{plain}
 use Rattle.typst_node.specs.Equal.{tree_eq, tree_same, tree_eq_same}
-use Rattle.typst_node.specs.ChangedChildren.{one_more_if, common_first, common_last, kept_first, kept_last}
+use Rattle.typst_node.specs.ChangedChildren.{IsCommonBeginning, one_more_if, common_first, common_last, kept_first, kept_last}
 use Rattle.typst_node.proofs.Plain.{same_text_of_all, same_count_of_all}
 
 not_true : (b : Bool) → ¬ (b ≡ true) → b ≡ false
@@ -55,6 +55,9 @@ first_longest (t ∷ ts) (u ∷ us) (suc n) h k e =
 
 pub first_ends : (t u : Tree) (ts us : List Tree) → ¬ (plain t ≡ plain u) → common_first (t ∷ ts) (u ∷ us) ≡ 0
 first_ends t u ts us n = ap (λ b. one_more_if b (common_first ts us)) (not_true (tree_eq (plain t) (plain u)) (λ e. n (tree_same (plain t) (plain u) e)))
+
+pub common_first_is : (ts us : List Tree) → IsCommonBeginning ts us (common_first ts us)
+common_first_is ts us = record { alike = first_alike ts us; longest = first_longest ts us }
 
 pub first_none : (ts us : List Tree) → length us ≤ 0 → common_first ts us ≡ 0
 first_none [] us h = refl

@@ -1,5 +1,5 @@
 -- What stays of the children that are replaced: those that the replacement has alike, at its beginning and at its end.
-use Rattle.std.specs.Prelude.{ℕ, suc, ◌+◌, List, [], ◌∷◌, drop, reverse, Bool, true, false, slice_range}
+use Rattle.std.specs.Prelude.{ℕ, ◌≡◌, suc, ◌+◌, ◌≤◌, List, [], ◌∷◌, length, map, take, drop, reverse, Bool, true, false, slice_range}
 use Rattle.typst_node.specs.Tree.{Tree}
 use Rattle.typst_node.specs.Plain.{plain}
 use Rattle.typst_node.specs.Equal.{tree_eq}
@@ -14,6 +14,11 @@ abbrev pub common_first : List Tree → List Tree → ℕ
 common_first [] us = 0
 common_first (t ∷ ts) [] = 0
 common_first (t ∷ ts) (u ∷ us) = one_more_if (tree_eq (plain t) (plain u)) (common_first ts us)
+
+-- so many trees at the beginning of both lists have equal plain trees, and no longer beginnings have
+pub record IsCommonBeginning (ts us : List Tree) (n : ℕ) : Type 0 where
+  pub alike : map plain (take n ts) ≡ map plain (take n us)
+  pub longest : (m : ℕ) → m ≤ length ts → m ≤ length us → map plain (take m ts) ≡ map plain (take m us) → m ≤ n
 
 -- the length of the longest common ending
 abbrev pub common_last : List Tree → List Tree → ℕ

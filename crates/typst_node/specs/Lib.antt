@@ -30,3 +30,4 @@ pub mod Warnings
 pub mod Hints
 pub mod Synthesized
 pub mod Diagnostics
+pub mod Hashed

@@ -12,6 +12,8 @@ use typst_base::{Span, SubRange, SyntaxKind};
 
 pub mod build;
 pub mod copy;
+pub mod equal;
+pub mod hash;
 mod inner;
 pub mod number;
 mod renumber;

@@ -6,7 +6,7 @@ ghost use Rattle.typst_node.specs.View.{hint_text, warning_text, content, below}
 use crate::node::{Hint, Node, SyntaxNode, Warning};
 use typst_base::SyntaxKind;
 
-fn same_kind(kind: SyntaxKind, other: SyntaxKind) -> bool
+pub(super) fn same_kind(kind: SyntaxKind, other: SyntaxKind) -> bool
     ensures { IsTrue result ↔ (kind ≡ other) }
 {
     kind == other
@@ -18,7 +18,7 @@ fn same_hint(hint: &Hint, other: &Hint) -> bool
     hint.text.as_str() == other.text.as_str() && hint.sub_range == other.sub_range
 }
 
-fn same_hints(hints: &[Hint], others: &[Hint]) -> bool
+pub(super) fn same_hints(hints: &[Hint], others: &[Hint]) -> bool
     ensures { IsTrue result ↔ (map hint_text hints.now ≡ map hint_text others.now) }
 {
     if hints.len() != others.len() {
@@ -40,7 +40,7 @@ fn same_warning(warning: &Warning, other: &Warning) -> bool
         && same_hints(&warning.hints, &other.hints)
 }
 
-fn same_warnings(warnings: &[Warning], others: &[Warning]) -> bool
+pub(super) fn same_warnings(warnings: &[Warning], others: &[Warning]) -> bool
     ensures { IsTrue result ↔ (map warning_text warnings.now ≡ map warning_text others.now) }
 {
     if warnings.len() != others.len() {
@@ -54,8 +54,10 @@ fn same_warnings(warnings: &[Warning], others: &[Warning]) -> bool
     true
 }
 
+/// # Comparing trees
 impl SyntaxNode {
-    /// Whether the two nodes are the same apart from spans and bounds.
+    /// Whether both trees are the same apart from spans and bounds: the same kinds, texts, messages, hints and
+    /// warnings, with their sub-ranges. It takes time in proportion to the smaller tree at most, and no memory.
     #[cycle(alike)]
     pub fn spanless_eq(&self, other: &SyntaxNode) -> bool
         ensures { IsTrue result ↔ (plain self.now ≡ plain other.now) }
@@ -95,8 +97,9 @@ impl Node {
     }
 }
 
+/// Whether both lists hold the same trees apart from spans and bounds.
 #[cycle(alike)]
-pub(crate) fn all_alike(nodes: &[SyntaxNode], others: &[SyntaxNode]) -> bool
+fn all_alike(nodes: &[SyntaxNode], others: &[SyntaxNode]) -> bool
     ensures { IsTrue result ↔ (map plain nodes.now ≡ map plain others.now) }
 {
     if nodes.len() != others.len() {

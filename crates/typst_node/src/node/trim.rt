@@ -1,12 +1,13 @@
 // What stands alike at the beginning and at the end of two lists of nodes.
-ghost use Rattle.std.specs.Prelude.{◌≡◌, ◌+◌, ◌-◌, ◌≤◌, length, slice_range};
-ghost use Rattle.typst_node.specs.ChangedChildren.{common_first, common_last};
+ghost use Rattle.std.specs.Prelude.{◌≡◌, ◌+◌, ◌-◌, ◌≤◌, length, reverse, slice_range};
+ghost use Rattle.typst_node.specs.ChangedChildren.{IsCommonBeginning, common_first, common_last};
 
 use crate::node::SyntaxNode;
 
-// How many nodes stand alike at the beginning of both.
-pub(crate) fn count_common_first(nodes: &[SyntaxNode], others: &[SyntaxNode]) -> usize
+/// How many nodes stand alike at the beginning of both.
+pub(super) fn count_common_first(nodes: &[SyntaxNode], others: &[SyntaxNode]) -> usize
     ensures is { result ≡ common_first nodes.now others.now }
+    ensures longest { IsCommonBeginning nodes.now others.now result }
     ensures within { result ≤ length nodes.now }
     ensures within_others { result ≤ length others.now }
 {
@@ -19,9 +20,10 @@ pub(crate) fn count_common_first(nodes: &[SyntaxNode], others: &[SyntaxNode]) ->
     most
 }
 
-// How many nodes stand alike at the end of both.
-pub(crate) fn count_common_last(nodes: &[SyntaxNode], others: &[SyntaxNode]) -> usize
+/// How many nodes stand alike at the end of both.
+pub(super) fn count_common_last(nodes: &[SyntaxNode], others: &[SyntaxNode]) -> usize
     ensures is { result ≡ common_last nodes.now others.now }
+    ensures longest { IsCommonBeginning (reverse nodes.now) (reverse others.now) result }
     ensures within { result ≤ length nodes.now }
     ensures within_others { result ≤ length others.now }
 {
@@ -34,8 +36,8 @@ pub(crate) fn count_common_last(nodes: &[SyntaxNode], others: &[SyntaxNode]) -> 
     most
 }
 
-// Drops some nodes at the beginning, and at the end.
-pub(crate) fn trim(nodes: &mut Vec<SyntaxNode>, first: usize, last: usize)
+/// Drops some nodes at the beginning, and at the end. It takes no memory.
+pub(super) fn trim(nodes: &mut Vec<SyntaxNode>, first: usize, last: usize)
     requires { first + last ≤ length nodes.old.items }
     ensures { nodes.new.items ≡ slice_range nodes.old.items first (length nodes.old.items - last) }
 {

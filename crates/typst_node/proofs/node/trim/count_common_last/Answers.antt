@@ -1,7 +1,8 @@
-use Rattle.std.proofs.Common.{◌≡◌, get_or, reverse, arith, ap, sym, ◌∙◌, rules}
+use Rattle.std.proofs.Common.{◌≡◌, get_or, reverse, arith, ap, sym, ◌∙◌, rules, subst}
 use Rattle.std.proofs.lemmas.List.{get_or-reverse, length-reverse}
 use Rattle.typst_node.specs.Plain.{plain}
-use Rattle.typst_node.proofs.Trimmed.{first_step, first_stop, first_done}
+use Rattle.typst_node.specs.ChangedChildren.{IsCommonBeginning}
+use Rattle.typst_node.proofs.Trimmed.{common_first_is, first_step, first_stop, first_done}
 use Rattle.typst_node.proofs.node.trim.count_common_last.Goals as goal
 
 pub returns-then-not-spanless_eq-clause-is : goal.returns-then-not-spanless_eq-clause-is
@@ -35,3 +36,9 @@ returns-clause-is c =
     let ts = c.args.nodes.now in
     let us = c.args.others.now in
     omega (arith, first_done (reverse ts) (reverse us) c.loop-i.i (omega (arith, length-reverse ts)) (omega (arith, length-reverse us)) (omega (arith, length-reverse ts, length-reverse us)))
+
+pub returns-then-not-spanless_eq-clause-longest : goal.returns-then-not-spanless_eq-clause-longest
+returns-then-not-spanless_eq-clause-longest c = subst (IsCommonBeginning (reverse c.args.nodes.now) (reverse c.args.others.now)) (sym (returns-then-not-spanless_eq-clause-is c)) (common_first_is (reverse c.args.nodes.now) (reverse c.args.others.now))
+
+pub returns-clause-longest : goal.returns-clause-longest
+returns-clause-longest c = subst (IsCommonBeginning (reverse c.args.nodes.now) (reverse c.args.others.now)) (sym (returns-clause-is c)) (common_first_is (reverse c.args.nodes.now) (reverse c.args.others.now))
