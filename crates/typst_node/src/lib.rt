@@ -20,3 +20,5 @@ pub use node::number::Unnumberable;
 
 pub mod diagnosis;
 pub mod node;
+#[cfg(test)]
+mod tests;
