@@ -79,6 +79,7 @@ searching_down w s start here wanted looks looks' i c x sl most later cost few l
       let second = narrow file x.node c i wanted on sl (λ k e l se. later rise k e (omega arith) se) first.0 m first.2 low high in
       (second.0, first.1 ∙ ap (λ (p : List ℕ). x.done ++ p) second.1 ∙ sym (append_assoc x.done (i ∷ []) second.0), second.2);
 }
+
 up_to : (n m : ℕ) → m ≤ n → nat_le m n ≡ true
 up_to n m h = grind (arith, nat_tests)
 
@@ -103,9 +104,9 @@ searching_found w s start here wanted looks hs x is num =
     let on = (node_in_order o.0 x.done s x.node o.1 x.node_is).2 in
     let last : (p : List ℕ) (m : Tree) → at p x.node ≡ Some m → number m.label ≤ number x.node.label → p ≡ [] = only o.0 on in
     let there : with_number wanted s ≡ Some x.done = first_path_only (has_number wanted) s x.node x.done x.node_is (eq-eqb (number x.node.label) wanted is) (λ q m e t.
-        let n = eqb-true (number m.label) wanted t in
-        let f = x.narrowed o.0 o.1 q m e (omega arith) (omega arith) in
-        f.1 ∙ ap (λ (p : List ℕ). x.done ++ p) (last f.0 m f.2 (omega arith)) ∙ append-nil x.done) in
+    let n = eqb-true (number m.label) wanted t in
+    let f = x.narrowed o.0 o.1 q m e (omega arith) (omega arith) in
+    f.1 ∙ ap (λ (p : List ℕ). x.done ++ p) (last f.0 m f.2 (omega arith)) ∙ append-nil x.done) in
     ap Some x.place_is ∙ sym (found_at (with_number wanted) start s (Some x.done) hs there)
   where
     only : (file : ℕ) → IsInOrder file x.node → (p : List ℕ) (m : Tree) → at p x.node ≡ Some m → number m.label ≤ number x.node.label → p ≡ []
@@ -119,11 +120,11 @@ searching_none w s start here wanted looks hs x ne later num =
     let o = numbered_order s num in
     let on = (node_in_order o.0 x.done s x.node o.1 x.node_is).2 in
     let absent : with_number wanted s ≡ None = first_path_none (has_number wanted) s (λ q m e. has_other wanted m (λ n.
-        let f = x.narrowed o.0 o.1 q m e (omega (arith, x.most)) (omega arith) in
-        let root = stop o.0 x.node wanted on (λ k c se. later (rise_of o.0 x.node on) k c (omega arith) se) f.0 m f.2 (omega arith) in
-        let here : Some x.node ≡ Some m = ap (λ (p : List ℕ). at p x.node) (sym root) ∙ f.2 in
-        let same : x.node ≡ m = cc in
-        ne (ap (λ (t : Tree). number t.label) same ∙ n))) in
+    let f = x.narrowed o.0 o.1 q m e (omega (arith, x.most)) (omega arith) in
+    let root = stop o.0 x.node wanted on (λ k c se. later (rise_of o.0 x.node on) k c (omega arith) se) f.0 m f.2 (omega arith) in
+    let here : Some x.node ≡ Some m = ap (λ (p : List ℕ). at p x.node) (sym root) ∙ f.2 in
+    let same : x.node ≡ m = cc in
+    ne (ap (λ (t : Tree). number t.label) same ∙ n))) in
     sym (found_at (with_number wanted) start s None hs absent)
 
 -- no number is below the start's

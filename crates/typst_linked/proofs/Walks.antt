@@ -115,6 +115,7 @@ last_path-children test t n h e =
     take_all : (ts : List Tree) → take (length ts) ts ≡ ts
     take_all [] = refl
     take_all (u ∷ ts) = ap (λ us. u ∷ us) (take_all ts)
+
     or_none : (o : Option (List ℕ)) → option_or o None ≡ o
     or_none None = refl
     or_none (Some p) = refl

@@ -109,12 +109,7 @@ impl<'a> LinkedNode<'a> {
         range.start == start && range.end == end
     }
 
-    fn into_range(
-        self,
-        alloc: Global,
-        start: usize,
-        end: usize,
-    ) -> Result<Option<Self>, AllocError>
+    fn into_range(self, alloc: Global, start: usize, end: usize) -> Result<Option<Self>, AllocError>
         ensures { IfOk result (FindsRange start end self.entry) }
     {
         if self.has_range(start, end) {
@@ -141,5 +136,9 @@ fn first_cover(node: &SyntaxNode, range: Range<usize>, start: usize, end: usize)
     let Some(part) = first_ending(node, goal, &mut looks) else {
         return None;
     };
-    if range.start + part.begin <= start { Some(part) } else { None }
+    if range.start + part.begin <= start {
+        Some(part)
+    } else {
+        None
+    }
 }

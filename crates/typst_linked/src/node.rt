@@ -191,7 +191,11 @@ fn child_begin(node: &SyntaxNode, index: usize) -> usize
     requires { index < length (trees node.now.children) }
     ensures { result ≡ length (text_of_all (take index (trees node.now.children))) }
 {
-    if index == 0 { 0 } else { node.child_end(index - 1) }
+    if index == 0 {
+        0
+    } else {
+        node.child_end(index - 1)
+    }
 }
 
 impl<'a> Clone for LinkedNode<'a> {

@@ -92,7 +92,11 @@ fn next_index(nodes: &[SyntaxNode], index: usize) -> Option<usize>
     ensures index { result ≡ behind_it index nodes.now }
     ensures within { IfSome result (λ i. i < length nodes.now) }
 {
-    if index + 1 < nodes.len() { Some(index + 1) } else { None }
+    if index + 1 < nodes.len() {
+        Some(index + 1)
+    } else {
+        None
+    }
 }
 
 // The index of the last node before an index whose kind isn't trivia.

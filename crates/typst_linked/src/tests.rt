@@ -15,11 +15,7 @@ fn leaf(alloc: Global, kind: SyntaxKind, text: &str) -> Result<SyntaxNode, Fail>
     Ok(SyntaxNode::leaf(alloc, kind, text)?)
 }
 
-fn inner(
-    alloc: Global,
-    kind: SyntaxKind,
-    children: Vec<SyntaxNode>,
-) -> Result<SyntaxNode, Fail>
+fn inner(alloc: Global, kind: SyntaxKind, children: Vec<SyntaxNode>) -> Result<SyntaxNode, Fail>
     requires { kind ≢ kinds.Error }
 {
     Ok(SyntaxNode::inner(alloc, kind, children)?)
@@ -43,7 +39,11 @@ fn text_around_nothing(alloc: Global) -> Result<SyntaxNode, Fail> {
     let first = leaf(alloc, SyntaxKind::Text, "ab")?;
     let nothing = inner(alloc, SyntaxKind::Markup, Vec::new(alloc))?;
     let second = leaf(alloc, SyntaxKind::Text, "c")?;
-    inner(alloc, SyntaxKind::Markup, vec![in alloc; first, nothing, second]?)
+    inner(
+        alloc,
+        SyntaxKind::Markup,
+        vec![in alloc; first, nothing, second]?,
+    )
 }
 
 /// Markup of the texts `a` and `b` with a blank between them.
@@ -51,7 +51,11 @@ fn text_around_space(alloc: Global) -> Result<SyntaxNode, Fail> {
     let first = leaf(alloc, SyntaxKind::Text, "a")?;
     let space = leaf(alloc, SyntaxKind::Space, " ")?;
     let second = leaf(alloc, SyntaxKind::Text, "b")?;
-    inner(alloc, SyntaxKind::Markup, vec![in alloc; first, space, second]?)
+    inner(
+        alloc,
+        SyntaxKind::Markup,
+        vec![in alloc; first, space, second]?,
+    )
 }
 
 #[test]
@@ -93,7 +97,13 @@ fn siblings_pass_over_trivia(rt: HostRuntime) -> Result<(), Fail> {
     assert_eq!(rt; first.next_sibling_kind(), Some(SyntaxKind::Text));
     let space = first.next_sibling_with_trivia()?.ok_or("no sibling")?;
     assert_eq!(rt; space.range(), 1..2);
-    assert_eq!(rt; second.prev_sibling_with_trivia()?.ok_or("no sibling")?.index(), 1);
+    assert_eq!(rt;
+        second
+            .prev_sibling_with_trivia()?
+            .ok_or("no sibling")?
+            .index(),
+        1
+    );
     assert_eq!(rt; second.prev_sibling()?.ok_or("no sibling")?.index(), 0);
     assert_eq!(rt; second.prev_sibling_kind(), Some(SyntaxKind::Text));
     assert!(rt; second.next_sibling()?.is_none() && second.next_sibling_kind().is_none());
@@ -114,7 +124,10 @@ fn a_number_is_found_whatever_its_file(rt: HostRuntime) -> Result<(), Fail> {
     }
     let three = root.find(alloc, Span::from_number(file(1)?, SpanNumber(3)))?;
     assert!(rt; three.ok_or("not found")?.parent().is_none());
-    assert!(rt; root.find(alloc, Span::from_number(file(1)?, SpanNumber(6)))?.is_none());
+    assert!(rt;
+        root.find(alloc, Span::from_number(file(1)?, SpanNumber(6)))?
+            .is_none()
+    );
     assert!(rt; root.find(alloc, Span::detached())?.is_none());
     Ok(())
 }
@@ -134,9 +147,15 @@ fn a_search_counts_its_looks(rt: HostRuntime) -> Result<(), Fail> {
     let below = Span::from_number(file(1)?, SpanNumber(2));
     assert!(rt; root.find_counted(alloc, below, &mut looks)?.is_none());
     assert_eq!(rt; looks.count(), 1);
-    assert!(rt; root.find_counted(alloc, Span::from_range(file(1)?, 0..3), &mut looks)?.is_some());
+    assert!(rt;
+        root.find_counted(alloc, Span::from_range(file(1)?, 0..3), &mut looks)?
+            .is_some()
+    );
     assert_eq!(rt; looks.count(), 0);
-    assert!(rt; root.find_counted(alloc, Span::detached(), &mut looks)?.is_none());
+    assert!(rt;
+        root.find_counted(alloc, Span::detached(), &mut looks)?
+            .is_none()
+    );
     assert_eq!(rt; looks.count(), 0);
     Ok(())
 }
@@ -146,15 +165,31 @@ fn a_range_is_found_below_the_first_cover(rt: HostRuntime) -> Result<(), Fail> {
     let alloc = rt.alloc();
     let tree = text_around_nothing(alloc)?;
     let root = LinkedNode::new(&tree);
-    assert!(rt; root.find(alloc, Span::from_range(file(1)?, 2..2))?.is_none());
-    let c = root.find(alloc, Span::from_range(file(1)?, 2..3))?.ok_or("not found")?;
+    assert!(rt;
+        root.find(alloc, Span::from_range(file(1)?, 2..2))?
+            .is_none()
+    );
+    let c = root
+        .find(alloc, Span::from_range(file(1)?, 2..3))?
+        .ok_or("not found")?;
     assert_eq!(rt; c.index(), 2);
     assert_eq!(rt; c.leaf_text(), "c");
     let tree = two_texts(alloc)?;
     let root = LinkedNode::new(&tree);
-    assert!(rt; root.find(alloc, Span::from_range(file(1)?, 5..3))?.is_none());
-    assert!(rt; root.find_range(alloc, 0, 3)?.ok_or("not found")?.parent().is_none());
-    assert_eq!(rt; root.find_range(alloc, 0, 2)?.ok_or("not found")?.index(), 0);
+    assert!(rt;
+        root.find(alloc, Span::from_range(file(1)?, 5..3))?
+            .is_none()
+    );
+    assert!(rt;
+        root.find_range(alloc, 0, 3)?
+            .ok_or("not found")?
+            .parent()
+            .is_none()
+    );
+    assert_eq!(rt;
+        root.find_range(alloc, 0, 2)?.ok_or("not found")?.index(),
+        0
+    );
     assert!(rt; root.find_range(alloc, 1, 2)?.is_none());
     Ok(())
 }

@@ -11,9 +11,9 @@ pub returns-in_default : goal.returns-in_default
 returns-in_default t c =
     let n = c.get.result.now in
     let out : HasRange c.args.start c.args.end c.args.self → ⊥ = λ k.
-        let yes = (c.has_range.ensures n c.get.ensures).1 (range_there c.args.start c.args.end c.args.self n c.get.ensures k) in
-        let bad : true ≡ false = sym yes ∙ c.if-has_range.false in
-        cc in
+    let yes = (c.has_range.ensures n c.get.ensures).1 (range_there c.args.start c.args.end c.args.self n c.get.ensures k) in
+    let bad : true ≡ false = sym yes ∙ c.if-has_range.false in
+    cc in
     range_none c.args.start c.args.end c.args.self out (c.in_default.ensures c.args.self c.get.ensures (sym c.range.ensures.start))
 
 pub into_range-requires : goal.into_range-requires
@@ -28,9 +28,9 @@ pub returns : goal.returns
 returns t c =
     let n = c.get.result.now in
     let out : HasRange c.args.start c.args.end c.args.self → ⊥ = λ k.
-        let yes = (c.has_range.ensures n c.get.ensures).1 (range_there c.args.start c.args.end c.args.self n c.get.ensures k) in
-        let bad : true ≡ false = sym yes ∙ c.if-has_range.false in
-        cc in
+    let yes = (c.has_range.ensures n c.get.ensures).1 (range_there c.args.start c.args.end c.args.self n c.get.ensures k) in
+    let bad : true ≡ false = sym yes ∙ c.if-has_range.false in
+    cc in
     let found = c.in-Some.ensures c.args.self c.get.ensures (sym c.range.ensures.start) in
     IfOk-weaker c.into_range.result (FindsRange c.args.start c.args.end c.in_ok-child.child) (FindsRange c.args.start c.args.end c.args.self)
     (λ r f. range_step c.args.start c.args.end c.args.self c.in_ok-child.child c.in-Some.part.index r c.in_ok-child.ensures out found.0 f) c.into_range.ensures
