@@ -12,6 +12,7 @@ pub mod Codes
 pub mod View
 pub mod Smaller
 pub mod Sums
+pub mod Views
 pub mod Equal
 pub mod Paths
 pub mod PlainEdit

@@ -13,12 +13,14 @@
 //! ```
 #![tactic(auto)]
 
+pub use ast_node::{AstNode, span_of};
 pub use diagnosis::Diagnosis;
 pub use node::SyntaxNode;
 pub use node::build::InnerError;
 pub use node::number::Unnumberable;
 pub use node::replace::{Renumbered, ReplaceError};
 
+pub mod ast_node;
 pub mod diagnosis;
 mod exchange;
 pub mod node;
