@@ -4,15 +4,16 @@ use Rattle.std.proofs.Common.{ap}
 use Rattle.std.specs.List.{flat_map}
 use Rattle.std.specs.Hash as fed
 use Rattle.std.specs.Hash.{HashWrites}
+use Rattle.std.specs.declared.ops.Range.{Range as Interval}
 use Rattle.typst_base.specs.Span.{SpanParts}
 use Rattle.typst_base.specs.KindNumber.{number_of}
 use Rattle.typst_node.specs.Equal.{tree_eq, tree_same}
 use Rattle.typst_node.specs.Tree.{HintText, WarningText, Content, AsLeaf, AsError, AsInner, Label, Forest, none, tree, Tree, trees}
 
 -- of a sub-range: whether there is one, and its ends
-abbrev pub sub_range_input : Option (ℕ × ℕ) → HashWrites
+abbrev pub sub_range_input : Option (Interval ℕ) → HashWrites
 sub_range_input None = fed.u8 0
-sub_range_input (Some r) = fed.u8 1 ++ (fed.u32 r.0 ++ fed.u32 r.1)
+sub_range_input (Some r) = fed.u8 1 ++ (fed.usize r.start ++ fed.usize r.end)
 
 -- of a hint
 abbrev pub hint_input : HintText → HashWrites

@@ -5,16 +5,17 @@ ghost use Rattle.typst_node.specs.View.{hint_text, warning_text, content};
 
 use crate::node::{Hint, Node, SyntaxNode, Warning};
 use std::hash::{Hash, Hasher};
-use typst_base::Span;
+use typst_base::{Span, SubRange};
 
-fn feed_sub_range<H: Hasher>(sub_range: Option<(u32, u32)>, state: &mut H)
+fn feed_sub_range<H: Hasher>(sub_range: Option<SubRange>, state: &mut H)
     ensures { state.new ≡ fold H.write state.old (sub_range_input sub_range) }
 {
     match sub_range {
-        Some((start, end)) => {
+        Some(part) => {
+            let part = part.to_relative();
             state.write_u8(1);
-            state.write_u32(start);
-            state.write_u32(end);
+            state.write_usize(part.start);
+            state.write_usize(part.end);
         }
         None => state.write_u8(0),
     }
