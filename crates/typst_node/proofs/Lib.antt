@@ -8,3 +8,5 @@ pub mod HintLemmas
 pub mod Each
 pub mod Relabelled
 pub mod SynthesizedLemmas
+pub mod DiagnosticLemmas
+pub mod ConvertedLemmas

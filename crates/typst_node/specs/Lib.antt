@@ -16,3 +16,5 @@ pub mod Warnings
 pub mod Hints
 pub mod Synthesized
 pub mod Diagnostics
+pub mod Reported
+pub mod Converted

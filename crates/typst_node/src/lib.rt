@@ -16,6 +16,7 @@
 pub use diagnosis::Diagnosis;
 pub use node::SyntaxNode;
 pub use node::build::InnerError;
+pub use node::diagnostics::SyntaxDiagnostic;
 pub use node::number::Unnumberable;
 
 pub mod diagnosis;

@@ -11,6 +11,9 @@ use std::marker::Model;
 use typst_base::{Span, SubRange, SyntaxKind};
 
 pub mod build;
+pub mod convert;
+mod debug;
+pub mod diagnostics;
 mod inner;
 pub mod number;
 pub mod synthesize;
