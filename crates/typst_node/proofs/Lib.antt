@@ -22,3 +22,5 @@ pub mod Relabelled
 pub mod SynthesizedLemmas
 pub mod Same
 pub mod Fed
+pub mod DiagnosticLemmas
+pub mod ConvertedLemmas

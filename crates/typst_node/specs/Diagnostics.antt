@@ -1,5 +1,5 @@
 -- What a tree reports: errors and warnings, with their places.
-use Rattle.std.specs.Prelude.{ℕ, Bool, true, false, List, [], ◌∷◌, map, Option, Some, None, string_bytes}
+use Rattle.std.specs.Prelude.{ℕ, Bool, true, false, List, [], ◌∷◌, map, Option, Some, None}
 use Rattle.std.specs.declared.ops.Range.{Range}
 use Rattle.std.specs.List.{flat_map}
 use Rattle.typst_base.specs.Span.{SpanParts, detached}
@@ -36,10 +36,18 @@ warning_report span w = record {
   hints = map (placed span) w.hints;
 }
 
+-- the report of an error with this span
+abbrev pub error_report : SpanParts → List ℕ → List HintText → Report
+error_report span message hints = record {
+  is_error = true;
+  place = of_span span None;
+  message = message;
+  hints = map (placed span) hints;
+}
+
 abbrev pub error_reports : SpanParts → Content → List Report
 error_reports span (AsLeaf kind text) = []
-error_reports span (AsError text message hints) =
-    record { is_error = true; place = of_span span None; message = message; hints = map (placed span) hints } ∷ []
+error_reports span (AsError text message hints) = error_report span message hints ∷ []
 error_reports span (AsInner kind bound) = []
 
 -- a node's error, if it is one

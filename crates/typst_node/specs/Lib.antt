@@ -32,3 +32,5 @@ pub mod Hints
 pub mod Synthesized
 pub mod Diagnostics
 pub mod Hashed
+pub mod Reported
+pub mod Converted

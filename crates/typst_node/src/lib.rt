@@ -17,6 +17,7 @@ pub use ast_node::{AstNode, span_of};
 pub use diagnosis::Diagnosis;
 pub use node::SyntaxNode;
 pub use node::build::InnerError;
+pub use node::diagnostics::SyntaxDiagnostic;
 pub use node::number::Unnumberable;
 pub use node::replace::{Renumbered, ReplaceError};
 

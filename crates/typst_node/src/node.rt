@@ -11,7 +11,10 @@ use std::marker::Model;
 use typst_base::{Span, SubRange, SyntaxKind};
 
 pub mod build;
+pub mod convert;
 pub mod copy;
+mod debug;
+pub mod diagnostics;
 pub mod equal;
 pub mod hash;
 mod inner;
@@ -23,10 +26,10 @@ pub mod replace_at;
 mod replace_tests;
 mod settle;
 pub mod spanless;
-mod trim;
-mod window;
 pub mod synthesize;
+mod trim;
 pub mod warn;
+mod window;
 
 /// A node of a syntax tree: a leaf, an inner node or an error, under any number of warnings.
 ///

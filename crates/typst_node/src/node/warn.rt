@@ -174,7 +174,7 @@ impl SyntaxNode {
     }
 
     /// Adds a hint.
-    fn push_hint(&mut self, hint: Hint) -> Result<(), AllocError>
+    pub(super) fn push_hint(&mut self, hint: Hint) -> Result<(), AllocError>
         requires { CanHint self.old.label }
         ensures ok { OnOk result (self.new ≡ hinted (hint_text hint ∷ []) self.old) }
         ensures err { OnErr result (self.new ≡ self.old) }
