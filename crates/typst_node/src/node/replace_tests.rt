@@ -107,6 +107,7 @@ fn inserting_between_widens_the_window(rt: HostRuntime) -> Result<(), Fail> {
     assert_eq!(rt; tree.full_text(alloc)?.as_str(), "abxc");
     assert_eq!(rt; tree.len(), 4);
     assert_eq!(rt; tree.descendants(), 4);
+    assert!(rt; tree.children().len() == 3);
     assert_eq!(rt;
         (tree.child_end(0), tree.child_end(1), tree.child_end(2)),
         (2, 3, 4)
