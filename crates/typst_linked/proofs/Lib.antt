@@ -12,3 +12,5 @@ pub mod Rising
 pub mod Searching
 pub mod Covers
 pub mod Walks
+pub mod Stops
+pub mod StopsBefore

@@ -43,11 +43,11 @@ differ_below i k q p h = elim (eqb_tells i k) [
   | inr e ↦ ap (λ b. b && is_same_path q p) e.0
 ]
 
-none_below : (i k : ℕ) (q : List ℕ) (ps : List (List ℕ)) → (i ≡ k → ⊥) → list_any (is_same_path (i ∷ q)) (map (λ p. k ∷ p) ps) ≡ false
+pub none_below : (i k : ℕ) (q : List ℕ) (ps : List (List ℕ)) → (i ≡ k → ⊥) → list_any (is_same_path (i ∷ q)) (map (λ p. k ∷ p) ps) ≡ false
 none_below i k q [] h = refl
 none_below i k q (p ∷ ps) h = rw (differ_below i k q p h) (none_below i k q ps h)
 
-any_below : (i : ℕ) (q : List ℕ) (ps : List (List ℕ)) → list_any (is_same_path (i ∷ q)) (map (λ p. i ∷ p) ps) ≡ list_any (is_same_path q) ps
+pub any_below : (i : ℕ) (q : List ℕ) (ps : List (List ℕ)) → list_any (is_same_path (i ∷ q)) (map (λ p. i ∷ p) ps) ≡ list_any (is_same_path q) ps
 any_below i q ps = list_any-map (is_same_path (i ∷ q)) (λ p. i ∷ p) ps ∙ ap (λ (f : List ℕ → Bool). list_any f ps) (λ x p. same_below i q p x)
 
 or_true : (a b : Bool) → a ≡ true → (a || b) ≡ true

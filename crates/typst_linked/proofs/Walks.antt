@@ -44,21 +44,21 @@ first_path-children test t h =
     ap (λ b. cond b (Some []) (find (test_at test t) (paths_from 0 t.children))) h
     ∙ ap (λ f. find (test_at test t) (paths_from 0 f)) (sym (forest-trees t.children))
 
+pub drop_past : (ts : List Tree) (i : ℕ) → length ts ≤ i → drop i ts ≡ []
+drop_past [] zero h = refl
+drop_past [] (suc i) h = refl
+drop_past (u ∷ ts) zero h = absurd (omega arith)
+drop_past (u ∷ ts) (suc i) h = drop_past ts i (omega arith)
+
 -- no child is left
 pub first_from-end : (test : Tree → Bool) (t : Tree) (i : ℕ) → length (trees t.children) ≤ i → first_from test t i ≡ None
 first_from-end test t i h = ap (λ ts. find (test_at test t) (paths_from i (forest ts))) (drop_past (trees t.children) i h)
-  where
-    drop_past : (ts : List Tree) (i : ℕ) → length ts ≤ i → drop i ts ≡ []
-    drop_past [] zero h = refl
-    drop_past [] (suc i) h = refl
-    drop_past (u ∷ ts) zero h = absurd (omega arith)
-    drop_past (u ∷ ts) (suc i) h = drop_past ts i (omega arith)
 
 -- the same from the back
 abbrev pub last_up : (Tree → Bool) → Tree → ℕ → Option (List ℕ)
 last_up test t i = find (test_at test t) (reverse (paths_from 0 (forest (take i (trees t.children)))))
 
-paths_from-push : (k : ℕ) (ts : List Tree) (c : Tree) → paths_from k (forest (ts ++ c ∷ [])) ≡ paths_from k (forest ts) ++ map (λ p. (k + length ts) ∷ p) (paths c)
+pub paths_from-push : (k : ℕ) (ts : List Tree) (c : Tree) → paths_from k (forest (ts ++ c ∷ [])) ≡ paths_from k (forest ts) ++ map (λ p. (k + length ts) ∷ p) (paths c)
 paths_from-push k [] c =
     let z : k ≡ k + 0 = omega arith in
     append-nil (map (λ p. k ∷ p) (paths c)) ∙ ap (λ n. map (λ p. n ∷ p) (paths c)) z
@@ -67,7 +67,7 @@ paths_from-push k (t ∷ ts) c =
     ap (λ ps. map (λ p. k ∷ p) (paths t) ++ ps) (paths_from-push (k + 1) ts c ∙ ap (λ n. paths_from (k + 1) (forest ts) ++ map (λ p. n ∷ p) (paths c)) z)
     ∙ sym (append_assoc (map (λ p. k ∷ p) (paths t)) (paths_from (k + 1) (forest ts)) _)
 
-map-reverse : {X Y : Type 0} (g : X → Y) (xs : List X) → reverse (map g xs) ≡ map g (reverse xs)
+pub map-reverse : {X Y : Type 0} (g : X → Y) (xs : List X) → reverse (map g xs) ≡ map g (reverse xs)
 map-reverse g [] = refl
 map-reverse {X = X} g (x ∷ xs) = reverse-append (g x ∷ []) (map g xs) ∙ ap (λ ys. ys ++ g x ∷ []) (map-reverse g xs) ∙ sym (ap (map g) (reverse-append (x ∷ []) xs) ∙ map-push (reverse xs))
   where
@@ -80,7 +80,7 @@ below_child_last test t c i s =
     ap (find (test_at test t)) (map-reverse (λ p. i ∷ p) (paths c)) ∙ find-map (test_at test t) (λ p. i ∷ p) (reverse (paths c))
     ∙ ap (λ (f : List ℕ → Bool). option_map (λ p. i ∷ p) (find f (reverse (paths c)))) (λ x p. is_there test (if_some (at p) (s x)))
 
-front_length : (ts : List Tree) (i : ℕ) → i ≤ length ts → length (take i ts) ≡ i
+pub front_length : (ts : List Tree) (i : ℕ) → i ≤ length ts → length (take i ts) ≡ i
 front_length ts zero h = refl
 front_length [] (suc i) h = absurd (omega arith)
 front_length (u ∷ ts) (suc i) h = omega (arith, front_length ts i (omega arith))
@@ -121,7 +121,7 @@ last_path-children test t n h e =
     or_none (Some p) = refl
 
 -- what is found below a child, and that nothing is found there
-below_hit : (look : Tree → Option (List ℕ)) (p : Place) (c : Tree) (i : ℕ) (leaf : Place) → subtree (child_place p i) ≡ Some c → Some leaf ≡ found_below look (child_place p i) → (q : List ℕ) × (look c ≡ Some q) × (leaf ≡ below p (i ∷ q))
+pub below_hit : (look : Tree → Option (List ℕ)) (p : Place) (c : Tree) (i : ℕ) (leaf : Place) → subtree (child_place p i) ≡ Some c → Some leaf ≡ found_below look (child_place p i) → (q : List ℕ) × (look c ≡ Some q) × (leaf ≡ below p (i ∷ q))
 below_hit look p c i leaf h e = elim (option_cases (look c)) [
   | inl absent ↦
       let bad : Some leaf ≡ None = e ∙ found_at look (child_place p i) c None h absent in
@@ -132,7 +132,7 @@ below_hit look p c i leaf h e = elim (option_cases (look c)) [
       (q.0, q.1, one ∙ (λ x. record { root = p.root; path = append_assoc p.path (i ∷ []) q.0 x }))
 ]
 
-below_miss : (look : Tree → Option (List ℕ)) (p : Place) (c : Tree) (i : ℕ) → subtree (child_place p i) ≡ Some c → None ≡ found_below look (child_place p i) → look c ≡ None
+pub below_miss : (look : Tree → Option (List ℕ)) (p : Place) (c : Tree) (i : ℕ) → subtree (child_place p i) ≡ Some c → None ≡ found_below look (child_place p i) → look c ≡ None
 below_miss look p c i h e = elim (option_cases (look c)) [
   | inl absent ↦ absent
   | inr q ↦

@@ -1,10 +1,10 @@
 -- Good leaves, and where walks from leaf to leaf stop.
-use Rattle.std.specs.Prelude.{ℕ, ◌==◌, ◌&&◌, List, [], ◌∷◌, reverse, Option, None, Some, Bool, true, false, not, if◌then◌else◌}
+use Rattle.std.specs.Prelude.{ℕ, ◌==◌, ◌&&◌, List, [], ◌∷◌, reverse, take, drop, Option, None, Some, Bool, true, false, not, if◌then◌else◌}
 use Rattle.std.specs.List.{find, before_first, after_first}
 use Rattle.std.specs.Option.{option_map}
 use Rattle.typst_base.specs.KindClasses.{is_trivia_kind}
-use Rattle.typst_node.specs.Tree.{Content, AsLeaf, AsError, AsInner, Tree}
-use Rattle.typst_node.specs.Preorder.{paths, at}
+use Rattle.typst_node.specs.Tree.{Content, AsLeaf, AsError, AsInner, Tree, trees, forest}
+use Rattle.typst_node.specs.Preorder.{paths, paths_from, at}
 use Rattle.typst_node.specs.Text.{is_same_path}
 use Rattle.typst_linked.specs.Place.{Place}
 use Rattle.typst_linked.specs.Search.{is_there}
@@ -36,7 +36,7 @@ leads_to_solid t (Some b) = is_there is_solid (at b t)
 
 -- a good leaf whose branch isn't trivia
 abbrev pub is_stop : Tree → List ℕ → List ℕ → Bool
-is_stop t path other = is_there is_good (at other t) && leads_to_solid t (branch path other)
+is_stop t path other = leads_to_solid t (branch path other) && is_there is_good (at other t)
 
 -- the first stop behind a path in preorder, and the last one before it
 abbrev pub stop_behind : Tree → List ℕ → Option (List ℕ)
@@ -48,3 +48,16 @@ stop_before t path = find (is_stop t path) (reverse (before_first (is_same_path 
 -- the place of another path of the same root
 abbrev pub elsewhere : (Tree → List ℕ → Option (List ℕ)) → Place → Option Place
 elsewhere walk place = option_map (λ path. record { root = place.root; path = path }) (walk place.root place.path)
+
+-- a good leaf of a child that isn't trivia
+abbrev pub is_later : Tree → List ℕ → Bool
+is_later t [] = false
+is_later t (j ∷ path) = is_there is_solid (at (j ∷ []) t) && is_there is_good (at (j ∷ path) t)
+
+-- the first of them among the children from an index on
+abbrev pub later_from : Tree → ℕ → Option (List ℕ)
+later_from t k = find (is_later t) (paths_from k (forest (drop k (trees t.children))))
+
+-- the last of them among the children before an index
+abbrev pub earlier_up : Tree → ℕ → Option (List ℕ)
+earlier_up t k = find (is_later t) (reverse (paths_from 0 (forest (take k (trees t.children)))))

@@ -228,3 +228,41 @@ fn a_thousand_leaves_are_found_by_halving(rt: HostRuntime) -> Result<(), Fail> {
     }
     Ok(())
 }
+
+#[test]
+fn leaves_are_stepped_to_over_trivia(rt: HostRuntime) -> Result<(), Fail> {
+    let alloc = rt.alloc();
+    let tree = text_around_space(alloc)?;
+    let root = LinkedNode::new(&tree);
+    let first = root.leftmost_leaf(alloc)?.ok_or("no leaf")?;
+    assert_eq!(rt; first.leaf_text(), "a");
+    let last = root.rightmost_leaf(alloc)?.ok_or("no leaf")?;
+    assert_eq!(rt; last.leaf_text(), "b");
+    assert_eq!(rt; first.next_leaf(alloc)?.ok_or("no leaf")?.range(), 2..3);
+    assert_eq!(rt; last.prev_leaf(alloc)?.ok_or("no leaf")?.range(), 0..1);
+    assert!(rt; last.next_leaf(alloc)?.is_none() && first.prev_leaf(alloc)?.is_none());
+    let space = first.next_sibling_with_trivia()?.ok_or("no sibling")?;
+    assert!(rt; space.leftmost_leaf(alloc)?.is_none());
+    Ok(())
+}
+
+#[test]
+fn a_sibling_of_trivia_kind_is_passed_over_whole(rt: HostRuntime) -> Result<(), Fail> {
+    let alloc = rt.alloc();
+    let a = leaf(alloc, SyntaxKind::Text, "a")?;
+    let b = leaf(alloc, SyntaxKind::Text, "b")?;
+    let space = inner(alloc, SyntaxKind::Space, vec![in alloc; b]?)?;
+    let c = leaf(alloc, SyntaxKind::Text, "c")?;
+    let tree = inner(alloc, SyntaxKind::Markup, vec![in alloc; a, space, c]?)?;
+    let root = LinkedNode::new(&tree);
+    let first = root.leftmost_leaf(alloc)?.ok_or("no leaf")?;
+    let last = first.next_leaf(alloc)?.ok_or("no leaf")?;
+    assert_eq!(rt; last.leaf_text(), "c");
+    assert_eq!(rt; last.prev_leaf(alloc)?.ok_or("no leaf")?.leaf_text(), "a");
+    let space = first.next_sibling_with_trivia()?.ok_or("no sibling")?;
+    assert_eq!(rt;
+        space.leftmost_leaf(alloc)?.ok_or("no leaf")?.leaf_text(),
+        "b"
+    );
+    Ok(())
+}
