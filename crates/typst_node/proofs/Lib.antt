@@ -10,3 +10,4 @@ pub mod Relabelled
 pub mod SynthesizedLemmas
 pub mod DiagnosticLemmas
 pub mod ConvertedLemmas
+pub mod MappedLemmas

@@ -18,3 +18,4 @@ pub mod Synthesized
 pub mod Diagnostics
 pub mod Reported
 pub mod Converted
+pub mod Mapped

@@ -17,9 +17,12 @@ pub use diagnosis::Diagnosis;
 pub use node::SyntaxNode;
 pub use node::build::InnerError;
 pub use node::diagnostics::SyntaxDiagnostic;
+pub use node::mapped::SynthesizeError;
 pub use node::number::Unnumberable;
 
 pub mod diagnosis;
+#[cfg(test)]
+mod error_tests;
 pub mod node;
 #[cfg(test)]
 mod tests;

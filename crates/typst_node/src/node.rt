@@ -15,6 +15,7 @@ pub mod convert;
 mod debug;
 pub mod diagnostics;
 mod inner;
+pub mod mapped;
 pub mod number;
 pub mod synthesize;
 pub mod warn;
