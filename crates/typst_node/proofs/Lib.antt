@@ -24,3 +24,4 @@ pub mod Same
 pub mod Fed
 pub mod DiagnosticLemmas
 pub mod ConvertedLemmas
+pub mod MappedLemmas

@@ -34,3 +34,4 @@ pub mod Diagnostics
 pub mod Hashed
 pub mod Reported
 pub mod Converted
+pub mod Mapped

@@ -32,9 +32,7 @@ pub trait AstNode<'a>: Copy {
     /// The view of a node, if the node's kind lies in the class.
     fn from_untyped(node: &'a SyntaxNode) -> Option<Self>
         ensures in_class { IsSome result ↔ (class (node_kind node.now) ≡ true) }
-        ensures view {
-            IfSome result (IsViewOf node_of view_kind proper blank (Some node.now))
-        };
+        ensures view { IfSome result (IsViewOf node_of view_kind proper blank (Some node.now)) };
 
     /// The node; none for a placeholder.
     fn to_untyped(self) -> Option<&'a SyntaxNode>
@@ -80,9 +78,7 @@ impl SyntaxNode {
     /// The node's view of this type, if its kind lies in the type's class.
     pub fn cast<'a, T: AstNode<'a>>(&'a self) -> Option<T>
         ensures in_class { IsSome result ↔ (T.class (node_kind self.now) ≡ true) }
-        ensures view {
-            IfSome result (IsViewOf T.node_of T.view_kind T.proper T.blank (Some self.now))
-        }
+        ensures view { IfSome result (IsViewOf T.node_of T.view_kind T.proper T.blank (Some self.now)) }
     {
         T::from_untyped(self)
     }

@@ -18,6 +18,7 @@ pub mod diagnostics;
 pub mod equal;
 pub mod hash;
 mod inner;
+pub mod mapped;
 pub mod number;
 mod renumber;
 pub mod replace;
