@@ -1,2 +1,3 @@
+pub mod MapperLemmas
 pub mod SetLemmas
 pub mod SpanLemmas

@@ -1,5 +1,5 @@
 -- What the two words of a set say of its kinds.
-use Rattle.std.proofs.Common.{◌≡◌, ℕ, zero, suc, ◌+◌, ◌-◌, ◌*◌, ◌/◌, ◌%◌, ◌^◌, ◌<◌, ◌≤◌, ◌≢◌, ◌==◌, ◌||◌, ◌&&◌, not, nat_lt, Bool, true, false, get_or, max, min, refl, ap, sym, ◌∙◌, List, arith, bit_or, bit_and, lit<, if◌then◌else◌, inl, inr, one-mul, mod-eq_of_lt, mod-lt}
+use Rattle.std.proofs.Common.{◌≡◌, ℕ, zero, suc, ◌+◌, ◌-◌, ◌*◌, ◌/◌, ◌%◌, ◌^◌, ◌<◌, ◌≤◌, ◌≢◌, ◌==◌, ◌||◌, ◌&&◌, not, nat_lt, Bool, false, get_or, max, min, refl, ap, sym, ◌∙◌, List, arith, bit_or, bit_and, lit<, if◌then◌else◌, inl, inr, one-mul, mod-eq_of_lt, mod-lt}
 use Rattle.std.specs.Int.{bit_at, bit_not, Width, w128, w16}
 use mir.Val.{bits}
 use Rattle.std.proofs.lemmas.Nat.{and_le_l, or_lt}

@@ -1,8 +1,8 @@
 -- What a diagnostic span is seen as.
-use Rattle.std.specs.Prelude.{ℕ, ◌≡◌, ◌+◌, ◌-◌, ◌*◌, ◌/◌, ◌%◌, ◌^◌, min, nat_lt, if◌then◌else◌, refl, Option, Some, None}
+use Rattle.std.specs.Prelude.{ℕ, ◌+◌, ◌-◌, ◌*◌, ◌/◌, ◌%◌, ◌^◌, min, nat_lt, if◌then◌else◌, refl, Option, Some, None}
 use Rattle.std.specs.Coded.{Coded, code_by, coded×, coded_ℕ}
 use Rattle.std.specs.declared.ops.Range.{Range as Interval}
-use Rattle.typst_base.specs.Span.{SpanParts, detached, parts_code}
+use Rattle.typst_base.specs.Span.{SpanParts, parts_code}
 use Rattle.typst_base.specs.SubRange.{interval}
 
 -- a diagnostic span's two parts: a span, and a word that stands for a part of it or is the end of an external range

@@ -1,8 +1,8 @@
 -- What a diagnostic span points to.
-use Rattle.std.specs.Prelude.{ℕ, ◌+◌, ◌-◌, ◌*◌, ◌/◌, ◌%◌, ◌^◌, ◌==◌, nat_lt, if◌then◌else◌, Option, Some, None}
+use Rattle.std.specs.Prelude.{ℕ, ◌-◌, ◌^◌, ◌==◌, nat_lt, if◌then◌else◌, Option, Some, None}
 use Rattle.std.specs.declared.ops.Range.{Range as Interval}
 use Rattle.typst_base.specs.DiagSpan.{DiagParts, sub_range_of}
-use Rattle.typst_base.specs.Span.{SpanParts, range_base, range_of}
+use Rattle.typst_base.specs.Span.{range_base, range_of}
 use Rattle.typst_base.specs.SubRange.{interval, moved}
 use Rattle.typst_base.specs.declared.diag_span.DiagSpanKind.{DiagSpanKind}
 use Rattle.typst_base.specs.declared.diag_span.DiagSpanKind.TheVariants.{Detached, Number, Range}

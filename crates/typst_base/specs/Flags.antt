@@ -1,6 +1,6 @@
 -- Lists of flags as numbers.
-use Rattle.std.specs.Prelude.{ℕ, ◌≡◌, ◌+◌, ◌*◌, ◌/◌, ◌%◌, ◌^◌, ◌<◌, ◌==◌, Bool, true, false, List, [], ◌∷◌, if◌then◌else◌, refl}
-use Rattle.std.proofs.Common.{zero, suc, arith, ap, ◌∙◌}
+use Rattle.std.specs.Prelude.{ℕ, ◌≡◌, ◌+◌, ◌*◌, ◌/◌, ◌%◌, ◌^◌, ◌<◌, ◌==◌, Bool, List, [], ◌∷◌, if◌then◌else◌}
+use Rattle.std.proofs.Common.{zero, suc, arith}
 use Rattle.std.proofs.lemmas.Bool.Decides.{nat_tests}
 
 -- the lowest n binary digits of a number, the lowest first

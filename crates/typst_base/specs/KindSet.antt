@@ -1,5 +1,5 @@
 -- Sets of kinds, seen as a flag for each kind.
-use Rattle.std.specs.Prelude.{ℕ, ◌==◌, Bool, false, List, slice_index_or}
+use Rattle.std.specs.Prelude.{◌==◌, Bool, false, List, slice_index_or}
 use Rattle.typst_base.specs.KindNumber.{number_of}
 use Rattle.typst_base.specs.declared.kind.SyntaxKind.{SyntaxKind}
 

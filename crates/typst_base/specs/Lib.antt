@@ -6,7 +6,9 @@ pub mod KindMode
 pub mod KindName
 pub mod KindNumber
 pub mod KindSet
+pub mod Mapping
 pub mod NamedSets
+pub mod Segments
 pub mod Span
 pub mod SpanKind
 pub mod SubRange

@@ -2,7 +2,6 @@
 use Rattle.std.specs.Prelude.{ℕ, ◌==◌, nat_lt, if◌then◌else◌}
 use Rattle.std.specs.declared.ops.Range.{Range as Interval}
 use Rattle.typst_base.specs.Span.{SpanParts, range_base, range_of}
-use Rattle.typst_base.specs.SubRange.{interval}
 use Rattle.typst_base.specs.declared.span.SpanKind.{SpanKind}
 use Rattle.typst_base.specs.declared.span.SpanKind.TheVariants.{Detached, Number, Range}
 

@@ -1,5 +1,5 @@
 -- Parts of a node's bytes.
-use Rattle.std.specs.Prelude.{ℕ, ◌+◌, ◌-◌, ◌^◌, min}
+use Rattle.std.specs.Prelude.{ℕ, ◌+◌, ◌-◌, ◌^◌, ◌<◌, min, Option, SomeIff}
 use Rattle.std.specs.declared.ops.Range.{Range}
 
 -- a range from its two ends
@@ -13,3 +13,8 @@ cut_sub_end e = min e (2 ^ 32 - 1)
 -- a range moved up by an offset
 abbrev pub moved : Range ℕ → ℕ → Range ℕ
 moved range offset = interval (range.start + offset) (range.end + offset)
+
+-- the answer is the part between the two ends, the upper one cut, exactly where that isn't empty
+abbrev pub MakesSubRange : Option (Range ℕ) → ℕ → ℕ → Type 0
+MakesSubRange answer start end =
+    SomeIff answer ((start < end) × (start < 2 ^ 32 - 1)) (interval start (cut_sub_end end))

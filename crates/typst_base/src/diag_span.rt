@@ -179,3 +179,6 @@ impl From<Span> for DiagSpan {
         DiagSpan::from_span(span, None)
     }
 }
+
+#[cfg(test)]
+mod tests;

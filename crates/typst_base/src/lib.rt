@@ -1,8 +1,34 @@
 //! Kinds and spans of a syntax tree's nodes.
+//!
+//! - [`SyntaxKind`] says what a node is; it has a name, classes and a rule for the mode behind the
+//!   node ([`ModeAfter`]). [`SyntaxSet`] is a set of kinds, and [`named_sets`] has those that a
+//!   parser asks for.
+//! - [`Span`] is a place in a file, in one word: the number of a node, or a range of bytes.
+//!   [`SubRange`] is a part of a node's bytes, and [`DiagSpan`] the place that a diagnostic is
+//!   about. [`Spanned`] is a value with its span.
+//! - [`RangeMapper`] leads from the bytes of a text that was put together from segments back to
+//!   the bytes of the original.
+//!
+//! ```
+//! let id = FileId::new(1).unwrap();
+//! let span = Span::from_number(id, SpanNumber(5));
+//! let first_two = DiagSpan::from_span(span, SubRange::new(0, 2));
+//! match first_two.get() {
+//!     DiagSpanKind::Number { num, sub_range, .. } => { /* node 5, its bytes 0 and 1 */ }
+//!     _ => {}
+//! }
+//!
+//! let kinds = named_sets::stmt().add(SyntaxKind::Hash);
+//! assert!(kinds.contains(SyntaxKind::Let));
+//!
+//! let mapper = RangeMapper::new(alloc, &[2..5, 8..10])?;
+//! assert!(mapper.map(2..4) == (4..9));
+//! ```
 #![tactic(auto)]
 
 pub use diag_span::{DiagSpan, DiagSpanKind};
 pub use kind::SyntaxKind;
+pub use mapper::{MapperError, RangeMapper};
 pub use mode::{ModeAfter, SyntaxMode};
 pub use set::SyntaxSet;
 pub use span::{FileId, Span, SpanKind, SpanNumber};
@@ -11,6 +37,7 @@ pub use sub_range::SubRange;
 
 pub mod diag_span;
 pub mod kind;
+pub mod mapper;
 pub mod mode;
 mod name;
 pub mod named_sets;

@@ -70,6 +70,9 @@ const ATOMIC_CODE_EXPR: u128 = bits!(
     Str
 );
 
+/// The kinds that a pattern without parts may begin with, as bits: those of an atomic expression.
+const PATTERN_LEAF: u128 = ATOMIC_CODE_EXPR;
+
 /// The kinds of operators before an operand, as bits.
 const UNARY_OP: u128 = bits!(Plus, Minus, Not);
 
@@ -134,14 +137,15 @@ pub fn array_or_dict_item() -> SyntaxSet
 pub fn arg() -> SyntaxSet
     ensures { (k : SyntaxKind) → holds result k ≡ arg_set k }
 {
-    code_expr().add(SyntaxKind::Dots)
+    let expr = code_expr();
+    expr.add(SyntaxKind::Dots)
 }
 
 /// The kinds that a pattern without parts may begin with.
 pub fn pattern_leaf() -> SyntaxSet
     ensures { (k : SyntaxKind) → holds result k ≡ pattern_leaf_set k }
 {
-    atomic_code_expr()
+    SyntaxSet::from_low_word(PATTERN_LEAF)
 }
 
 /// The kinds that a pattern may begin with.
@@ -164,5 +168,9 @@ pub fn param() -> SyntaxSet
 pub fn destructuring_item() -> SyntaxSet
     ensures { (k : SyntaxKind) → holds result k ≡ destructuring_item_set k }
 {
-    pattern().add(SyntaxKind::Dots)
+    let item = pattern();
+    item.add(SyntaxKind::Dots)
 }
+
+#[cfg(test)]
+mod tests;

@@ -77,7 +77,7 @@ impl<T, S: Copy + SpanDetached> Spanned<T, S> {
         ensures value { F.post f self.v result.v }
         ensures place { result.span ≡ self.span }
     {
-        let Spanned { v, span } = self;
+        let Self { v, span } = self;
         Spanned { v: f(v), span }
     }
 }
@@ -88,3 +88,6 @@ impl<T: fmt::Debug, S> fmt::Debug for Spanned<T, S> {
         self.v.fmt(f)
     }
 }
+
+#[cfg(test)]
+mod tests;

@@ -1,6 +1,6 @@
 // Parts of a node's bytes.
-ghost use Rattle.std.specs.Prelude.{◌≡◌, ◌+◌, ◌-◌, ◌^◌, ◌<◌, ◌↔◌, IsTrue, SomeIff};
-ghost use Rattle.typst_base.specs.SubRange.{cut_sub_end, interval, moved};
+ghost use Rattle.std.specs.Prelude.{◌≡◌, ◌+◌, ◌^◌, ◌<◌, ◌↔◌, IsTrue};
+ghost use Rattle.typst_base.specs.SubRange.{MakesSubRange, moved};
 
 use std::marker::Model;
 use std::ops::Range;
@@ -35,8 +35,7 @@ impl SubRange {
     ///
     /// `None` where nothing is left: unless `start < end` and `start` is below 2^32 - 1.
     pub fn new(start: usize, end: usize) -> Option<SubRange>
-        ensures { SomeIff result ((start < end) × (start < 2 ^ 32 - 1))
-            (interval start (cut_sub_end end)) }
+        ensures { MakesSubRange result start end }
     {
         let end = end.min(Self::END_MAX);
         if start >= end {
@@ -72,3 +71,6 @@ impl SubRange {
         self.start as usize + offset..self.end as usize + offset
     }
 }
+
+#[cfg(test)]
+mod tests;

@@ -1,11 +1,11 @@
 -- The offset of a path, one step at a time.
-use Rattle.std.proofs.Common.{◌≡◌, ◌≢◌, ℕ, suc, zero, ◌+◌, ◌<◌, ◌==◌, Bool, true, false, ◌&&◌, ◌||◌, not, cond, inl, inr, List, [], ◌∷◌, ◌++◌, length, map, take, refl, sym, ap, subst, ◌∙◌, arith, eq-eqb, Option, Some, None, slice_get, length-append}
+use Rattle.std.proofs.Common.{◌≡◌, ◌≢◌, ℕ, suc, zero, ◌+◌, Bool, true, false, ◌&&◌, ◌||◌, not, cond, inl, inr, List, [], ◌∷◌, ◌++◌, length, map, take, refl, sym, ap, ◌∙◌, arith, eq-eqb, Option, Some, slice_get, length-append}
 use Rattle.std.specs.List.{Contains, flat_map, before_first, prefix_len, AllByRecursion, list_any}
 use Rattle.std.proofs.lemmas.Grind.{flat_map-append}
 use Rattle.std.proofs.lemmas.Bool.Decides.{eqb_tells}
 use Rattle.std.proofs.lemmas.List.Folds.{list_any-from_Any}
-use Rattle.typst_node.specs.Tree.{Label, Forest, none, tree, Tree, trees}
-use Rattle.typst_node.specs.Preorder.{nodes, paths_from, paths, subtrees, at, if_some}
+use Rattle.typst_node.specs.Tree.{Forest, none, tree, Tree, trees}
+use Rattle.typst_node.specs.Preorder.{paths_from, paths, subtrees, at, if_some}
 use Rattle.typst_node.specs.Text.{own_text, text, text_of_all, is_same_path, text_there, offset}
 use Rattle.typst_node.proofs.Trees.{length-text_of_all-cons}
 use Rattle.typst_node.proofs.Paths.{at_among, at-among, StandFrom, stand_first, stand_rest, at-paths, labels-subtrees, path-in-paths, contains_map}

@@ -1,9 +1,9 @@
 -- What is measured does not turn on spans and bounds.
-use Rattle.std.proofs.Common.{◌≡◌, ℕ, suc, ◌+◌, Bool, true, false, ◌||◌, List, [], ◌∷◌, ◌++◌, length, map, refl, sym, ap, subst, ◌∙◌, arith, length-append, append_assoc}
+use Rattle.std.proofs.Common.{◌≡◌, ℕ, suc, ◌+◌, ◌||◌, List, [], ◌∷◌, ◌++◌, length, map, refl, sym, ap, subst, ◌∙◌}
 use Rattle.std.specs.List.{list_any}
 use Rattle.std.proofs.lemmas.List.{map-append}
-use Rattle.typst_node.specs.Tree.{Content, AsLeaf, AsError, AsInner, Label, Forest, none, tree, Tree, trees, forest}
-use Rattle.typst_node.specs.Preorder.{preorder, nodes}
+use Rattle.typst_node.specs.Tree.{Content, AsLeaf, AsError, AsInner, Label, Forest, none, tree, Tree, forest}
+use Rattle.typst_node.specs.Preorder.{preorder}
 use Rattle.typst_node.specs.Text.{content_text, own_text, joined, text, text_of_all}
 use Rattle.typst_node.specs.Count.{count, count_of_all}
 use Rattle.typst_node.specs.Diagnosis.{is_error_content, is_error, is_warned}
@@ -15,7 +15,6 @@ use Rattle.typst_base.specs.Span.{SpanParts, detached}
 use Rattle.std.proofs.Common.{Box, Global}
 use Rattle.std.specs.Box.{with_value}
 use Rattle.typst_node.specs.declared.node.InnerNode.{InnerNode}
-use Rattle.typst_node.proofs.Trees.{joined-append}
 
 pub text_unbounded : (c : Content) → content_text (unbounded c) ≡ content_text c
 text_unbounded (AsLeaf kind text) = refl

@@ -1,6 +1,5 @@
 -- Lists of trees, and trees side by side.
-use Rattle.std.proofs.Common.{◌≡◌, ℕ, suc, zero, ◌+◌, ◌<◌, ◌≤◌, Bool, List, [], ◌∷◌, ◌++◌, length, take, drop, get_or, refl, sym, ap, ◌∙◌, arith, length-append, append_assoc, add-one, drop-cons}
-use Rattle.std.specs.List.{flat_map, list_any}
+use Rattle.std.proofs.Common.{◌≡◌, ℕ, suc, zero, ◌+◌, ◌<◌, ◌≤◌, List, [], ◌∷◌, ◌++◌, length, take, drop, get_or, refl, sym, ap, ◌∙◌, arith, length-append, append_assoc, add-one, drop-cons}
 use Rattle.typst_node.specs.Tree.{Label, Forest, none, tree, Tree, trees, forest}
 use Rattle.typst_node.specs.Preorder.{preorder, nodes}
 use Rattle.typst_node.specs.Text.{own_text, joined, text, text_of_all}

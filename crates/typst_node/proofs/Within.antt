@@ -1,7 +1,6 @@
 -- Trees that are numbered one behind the other.
-use Rattle.std.proofs.Common.{◌≡◌, ℕ, suc, ◌+◌, ◌<◌, ◌≤◌, List, [], ◌∷◌, ◌++◌, length, map, refl, sym, ap, ◌∙◌, arith}
-use Rattle.typst_node.specs.Tree.{Label, Forest, none, tree, Tree, forest}
-use Rattle.typst_node.specs.Preorder.{preorder}
+use Rattle.std.proofs.Common.{ℕ, ◌+◌, ◌≤◌, List, [], ◌∷◌, ◌++◌, arith}
+use Rattle.typst_node.specs.Tree.{Forest, none, tree, Tree, forest}
 use Rattle.typst_node.specs.Labels.{number, bound}
 use Rattle.typst_node.specs.Interval.{IsWithin, IsTreeWithin}
 use Rattle.typst_node.specs.OpenNumbers.{open_from, open_to}

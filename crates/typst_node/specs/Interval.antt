@@ -1,5 +1,5 @@
 -- Numbers in order as intervals one inside the other: the working form of `IsNumberedFor`.
-use Rattle.std.specs.Prelude.{ℕ, ◌≡◌, ◌+◌, ◌≤◌, List, [], ◌∷◌}
+use Rattle.std.specs.Prelude.{ℕ, ◌≡◌, ◌+◌, ◌≤◌}
 use Rattle.typst_node.specs.Tree.{Forest, none, tree, Tree}
 use Rattle.typst_node.specs.Labels.{number, bound}
 

@@ -1,5 +1,5 @@
 -- Trees whose numbers are in order.
-use Rattle.std.specs.Prelude.{ℕ, ◌≡◌, ◌+◌, ◌^◌, ◌<◌, ◌≤◌, List, [], ◌∷◌, ◌++◌, map}
+use Rattle.std.specs.Prelude.{ℕ, ◌≡◌, ◌^◌, ◌<◌, ◌≤◌, List, [], ◌∷◌, ◌++◌, map}
 use Rattle.std.specs.List.{AllByRecursion}
 use Rattle.typst_node.specs.Tree.{Label, Forest, none, tree, Tree}
 use Rattle.typst_node.specs.Preorder.{preorder, nodes}

@@ -1,5 +1,5 @@
 -- The preorder of a tree: a parent before its children, children from left to right. Warnings take no step.
-use Rattle.std.specs.Prelude.{ℕ, ◌+◌, List, [], ◌∷◌, ◌++◌, map, Option, Some, None, MatchOption, slice_get}
+use Rattle.std.specs.Prelude.{ℕ, ◌+◌, List, [], ◌∷◌, ◌++◌, map, Option, Some, None, slice_get}
 use Rattle.typst_node.specs.Tree.{Label, Forest, none, tree, Tree, trees}
 
 -- the labels of trees side by side, in preorder

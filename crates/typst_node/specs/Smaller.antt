@@ -1,8 +1,8 @@
 -- Each child has fewer nodes than its parent.
-use Rattle.std.specs.Prelude.{ℕ, ◌≡◌, ◌+◌, ◌≤◌, max, suc, List, [], ◌∷◌}
+use Rattle.std.specs.Prelude.{◌+◌, ◌≤◌, max, suc, List, [], ◌∷◌}
 use Rattle.std.proofs.Common.{arith, length-append}
 use denote.Param.Weighed.{most}
-use Rattle.typst_node.specs.Tree.{Label, Tree, Forest, forest}
+use Rattle.typst_node.specs.Tree.{Tree, forest}
 use Rattle.typst_node.specs.Count.{count, count_of_all}
 use Rattle.typst_node.specs.Preorder.{preorder}
 use Rattle.typst_node.specs.View.{below}

@@ -1,5 +1,5 @@
 -- The text of a tree.
-use Rattle.std.specs.Prelude.{ℕ, ◌==◌, ◌&&◌, Bool, true, false, List, [], ◌∷◌, ◌++◌, length, Option, Some, None}
+use Rattle.std.specs.Prelude.{ℕ, ◌==◌, ◌&&◌, Bool, true, false, List, [], ◌∷◌, length, Option, Some, None}
 use Rattle.std.specs.List.{flat_map, before_first}
 use Rattle.typst_node.specs.Tree.{Content, AsLeaf, AsError, AsInner, Label, Tree, forest}
 use Rattle.typst_node.specs.Preorder.{preorder, nodes, paths, at}

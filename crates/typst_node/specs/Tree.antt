@@ -1,5 +1,6 @@
 -- The syntax tree that a node stands for: a plain tree whose nodes are labelled with spans and bounds.
 use Rattle.std.specs.Prelude.{ℕ, ◌≢◌, List, [], ◌∷◌, Option}
+use Rattle.std.specs.declared.ops.Range.{Range}
 use Rattle.typst_base.specs.Span.{SpanParts, detached}
 use Rattle.typst_base.specs.declared.kind.SyntaxKind.{SyntaxKind}
 use Rattle.typst_base.specs.declared.kind.SyntaxKind.TheVariants as kinds
@@ -7,11 +8,11 @@ use Rattle.typst_base.specs.declared.kind.SyntaxKind.TheVariants as kinds
 -- a hint: its text and its sub-range
 pub record HintText : Type 0 where
   pub text : List ℕ
-  pub sub_range : Option (ℕ × ℕ)
+  pub sub_range : Option (Range ℕ)
 
 -- a warning: its sub-range, message and hints
 pub record WarningText : Type 0 where
-  pub sub_range : Option (ℕ × ℕ)
+  pub sub_range : Option (Range ℕ)
   pub message : List ℕ
   pub hints : List HintText
 

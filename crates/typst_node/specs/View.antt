@@ -1,9 +1,8 @@
 -- What a node is seen as, and what is kept in it.
-use Rattle.std.specs.Prelude.{ℕ, ◌≡◌, ◌≢◌, ◌+◌, ◌<◌, ◌≤◌, suc, List, [], ◌∷◌, length, map, reverse, string_bytes}
+use Rattle.std.specs.Prelude.{ℕ, ◌≡◌, ◌≢◌, ◌+◌, suc, List, [], ◌∷◌, length, map, reverse, string_bytes}
 use Rattle.std.specs.List.{list_any}
-use Rattle.typst_base.specs.declared.kind.SyntaxKind.{SyntaxKind}
 use Rattle.typst_base.specs.declared.kind.SyntaxKind.TheVariants as kinds
-use Rattle.typst_node.specs.Tree.{HintText, WarningText, Content, AsLeaf, AsError, AsInner, Label, Forest, Tree, forest}
+use Rattle.typst_node.specs.Tree.{HintText, WarningText, Content, AsLeaf, AsError, AsInner, Tree, forest}
 use Rattle.typst_node.specs.Preorder.{preorder}
 use Rattle.typst_node.specs.Text.{text, text_of_all}
 use Rattle.typst_node.specs.Count.{count_of_all}
@@ -21,6 +20,10 @@ hint_text h = record { text = string_bytes h.text; sub_range = h.sub_range }
 abbrev pub warning_text : Warning → WarningText
 warning_text w = record { sub_range = w.sub_range; message = string_bytes w.message; hints = map hint_text w.hints.items }
 
+-- the warnings as they are seen, outermost first
+abbrev pub shown_warnings : List Warning → List WarningText
+shown_warnings ws = reverse (map warning_text ws)
+
 abbrev pub content : Node → Content
 content (Leaf kind text) = AsLeaf kind (string_bytes text)
 content (Inner b) = AsInner b.value.kind b.value.upper
@@ -34,7 +37,7 @@ below (Error b) = []
 
 abbrev pub tree_of : Inside → Tree
 tree_of a = record {
-  label = record { span = a.span; warnings = reverse (map warning_text a.warnings.items); content = content a.node };
+  label = record { span = a.span; warnings = shown_warnings a.warnings.items; content = content a.node };
   children = forest (below a.node);
 }
 

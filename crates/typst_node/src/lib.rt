@@ -13,12 +13,20 @@
 //! ```
 #![tactic(auto)]
 
+pub use ast_node::{AstNode, span_of};
 pub use diagnosis::Diagnosis;
 pub use node::SyntaxNode;
 pub use node::build::InnerError;
+pub use node::diagnostics::SyntaxDiagnostic;
+pub use node::mapped::SynthesizeError;
 pub use node::number::Unnumberable;
+pub use node::replace::{Renumbered, ReplaceError};
 
+pub mod ast_node;
 pub mod diagnosis;
+#[cfg(test)]
+mod error_tests;
+mod exchange;
 pub mod node;
 #[cfg(test)]
 mod tests;

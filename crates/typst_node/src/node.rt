@@ -8,11 +8,29 @@ ghost use Rattle.typst_node.specs.Labels.{bound};
 use crate::diagnosis::Diagnosis;
 use std::alloc::{AllocError, Global};
 use std::marker::Model;
-use typst_base::{Span, SyntaxKind};
+use typst_base::{Span, SubRange, SyntaxKind};
 
 pub mod build;
+pub mod convert;
+pub mod copy;
+mod debug;
+pub mod diagnostics;
+pub mod equal;
+pub mod hash;
 mod inner;
+pub mod mapped;
 pub mod number;
+mod renumber;
+pub mod replace;
+pub mod replace_at;
+#[cfg(test)]
+mod replace_tests;
+mod settle;
+pub mod spanless;
+pub mod synthesize;
+mod trim;
+pub mod warn;
+mod window;
 
 /// A node of a syntax tree: a leaf, an inner node or an error, under any number of warnings.
 ///
@@ -64,7 +82,7 @@ struct ErrorNode {
 /// What is said of a node that is syntax, but dubious.
 #[derive(Drop)]
 struct Warning {
-    sub_range: Option<(u32, u32)>,
+    sub_range: Option<SubRange>,
     message: String,
     hints: Vec<Hint>,
 }
@@ -73,7 +91,7 @@ struct Warning {
 #[derive(Drop)]
 struct Hint {
     text: String,
-    sub_range: Option<(u32, u32)>,
+    sub_range: Option<SubRange>,
 }
 
 impl Model for SyntaxNode {

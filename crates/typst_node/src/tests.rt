@@ -61,7 +61,10 @@ fn numbers_are_spread_over_the_first_half(rt: HostRuntime) -> Result<(), Fail> {
     let mut tree = two_texts(rt.alloc())?;
     let file = FileId::new(1).ok_or("no file")?;
     tree.numberize(file, 2..14)?;
-    assert_eq!(rt; numbers(rt.alloc(), &tree)?.as_slice(), [3, 5, 7].as_slice());
+    assert_eq!(rt;
+        numbers(rt.alloc(), &tree)?.as_slice(),
+        [3, 5, 7].as_slice()
+    );
     assert_eq!(rt; tree.upper(), 14);
     assert!(rt; tree.is_numbered());
     assert_eq!(rt; tree.span().id(), Some(file));
@@ -73,7 +76,10 @@ fn as_many_numbers_as_nodes_are_enough(rt: HostRuntime) -> Result<(), Fail> {
     let mut tree = two_texts(rt.alloc())?;
     let file = FileId::new(1).ok_or("no file")?;
     tree.numberize(file, 2..5)?;
-    assert_eq!(rt; numbers(rt.alloc(), &tree)?.as_slice(), [2, 3, 4].as_slice());
+    assert_eq!(rt;
+        numbers(rt.alloc(), &tree)?.as_slice(),
+        [2, 3, 4].as_slice()
+    );
     assert_eq!(rt; tree.upper(), 5);
     Ok(())
 }
@@ -84,10 +90,16 @@ fn fewer_numbers_than_nodes_change_nothing(rt: HostRuntime) -> Result<(), Fail> 
     let file = FileId::new(1).ok_or("no file")?;
     assert_eq!(rt; tree.numberize(file, 2..4), Err(Unnumberable));
     assert_eq!(rt; tree.numberize(file, 14..2), Err(Unnumberable));
-    assert_eq!(rt; numbers(rt.alloc(), &tree)?.as_slice(), [1, 1, 1].as_slice());
+    assert_eq!(rt;
+        numbers(rt.alloc(), &tree)?.as_slice(),
+        [1, 1, 1].as_slice()
+    );
     tree.numberize(file, 2..14)?;
     assert_eq!(rt; tree.numberize(file, 2..4), Err(Unnumberable));
-    assert_eq!(rt; numbers(rt.alloc(), &tree)?.as_slice(), [3, 5, 7].as_slice());
+    assert_eq!(rt;
+        numbers(rt.alloc(), &tree)?.as_slice(),
+        [3, 5, 7].as_slice()
+    );
     Ok(())
 }
 

@@ -126,7 +126,7 @@ impl InnerNode {
 
 /// Numbers the nodes one behind the other, from `start` on, each within its node count times `stride` numbers.
 #[cycle(number)]
-fn number_all(nodes: &mut [SyntaxNode], id: FileId, start: u64, stride: u64)
+pub(super) fn number_all(nodes: &mut [SyntaxNode], id: FileId, start: u64, stride: u64)
     requires low { 2 ≤ start }
     requires positive { 1 ≤ stride }
     requires high { start + stride * count_of_all nodes.old ≤ 2 ^ 47 }

@@ -1,13 +1,10 @@
-use Rattle.std.proofs.Common.{rules, arith, ◌≡◌, ℕ, suc, ◌+◌, ◌-◌, ◌*◌, ◌/◌, ◌<◌, ◌≤◌, List, [], ◌∷◌, length, map, ap, sym, ◌∙◌, refl, get_or, set, drop, take, ◌++◌, slice_index_or, slice_set, MutBor}
-use Rattle.std.proofs.lemmas.Grind.{common_steps}
+use Rattle.std.proofs.Common.{arith, ◌≡◌, ◌+◌, ◌-◌, ◌*◌, ◌/◌, ◌<◌, ◌≤◌, length, map, ap, sym, ◌∙◌, refl, get_or}
 use Rattle.std.proofs.lemmas.List.{with_items_is}
 use Rattle.typst_node.specs.Count.{count, count_of_all}
-use Rattle.typst_node.specs.Tree.{forest, Tree}
-use Rattle.typst_node.specs.Labels.{number, bound}
+use Rattle.typst_node.specs.Tree.{forest}
+use Rattle.typst_node.specs.Labels.{number}
 use Rattle.typst_node.specs.Plain.{plain}
-use Rattle.typst_node.specs.Interval.{IsWithin, IsTreeWithin}
-use Rattle.typst_node.specs.View.{IsMeasured}
-use Rattle.typst_node.proofs.Plain.{count_plain, same_count_of_all, measured_by_plain, same_plain_inner, inner_count}
+use Rattle.typst_node.proofs.Plain.{same_count_of_all, measured_by_plain, same_plain_inner, inner_count}
 use Rattle.typst_node.proofs.Ordered.{IsIn, all_in, all_weaker}
 use Rattle.typst_node.proofs.Within.{within_le, within_wider, within_append}
 use Rattle.typst_node.proofs.Trees.{count_drop, count_at}

@@ -1,4 +1,4 @@
-use Rattle.std.proofs.Common.{◌≡◌, ◌+◌, ◌-◌, ◌*◌, ◌≤◌, map, length, take, drop}
+use Rattle.std.proofs.Common.{◌≡◌, ◌+◌, ◌*◌, map, take, drop}
 use Rattle.typst_node.specs.Count.{count, count_of_all}
 use Rattle.typst_node.specs.Tree.{forest}
 use Rattle.typst_node.specs.Plain.{plain}

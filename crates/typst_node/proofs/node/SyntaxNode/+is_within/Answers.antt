@@ -1,14 +1,13 @@
-use Rattle.std.proofs.Common.{rules, arith, ◌≡◌, ℕ, ◌+◌, ◌<◌, ◌≤◌, List, ◌∷◌, [], length, drop, get_or, ap, sym, ◌∙◌, subst, true, false}
+use Rattle.std.proofs.Common.{arith, ◌≡◌, ◌+◌, [], drop, get_or, ap, sym, ◌∙◌}
 use Rattle.std.proofs.lemmas.Grind.{common_steps}
 use Rattle.std.proofs.lemmas.List.{drop_all}
 use Rattle.std.proofs.lemmas.Bool.{leb-true, le-leb}
 use Rattle.typst_node.specs.Count.{count}
-use Rattle.typst_node.specs.Tree.{forest, trees}
+use Rattle.typst_node.specs.Tree.{forest}
 use Rattle.typst_node.specs.Labels.{number, bound}
-use Rattle.typst_node.specs.Preorder.{preorder}
-use Rattle.typst_node.specs.Interval.{IsWithin, IsTreeWithin}
+use Rattle.typst_node.specs.Interval.{IsWithin}
 use Rattle.typst_node.proofs.Trees.{forest-trees, count_at, count_of_trees, drop_next}
-use Rattle.typst_node.proofs.Within.{first_within, within_le}
+use Rattle.typst_node.proofs.Within.{first_within}
 use Rattle.typst_node.proofs.node.SyntaxNode.+is_within.Goals as goal
 
 pub is_within-requires : goal.is_within-requires

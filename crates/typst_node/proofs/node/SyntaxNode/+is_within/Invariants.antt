@@ -1,4 +1,4 @@
-use Rattle.std.proofs.Common.{◌↔◌, ◌≤◌, ◌+◌, drop}
+use Rattle.std.proofs.Common.{◌↔◌, ◌+◌, drop}
 use Rattle.typst_node.specs.Count.{count}
 use Rattle.typst_node.specs.Tree.{forest}
 use Rattle.typst_node.specs.Interval.{IsWithin}

@@ -1,6 +1,5 @@
-use Rattle.std.proofs.Common.{rules, arith, ◌≡◌, ◌≤◌, ◌^◌, ap, sym, ◌∙◌, subst, ℕ}
+use Rattle.std.proofs.Common.{arith, ◌≡◌, ◌≤◌, ◌^◌, ap, sym, ◌∙◌, subst}
 use Rattle.typst_node.specs.Numbered.{IsNumberedFor}
-use Rattle.typst_node.specs.Interval.{IsTreeWithin}
 use Rattle.typst_node.proofs.Ordered.{numbered_from_within, within_from_numbered}
 use Rattle.typst_node.proofs.node.SyntaxNode.is_numbered.Goals as goal
 

@@ -1,5 +1,4 @@
-use Rattle.std.proofs.Common.{◌≡◌, ◌+◌, suc, length, drop, ◌++◌}
-use Rattle.typst_node.specs.Tree.{Tree}
+use Rattle.std.proofs.Common.{◌≡◌, ◌+◌, length, drop, ◌++◌}
 use Rattle.typst_node.specs.Text.{text_of_all}
 use Rattle.typst_node.specs.View.{ends_from}
 use Rattle.typst_node.proofs.node.inner.ends_of.Given as goal

@@ -1,6 +1,6 @@
 use Rattle.std.proofs.Common.{◌≡◌, ◌+◌, ◌<◌, ◌^◌, suc, length, drop, ◌||◌}
 use Rattle.std.specs.List.{list_any}
-use Rattle.typst_node.specs.Tree.{Tree, forest}
+use Rattle.typst_node.specs.Tree.{forest}
 use Rattle.typst_node.specs.Preorder.{preorder}
 use Rattle.typst_node.specs.Text.{text_of_all}
 use Rattle.typst_node.specs.Count.{count_of_all}

@@ -1,0 +1,4 @@
+pub mod Behind
+pub mod Ends
+pub mod ExprLists
+pub mod ItemLists

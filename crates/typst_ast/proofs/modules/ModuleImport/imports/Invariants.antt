@@ -1,0 +1,10 @@
+use Rattle.std.proofs.Common.{◌≡◌, length}
+use Rattle.typst_ast.specs.Imports.{is_imports_kind}
+use Rattle.typst_atoms.specs.Children.{all_in}
+use Rattle.typst_ast.proofs.modules.ModuleImport.imports.Given as goal
+
+abbrev pub invariant-loop-rest : goal.invariant-loop-rest
+invariant-loop-rest l = all_in is_imports_kind l.rest ≡ all_in is_imports_kind l.initial.rest
+
+abbrev pub decreases-loop-rest : goal.decreases-loop-rest
+decreases-loop-rest l = length l.rest

@@ -1,0 +1,32 @@
+-- What a clause sees of an `Arg`.
+use Rattle.std.specs.Prelude.{Option, IfSome, Bool, true, ◌≡◌}
+use Rattle.typst_ast.specs.Expr.{expr_node, expr_kind, expr_kind_is_node_kind}
+use Rattle.typst_ast.specs.View.{node_of}
+use Rattle.typst_ast.specs.declared.arg.Arg.{Arg}
+use Rattle.typst_ast.specs.declared.arg.Arg.TheVariants.{Pos, Named, Spread}
+use Rattle.typst_atoms.specs.OfKind.{kind_from_test}
+use Rattle.typst_base.specs.declared.kind.SyntaxKind.{SyntaxKind}
+use Rattle.typst_base.specs.declared.kind.SyntaxKind.TheVariants as kinds
+use Rattle.typst_node.specs.Tree.{Tree}
+use Rattle.typst_node.specs.Views.{node_kind, IsViewOf, IsOptionalViewOf}
+
+-- the node that it views; none for a placeholder
+abbrev pub arg_node : Arg → Option Tree
+arg_node (Pos v) = expr_node v
+arg_node (Named v) = node_of v
+arg_node (Spread v) = node_of v
+
+-- the kind that it has, also without a node; the kind tells the variant
+abbrev pub arg_kind : Arg → SyntaxKind
+arg_kind (Pos v) = expr_kind v
+arg_kind (Named v) = kinds.Named
+arg_kind (Spread v) = kinds.Spread
+
+pub arg_kind_is_node_kind : (v : Arg) → IfSome (arg_node v) (λ t. arg_kind v ≡ node_kind t)
+arg_kind_is_node_kind (Pos v) = expr_kind_is_node_kind v
+arg_kind_is_node_kind (Named v) = kind_from_test kinds.Named v.node v.of_kind
+arg_kind_is_node_kind (Spread v) = kind_from_test kinds.Spread v.node v.of_kind
+
+-- the `Arg` is that of this node, or the placeholder where there is no node
+abbrev pub IsArgOf : Option Tree → Arg → Type 0
+IsArgOf = IsViewOf arg_node arg_kind (λ _. true) kinds.None

@@ -1,0 +1,29 @@
+-- What a clause sees of an `ArrayItem`.
+use Rattle.std.specs.Prelude.{Option, IfSome, Bool, true, ◌≡◌}
+use Rattle.typst_ast.specs.Expr.{expr_node, expr_kind, expr_kind_is_node_kind}
+use Rattle.typst_ast.specs.View.{node_of}
+use Rattle.typst_ast.specs.declared.array_item.ArrayItem.{ArrayItem}
+use Rattle.typst_ast.specs.declared.array_item.ArrayItem.TheVariants.{Pos, Spread}
+use Rattle.typst_atoms.specs.OfKind.{kind_from_test}
+use Rattle.typst_base.specs.declared.kind.SyntaxKind.{SyntaxKind}
+use Rattle.typst_base.specs.declared.kind.SyntaxKind.TheVariants as kinds
+use Rattle.typst_node.specs.Tree.{Tree}
+use Rattle.typst_node.specs.Views.{node_kind, IsViewOf, IsOptionalViewOf}
+
+-- the node that it views; none for a placeholder
+abbrev pub array_item_node : ArrayItem → Option Tree
+array_item_node (Pos v) = expr_node v
+array_item_node (Spread v) = node_of v
+
+-- the kind that it has, also without a node; the kind tells the variant
+abbrev pub array_item_kind : ArrayItem → SyntaxKind
+array_item_kind (Pos v) = expr_kind v
+array_item_kind (Spread v) = kinds.Spread
+
+pub array_item_kind_is_node_kind : (v : ArrayItem) → IfSome (array_item_node v) (λ t. array_item_kind v ≡ node_kind t)
+array_item_kind_is_node_kind (Pos v) = expr_kind_is_node_kind v
+array_item_kind_is_node_kind (Spread v) = kind_from_test kinds.Spread v.node v.of_kind
+
+-- the `ArrayItem` is that of this node, or the placeholder where there is no node
+abbrev pub IsArrayItemOf : Option Tree → ArrayItem → Type 0
+IsArrayItemOf = IsViewOf array_item_node array_item_kind (λ _. true) kinds.None

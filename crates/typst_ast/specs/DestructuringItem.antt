@@ -1,0 +1,38 @@
+-- What a clause sees of a `DestructuringItem`.
+use Rattle.std.specs.Prelude.{Option, IfSome, Bool, true, ◌≡◌}
+use Rattle.typst_ast.specs.Pattern.{pattern_node, pattern_kind, pattern_kind_is_node_kind, is_proper_pattern}
+use Rattle.typst_ast.specs.View.{node_of}
+use Rattle.typst_ast.specs.declared.destructuring_item.DestructuringItem.{DestructuringItem}
+use Rattle.typst_ast.specs.declared.destructuring_item.DestructuringItem.TheVariants.{Pattern as PatternItem, Named, Spread}
+use Rattle.typst_atoms.specs.OfKind.{kind_from_test}
+use Rattle.typst_base.specs.declared.kind.SyntaxKind.{SyntaxKind}
+use Rattle.typst_base.specs.declared.kind.SyntaxKind.TheVariants as kinds
+use Rattle.typst_node.specs.Tree.{Tree}
+use Rattle.typst_node.specs.Views.{node_kind, IsViewOf, IsOptionalViewOf}
+
+-- the node that it views; none for a placeholder
+abbrev pub destructuring_item_node : DestructuringItem → Option Tree
+destructuring_item_node (PatternItem v) = pattern_node v
+destructuring_item_node (Named v) = node_of v
+destructuring_item_node (Spread v) = node_of v
+
+-- the kind that it has, also without a node
+abbrev pub destructuring_item_kind : DestructuringItem → SyntaxKind
+destructuring_item_kind (PatternItem v) = pattern_kind v
+destructuring_item_kind (Named v) = kinds.Named
+destructuring_item_kind (Spread v) = kinds.Spread
+
+pub destructuring_item_kind_is_node_kind : (v : DestructuringItem) → IfSome (destructuring_item_node v) (λ t. destructuring_item_kind v ≡ node_kind t)
+destructuring_item_kind_is_node_kind (PatternItem v) = pattern_kind_is_node_kind v
+destructuring_item_kind_is_node_kind (Named v) = kind_from_test kinds.Named v.node v.of_kind
+destructuring_item_kind_is_node_kind (Spread v) = kind_from_test kinds.Spread v.node v.of_kind
+
+-- it holds the proper form of a pattern
+abbrev pub is_proper_destructuring_item : DestructuringItem → Bool
+is_proper_destructuring_item (PatternItem v) = is_proper_pattern v
+is_proper_destructuring_item (Named v) = true
+is_proper_destructuring_item (Spread v) = true
+
+-- the `DestructuringItem` is that of this node, or the placeholder where there is no node
+abbrev pub IsDestructuringItemOf : Option Tree → DestructuringItem → Type 0
+IsDestructuringItemOf = IsViewOf destructuring_item_node destructuring_item_kind is_proper_destructuring_item kinds.None

@@ -1,0 +1,58 @@
+//! Code, and blocks of it.
+ghost use Rattle.std.specs.Prelude.{◌≡◌};
+ghost use Rattle.typst_ast.specs.Expr.{IsExprOf};
+ghost use Rattle.typst_ast.specs.Kinds.{is_expr_kind, is_pattern_kind};
+ghost use Rattle.typst_ast.specs.Pattern.{IsPatternOf};
+ghost use Rattle.typst_ast.specs.View.{node_of};
+ghost use Rattle.typst_atoms.specs.Children.{all_children, first_child};
+ghost use Rattle.typst_atoms.specs.Items.{nodes_left};
+ghost use Rattle.typst_atoms.specs.Kinds.{is_kind};
+ghost use Rattle.typst_base.specs.declared.kind.SyntaxKind.TheVariants as kinds;
+
+use crate::expr::Expr;
+use crate::pattern::Pattern;
+use crate::views::{Code, CodeBlock, Contextual, Parenthesized};
+use typst_atoms::{Items, cast_all, cast_first};
+
+impl<'a> Code<'a> {
+    /// The expressions in order, from both ends.
+    pub fn exprs(self) -> Items<'a, Expr<'a>>
+        ensures { nodes_left is_expr_kind result ≡ all_children is_expr_kind (node_of self.entry) }
+    {
+        cast_all(self.node())
+    }
+}
+
+impl<'a> CodeBlock<'a> {
+    /// The block's code.
+    pub fn body(self) -> Code<'a>
+        ensures { node_of result ≡ first_child (is_kind kinds.Code) (node_of self.entry) }
+    {
+        cast_first(self.node())
+    }
+}
+
+impl<'a> Parenthesized<'a> {
+    /// The expression in the parens. Where the parens stand as a pattern, use [`Self::pattern`].
+    pub fn expr(self) -> Expr<'a>
+        ensures { IsExprOf (first_child is_expr_kind (node_of self.entry)) result }
+    {
+        cast_first(self.node())
+    }
+
+    /// The pattern in the parens, where they stand as a pattern.
+    pub fn pattern(self) -> Pattern<'a>
+        ensures { IsPatternOf (first_child is_pattern_kind (node_of self.entry)) result }
+    {
+        cast_first(self.node())
+    }
+}
+
+impl<'a> Contextual<'a> {
+    /// The expression that depends on the context.
+    pub fn body(self) -> Expr<'a>
+        ensures { IsExprOf (first_child is_expr_kind (node_of self.entry)) result }
+    {
+        cast_first(self.node())
+    }
+}

@@ -1,0 +1,109 @@
+//! Arrays, dictionaries and destructuring patterns, and what they hold.
+ghost use Rattle.std.specs.Prelude.{◌≡◌};
+ghost use Rattle.typst_ast.specs.Expr.{IsExprOf, IsOptionalExprOf};
+ghost use Rattle.typst_ast.specs.Kinds.{is_array_item_kind, is_destructuring_item_kind, is_dict_item_kind, is_expr_kind, is_pattern_kind};
+ghost use Rattle.typst_ast.specs.Pattern.{IsPatternOf};
+ghost use Rattle.typst_ast.specs.View.{IsOptionalAtom, node_of};
+ghost use Rattle.typst_atoms.specs.Children.{all_children, first_child, last_child};
+ghost use Rattle.typst_atoms.specs.Items.{nodes_left};
+ghost use Rattle.typst_atoms.specs.Kinds.{is_kind};
+ghost use Rattle.typst_atoms.specs.View.{node_of as atom_node};
+ghost use Rattle.typst_base.specs.declared.kind.SyntaxKind.TheVariants as kinds;
+
+use crate::array_item::ArrayItem;
+use crate::destructuring_item::DestructuringItem;
+use crate::dict_item::DictItem;
+use crate::expr::Expr;
+use crate::pattern::Pattern;
+use crate::views::{Array, Destructuring, Dict, Ident, Keyed, Named, Spread};
+use typst_atoms::{Items, cast_all, cast_first, cast_last, try_cast_first};
+
+impl<'a> Array<'a> {
+    /// The items in order, from both ends.
+    pub fn items(self) -> Items<'a, ArrayItem<'a>>
+        ensures { nodes_left is_array_item_kind result ≡ all_children is_array_item_kind (node_of self.entry) }
+    {
+        cast_all(self.node())
+    }
+}
+
+impl<'a> Dict<'a> {
+    /// The items in order, from both ends.
+    pub fn items(self) -> Items<'a, DictItem<'a>>
+        ensures { nodes_left is_dict_item_kind result ≡ all_children is_dict_item_kind (node_of self.entry) }
+    {
+        cast_all(self.node())
+    }
+}
+
+impl<'a> Destructuring<'a> {
+    /// The items in order, from both ends.
+    pub fn items(self) -> Items<'a, DestructuringItem<'a>>
+        ensures { nodes_left is_destructuring_item_kind result ≡ all_children is_destructuring_item_kind (node_of self.entry) }
+    {
+        cast_all(self.node())
+    }
+}
+
+impl<'a> Named<'a> {
+    /// The name: `thickness` of `thickness: 3pt`.
+    pub fn name(self) -> Ident<'a>
+        ensures { atom_node result ≡ first_child (is_kind kinds.Ident) (node_of self.entry) }
+    {
+        cast_first(self.node())
+    }
+
+    /// The expression behind the name. Where the pair stands in a pattern, use [`Self::pattern`].
+    pub fn expr(self) -> Expr<'a>
+        ensures { IsExprOf (last_child is_expr_kind (node_of self.entry)) result }
+    {
+        cast_last(self.node())
+    }
+
+    /// The pattern behind the name, where the pair stands in a pattern.
+    pub fn pattern(self) -> Pattern<'a>
+        ensures { IsPatternOf (last_child is_pattern_kind (node_of self.entry)) result }
+    {
+        cast_last(self.node())
+    }
+}
+
+impl<'a> Keyed<'a> {
+    /// The key: `"spaced key"` of `"spaced key": true`.
+    pub fn key(self) -> Expr<'a>
+        ensures { IsExprOf (first_child is_expr_kind (node_of self.entry)) result }
+    {
+        cast_first(self.node())
+    }
+
+    /// The expression behind the key.
+    pub fn expr(self) -> Expr<'a>
+        ensures { IsExprOf (last_child is_expr_kind (node_of self.entry)) result }
+    {
+        cast_last(self.node())
+    }
+}
+
+impl<'a> Spread<'a> {
+    /// The expression that is spread. Where the spread stands in a pattern or among parameters, use
+    /// [`Self::sink_expr`] or [`Self::sink_ident`].
+    pub fn expr(self) -> Expr<'a>
+        ensures { IsExprOf (first_child is_expr_kind (node_of self.entry)) result }
+    {
+        cast_first(self.node())
+    }
+
+    /// The name of the sink, if it has one and the spread stands in a pattern or among parameters.
+    pub fn sink_ident(self) -> Option<Ident<'a>>
+        ensures { IsOptionalAtom kinds.Ident (first_child (is_kind kinds.Ident) (node_of self.entry)) result }
+    {
+        try_cast_first(self.node())
+    }
+
+    /// The expression of the sink, if it has one and the spread stands in a pattern.
+    pub fn sink_expr(self) -> Option<Expr<'a>>
+        ensures { IsOptionalExprOf (first_child is_expr_kind (node_of self.entry)) result }
+    {
+        try_cast_first(self.node())
+    }
+}

@@ -1,0 +1,100 @@
+//! Conditionals, loops and returns.
+ghost use Rattle.std.specs.Prelude.{◌≡◌};
+ghost use Rattle.typst_ast.specs.Expr.{IsExprOf, IsOptionalExprOf};
+ghost use Rattle.typst_ast.specs.Kinds.{is_expr_kind, is_pattern_kind};
+ghost use Rattle.typst_ast.specs.Pattern.{IsPatternOf};
+ghost use Rattle.typst_ast.specs.Lists.{third_of};
+ghost use Rattle.typst_ast.specs.View.{node_of};
+ghost use Rattle.typst_atoms.specs.Children.{all_children, all_in, behind_first, children_in, first_child, first_of, last_child, second_child};
+ghost use Rattle.typst_atoms.specs.Kinds.{is_kind};
+ghost use Rattle.typst_base.specs.declared.kind.SyntaxKind.TheVariants as kinds;
+
+use crate::expr::Expr;
+use crate::nodes::{second_expr, third_expr};
+use crate::pattern::Pattern;
+use crate::views::{Conditional, ForLoop, FuncReturn, WhileLoop};
+use typst_atoms::casts::first_in;
+use typst_atoms::nodes::{behind, children};
+use typst_atoms::{cast_first, cast_last, try_cast_last};
+use typst_base::SyntaxKind;
+use typst_node::AstNode;
+
+impl<'a> Conditional<'a> {
+    /// The condition.
+    pub fn condition(self) -> Expr<'a>
+        ensures { IsExprOf (first_child is_expr_kind (node_of self.entry)) result }
+    {
+        cast_first(self.node())
+    }
+
+    /// What is evaluated where the condition holds: the second expression.
+    pub fn if_body(self) -> Expr<'a>
+        ensures { IsExprOf (second_child is_expr_kind (node_of self.entry)) result }
+    {
+        match second_expr(children(self.node())) {
+            Some(body) => body,
+            None => Expr::placeholder(),
+        }
+    }
+
+    /// What is evaluated otherwise: the third expression, if there is one.
+    pub fn else_body(self) -> Option<Expr<'a>>
+        ensures { IsOptionalExprOf (third_of (all_children is_expr_kind (node_of self.entry))) result }
+    {
+        third_expr(children(self.node()))
+    }
+}
+
+impl<'a> WhileLoop<'a> {
+    /// The condition.
+    pub fn condition(self) -> Expr<'a>
+        ensures { IsExprOf (first_child is_expr_kind (node_of self.entry)) result }
+    {
+        cast_first(self.node())
+    }
+
+    /// The loop's body.
+    pub fn body(self) -> Expr<'a>
+        ensures { IsExprOf (last_child is_expr_kind (node_of self.entry)) result }
+    {
+        cast_last(self.node())
+    }
+}
+
+impl<'a> ForLoop<'a> {
+    /// The pattern that each item is bound to.
+    pub fn pattern(self) -> Pattern<'a>
+        ensures { IsPatternOf (first_child is_pattern_kind (node_of self.entry)) result }
+    {
+        cast_first(self.node())
+    }
+
+    /// What is gone over: the first expression behind the first `in`.
+    pub fn iterable(self) -> Expr<'a>
+        ensures { IsExprOf
+            (first_of (all_in is_expr_kind
+            (behind_first (is_kind kinds.In) (children_in (node_of self.entry)))))
+            result }
+    {
+        match first_in(behind(self.node(), SyntaxKind::In)) {
+            Some(expr) => expr,
+            None => Expr::placeholder(),
+        }
+    }
+
+    /// The loop's body.
+    pub fn body(self) -> Expr<'a>
+        ensures { IsExprOf (last_child is_expr_kind (node_of self.entry)) result }
+    {
+        cast_last(self.node())
+    }
+}
+
+impl<'a> FuncReturn<'a> {
+    /// What is returned, if anything is.
+    pub fn body(self) -> Option<Expr<'a>>
+        ensures { IsOptionalExprOf (last_child is_expr_kind (node_of self.entry)) result }
+    {
+        try_cast_last(self.node())
+    }
+}

@@ -1,0 +1,59 @@
+//! Items of numbered lists.
+ghost use Rattle.std.specs.Prelude.{◌≡◌, ◌==◌};
+ghost use Rattle.std.specs.Option.{SomeIff};
+ghost use Rattle.std.specs.Str.Parse.{digits_value};
+ghost use Rattle.typst_ast.specs.EnumNumbers.{HasNumber, IsFirstNumber, marker_digits};
+ghost use Rattle.typst_ast.specs.View.{node_of};
+ghost use Rattle.typst_atoms.specs.Children.{all_children, first_child};
+ghost use Rattle.typst_atoms.specs.Kinds.{is_kind};
+ghost use Rattle.typst_atoms.specs.Trims.{without_trailing};
+ghost use Rattle.typst_base.specs.declared.kind.SyntaxKind.TheVariants as kinds;
+
+use crate::views::{EnumItem, Markup};
+use typst_atoms::cast_first;
+use typst_atoms::nodes::children;
+use typst_base::SyntaxKind;
+
+// The text without all `.` at its end.
+fn without_dots(text: &str) -> &str
+    ensures { result.now ≡ without_trailing (λ b. b == 46) text.now }
+{
+    text.trim_end_matches('.')
+}
+
+// The number that a marker's text writes, if it writes one.
+fn marker_number(text: &str) -> Option<u64>
+    ensures { SomeIff result (HasNumber text.now) (digits_value 10 (marker_digits text.now)) }
+{
+    match u64::from_str_radix(without_dots(text), 10) {
+        Ok(number) => Some(number),
+        Err(_) => None,
+    }
+}
+
+impl<'a> EnumItem<'a> {
+    /// The number that the item is given explicitly, if any: that of its first marker which writes one.
+    ///
+    /// A marker writes a number by an optional `+` and decimal digits, with any `.` behind, where a `u64` holds the value.
+    pub fn number(self) -> Option<u64>
+        ensures { IsFirstNumber (all_children (is_kind kinds.EnumMarker) (node_of self.entry)) result }
+    {
+        let mut rest = children(self.node());
+        while let [first, more @ ..] = rest {
+            if first.kind() == SyntaxKind::EnumMarker {
+                if let Some(number) = marker_number(first.leaf_text()) {
+                    return Some(number);
+                }
+            }
+            rest = more;
+        }
+        None
+    }
+
+    /// The item's content.
+    pub fn body(self) -> Markup<'a>
+        ensures { node_of result ≡ first_child (is_kind kinds.Markup) (node_of self.entry) }
+    {
+        cast_first(self.node())
+    }
+}

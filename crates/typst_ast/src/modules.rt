@@ -1,0 +1,63 @@
+//! Imports and includes of modules.
+ghost use Rattle.std.specs.Prelude.{◌≡◌};
+ghost use Rattle.typst_ast.specs.Expr.{IsExprOf, IsOptionalExprOf};
+ghost use Rattle.typst_ast.specs.Imports.{IsImportsOf, is_imports_kind};
+ghost use Rattle.typst_ast.specs.Kinds.{is_expr_kind};
+ghost use Rattle.typst_ast.specs.View.{IsOptionalAtom, node_of};
+ghost use Rattle.typst_atoms.specs.Children.{all_in, behind_first, children_in, first_child, first_of, last_child};
+ghost use Rattle.typst_atoms.specs.Kinds.{is_kind};
+ghost use Rattle.typst_base.specs.declared.kind.SyntaxKind.TheVariants as kinds;
+
+use crate::expr::Expr;
+use crate::imports::Imports;
+use crate::views::{Ident, ImportItems, ModuleImport, ModuleInclude};
+use typst_atoms::casts::first_in;
+use typst_atoms::nodes::{behind, children};
+use typst_atoms::{cast_first, cast_last};
+use typst_base::SyntaxKind;
+
+impl<'a> ModuleImport<'a> {
+    /// The module or the path that is imported from.
+    pub fn source(self) -> Expr<'a>
+        ensures { IsExprOf (first_child is_expr_kind (node_of self.entry)) result }
+    {
+        cast_first(self.node())
+    }
+
+    /// What is imported from the module, if anything is named: the first child that is a star or import items.
+    pub fn imports(self) -> Option<Imports<'a>>
+        ensures { IsImportsOf (first_child is_imports_kind (node_of self.entry)) result }
+    {
+        let mut rest = children(self.node());
+        while let [first, more @ ..] = rest {
+            let kind = first.kind();
+            if kind == SyntaxKind::Star {
+                return Some(Imports::Wildcard);
+            }
+            if kind == SyntaxKind::ImportItems {
+                return Some(Imports::Items(ImportItems::of_kind(first)));
+            }
+            rest = more;
+        }
+        None
+    }
+
+    /// The name that the module gets: the first identifier behind the first `as`.
+    pub fn new_name(self) -> Option<Ident<'a>>
+        ensures { IsOptionalAtom kinds.Ident
+            (first_of (all_in (is_kind kinds.Ident)
+            (behind_first (is_kind kinds.As) (children_in (node_of self.entry)))))
+            result }
+    {
+        first_in(behind(self.node(), SyntaxKind::As))
+    }
+}
+
+impl<'a> ModuleInclude<'a> {
+    /// The path that is included.
+    pub fn source(self) -> Expr<'a>
+        ensures { IsExprOf (last_child is_expr_kind (node_of self.entry)) result }
+    {
+        cast_last(self.node())
+    }
+}

@@ -1,0 +1,128 @@
+//! Parts of lists of nodes.
+ghost use Rattle.std.specs.Prelude.{◌≡◌};
+ghost use Rattle.std.specs.Option.{option_copied};
+ghost use Rattle.typst_ast.specs.Expr.{IsOptionalExprOf};
+ghost use Rattle.typst_ast.specs.Kinds.{is_expr_kind};
+ghost use Rattle.typst_ast.specs.Lists.{all_but_last, before_last, is_of_kind, last_significant, of_class, third_of};
+ghost use Rattle.typst_ast.specs.View.{IsOptionalAtom};
+ghost use Rattle.typst_atoms.specs.Children.{all_in, behind_first, first_of, last_of, second_of};
+ghost use Rattle.typst_atoms.specs.Kinds.{is_kind};
+ghost use Rattle.typst_base.specs.declared.kind.SyntaxKind.TheVariants as kinds;
+
+use crate::expr::Expr;
+use crate::views::Ident;
+use typst_atoms::casts::first_in;
+use typst_base::SyntaxKind;
+use typst_node::{AstNode, SyntaxNode};
+
+// Whether there is a node, and it is of the kind.
+pub(crate) fn is_of_kind(node: Option<&SyntaxNode>, kind: SyntaxKind) -> bool
+    ensures { result ≡ is_of_kind kind (option_copied node.entry) }
+{
+    match node {
+        Some(node) => node.kind() == kind,
+        None => false,
+    }
+}
+
+// The second node.
+pub(crate) fn second(nodes: &[SyntaxNode]) -> Option<&SyntaxNode>
+    ensures { option_copied result ≡ second_of nodes.now }
+{
+    match nodes {
+        [_, second, ..] => Some(second),
+        _ => None,
+    }
+}
+
+// The last node.
+#[tactic(auto, using(crate::proofs::Ends::last_of_append))]
+pub(crate) fn last(nodes: &[SyntaxNode]) -> Option<&SyntaxNode>
+    ensures { option_copied result ≡ last_of nodes.now }
+{
+    match nodes.split_last() {
+        Some((last, _)) => Some(last),
+        None => None,
+    }
+}
+
+// The nodes without the last one.
+#[tactic(auto, using(crate::proofs::Ends::all_but_last_append))]
+pub(crate) fn all_but_last(nodes: &[SyntaxNode]) -> &[SyntaxNode]
+    ensures { result.now ≡ all_but_last nodes.now }
+{
+    match nodes.split_last() {
+        Some((_, before)) => before,
+        None => nodes,
+    }
+}
+
+// The nodes behind the first expression.
+pub(crate) fn behind_first_expr(nodes: &[SyntaxNode]) -> &[SyntaxNode]
+    ensures { result.now ≡ behind_first is_expr_kind nodes.now }
+{
+    let mut rest = nodes;
+    while let [first, more @ ..] = rest {
+        rest = more;
+        if first.is::<Expr>() {
+            break;
+        }
+    }
+    rest
+}
+
+// The first node, if it is an identifier.
+pub(crate) fn first_ident<'a>(nodes: &'a [SyntaxNode]) -> Option<Ident<'a>>
+    ensures { IsOptionalAtom kinds.Ident (of_class (is_kind kinds.Ident) (first_of nodes.now)) result }
+{
+    match nodes {
+        [first, ..] => Ident::from_untyped(first),
+        [] => None,
+    }
+}
+
+// The nodes before the last one of the kind; none where there is no such node.
+#[tactic(auto, using(crate::proofs::Ends::before_last_append))]
+pub(crate) fn before_last(nodes: &[SyntaxNode], kind: SyntaxKind) -> &[SyntaxNode]
+    ensures { result.now ≡ before_last (is_kind kind) nodes.now }
+{
+    let mut rest = nodes;
+    while let Some((last, before)) = rest.split_last() {
+        if last.kind() == kind {
+            return before;
+        }
+        rest = before;
+    }
+    &[]
+}
+
+// The last node that isn't trivia.
+#[tactic(auto, using(crate::proofs::Ends::last_significant_append))]
+pub(crate) fn last_significant(nodes: &[SyntaxNode]) -> Option<&SyntaxNode>
+    ensures { option_copied result ≡ last_significant nodes.now }
+{
+    let mut rest = nodes;
+    while let Some((last, before)) = rest.split_last() {
+        if !last.kind().is_trivia() {
+            return Some(last);
+        }
+        rest = before;
+    }
+    None
+}
+
+// The second node that is an expression.
+pub(crate) fn second_expr<'a>(nodes: &'a [SyntaxNode]) -> Option<Expr<'a>>
+    ensures { IsOptionalExprOf (second_of (all_in is_expr_kind nodes.now)) result }
+{
+    first_in(behind_first_expr(nodes))
+}
+
+// The third node that is an expression.
+pub(crate) fn third_expr<'a>(nodes: &'a [SyntaxNode]) -> Option<Expr<'a>>
+    ensures { IsOptionalExprOf (third_of (all_in is_expr_kind nodes.now)) result }
+{
+    let behind_one = behind_first_expr(nodes);
+    let behind_two = behind_first_expr(behind_one);
+    first_in(behind_two)
+}

@@ -1,0 +1,91 @@
+//! Operations with operators, and accesses of fields.
+ghost use Rattle.std.specs.Prelude.{◌≡◌, false};
+ghost use Rattle.typst_ast.specs.Expr.{IsExprOf};
+ghost use Rattle.typst_ast.specs.Kinds.{is_expr_kind};
+ghost use Rattle.typst_ast.specs.Operators.{binary_operator_in, unary_operator_in};
+ghost use Rattle.typst_ast.specs.View.{node_of};
+ghost use Rattle.typst_atoms.specs.Children.{children_in, first_child, last_child};
+ghost use Rattle.typst_atoms.specs.Kinds.{is_kind};
+ghost use Rattle.typst_atoms.specs.View.{node_of as atom_node};
+ghost use Rattle.typst_base.specs.declared.kind.SyntaxKind.TheVariants as kinds;
+
+use crate::expr::Expr;
+use crate::views::{Binary, FieldAccess, Ident, Unary};
+use typst_atoms::nodes::children;
+use typst_atoms::{BinOp, UnOp, cast_first, cast_last};
+use typst_base::SyntaxKind;
+
+impl<'a> Unary<'a> {
+    /// The operator: that of the first child that is one, `+` where there is none.
+    pub fn op(self) -> UnOp
+        ensures { result ≡ unary_operator_in (children_in (node_of self.entry)) }
+    {
+        let mut rest = children(self.node());
+        while let [first, more @ ..] = rest {
+            if let Some(op) = UnOp::from_kind(first.kind()) {
+                return op;
+            }
+            rest = more;
+        }
+        UnOp::Pos
+    }
+
+    /// The operand.
+    pub fn expr(self) -> Expr<'a>
+        ensures { IsExprOf (last_child is_expr_kind (node_of self.entry)) result }
+    {
+        cast_last(self.node())
+    }
+}
+
+impl<'a> Binary<'a> {
+    /// The operator: that of the first child that is one, `+` where there is none. An `in` behind a `not` is `not in`.
+    pub fn op(self) -> BinOp
+        ensures { result ≡ binary_operator_in false (children_in (node_of self.entry)) }
+    {
+        let mut negated = false;
+        let mut rest = children(self.node());
+        while let [first, more @ ..] = rest {
+            let kind = first.kind();
+            if negated && kind == SyntaxKind::In {
+                return BinOp::NotIn;
+            }
+            if let Some(op) = BinOp::from_kind(kind) {
+                return op;
+            }
+            negated = negated || kind == SyntaxKind::Not;
+            rest = more;
+        }
+        BinOp::Add
+    }
+
+    /// The left operand.
+    pub fn lhs(self) -> Expr<'a>
+        ensures { IsExprOf (first_child is_expr_kind (node_of self.entry)) result }
+    {
+        cast_first(self.node())
+    }
+
+    /// The right operand.
+    pub fn rhs(self) -> Expr<'a>
+        ensures { IsExprOf (last_child is_expr_kind (node_of self.entry)) result }
+    {
+        cast_last(self.node())
+    }
+}
+
+impl<'a> FieldAccess<'a> {
+    /// What the field is taken of.
+    pub fn target(self) -> Expr<'a>
+        ensures { IsExprOf (first_child is_expr_kind (node_of self.entry)) result }
+    {
+        cast_first(self.node())
+    }
+
+    /// The field's name.
+    pub fn field(self) -> Ident<'a>
+        ensures { atom_node result ≡ last_child (is_kind kinds.Ident) (node_of self.entry) }
+    {
+        cast_last(self.node())
+    }
+}

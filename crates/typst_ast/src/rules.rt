@@ -1,0 +1,62 @@
+//! Rules for sets and shows.
+ghost use Rattle.std.specs.Prelude.{◌≡◌};
+ghost use Rattle.typst_ast.specs.Expr.{IsExprOf, IsOptionalExprOf};
+ghost use Rattle.typst_ast.specs.Kinds.{is_expr_kind};
+ghost use Rattle.typst_ast.specs.Lists.{before_last};
+ghost use Rattle.typst_ast.specs.View.{node_of};
+ghost use Rattle.typst_atoms.specs.Children.{all_in, behind_first, children_in, first_child, first_of, last_child, last_of};
+ghost use Rattle.typst_atoms.specs.Kinds.{is_kind};
+ghost use Rattle.typst_base.specs.declared.kind.SyntaxKind.TheVariants as kinds;
+
+use crate::expr::Expr;
+use crate::nodes::before_last;
+use crate::views::{Args, SetRule, ShowRule};
+use typst_atoms::casts::{first_in, last_in};
+use typst_atoms::nodes::{behind, children};
+use typst_atoms::{cast_first, cast_last};
+use typst_base::SyntaxKind;
+
+impl<'a> SetRule<'a> {
+    /// The function whose defaults are set.
+    pub fn target(self) -> Expr<'a>
+        ensures { IsExprOf (first_child is_expr_kind (node_of self.entry)) result }
+    {
+        cast_first(self.node())
+    }
+
+    /// The arguments that become the defaults.
+    pub fn args(self) -> Args<'a>
+        ensures { node_of result ≡ last_child (is_kind kinds.Args) (node_of self.entry) }
+    {
+        cast_last(self.node())
+    }
+
+    /// The condition under which the rule holds: the first expression behind the first `if`.
+    pub fn condition(self) -> Option<Expr<'a>>
+        ensures { IsOptionalExprOf
+            (first_of (all_in is_expr_kind
+            (behind_first (is_kind kinds.If) (children_in (node_of self.entry)))))
+            result }
+    {
+        first_in(behind(self.node(), SyntaxKind::If))
+    }
+}
+
+impl<'a> ShowRule<'a> {
+    /// What the rule applies to: the last expression before the last colon.
+    pub fn selector(self) -> Option<Expr<'a>>
+        ensures { IsOptionalExprOf
+            (last_of (all_in is_expr_kind
+            (before_last (is_kind kinds.Colon) (children_in (node_of self.entry)))))
+            result }
+    {
+        last_in(before_last(children(self.node()), SyntaxKind::Colon))
+    }
+
+    /// What is done to what is selected.
+    pub fn transform(self) -> Expr<'a>
+        ensures { IsExprOf (last_child is_expr_kind (node_of self.entry)) result }
+    {
+        cast_last(self.node())
+    }
+}

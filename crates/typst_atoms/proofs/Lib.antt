@@ -1,0 +1,6 @@
+pub mod Answered
+pub mod HexRuns
+pub mod Lasts
+pub mod Trims
+pub mod Unescaping
+pub mod Units

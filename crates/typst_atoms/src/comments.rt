@@ -1,0 +1,36 @@
+//! What comments say.
+ghost use Rattle.typst_atoms.specs.BlockComments.{IsBlockCommentText};
+ghost use Rattle.typst_atoms.specs.LineComments.{IsLineCommentText};
+ghost use Rattle.typst_atoms.specs.Texts.{text_in};
+ghost use Rattle.typst_atoms.specs.View.{node_of};
+
+use crate::views::{BlockComment, LineComment};
+
+impl<'a> LineComment<'a> {
+    /// What the comment says: its text without a leading `//`.
+    pub fn text(self) -> &'a str
+        ensures { IsLineCommentText (text_in (node_of self.entry)) result.now }
+    {
+        let text = self.leaf_text();
+        match text.strip_prefix("//") {
+            Some(rest) => rest,
+            None => text,
+        }
+    }
+}
+
+impl<'a> BlockComment<'a> {
+    /// What the comment says: what stands between `/*` and `*/`, or the whole text where one of them is missing.
+    pub fn text(self) -> &'a str
+        ensures { IsBlockCommentText (text_in (node_of self.entry)) result.now }
+    {
+        let text = self.leaf_text();
+        match text.strip_prefix("/*") {
+            Some(rest) => match rest.strip_suffix("*/") {
+                Some(body) => body,
+                None => text,
+            },
+            None => text,
+        }
+    }
+}

@@ -1,0 +1,74 @@
+// Runs of hexadecimal digits.
+ghost use Rattle.std.specs.Prelude.{◌≡◌, ◌≤◌, length, min};
+ghost use Rattle.std.specs.Str.Parse.{digits_value};
+ghost use Rattle.typst_atoms.specs.CodePoints.{hex_run};
+ghost use Rattle.typst_atoms.specs.HexValues.{capped_value};
+ghost use Rattle.typst_atoms.specs.Strings.{hex_len};
+
+// The value of the run at the front, cut at 0x11_0000 at each digit, so that a run of any length can be read.
+fn capped_value(bytes: &[u8]) -> u32
+    ensures { result ≡ capped_value 0 bytes.now }
+{
+    let mut code: u32 = 0;
+    let mut rest = bytes;
+    while let [first, more @ ..] = rest {
+        match (*first as char).to_digit(16) {
+            Some(digit) => {
+                code = (code * 16 + digit).min(0x11_0000);
+                rest = more;
+            }
+            None => break,
+        }
+    }
+    code
+}
+
+// The value of the run at the front, or 0x11_0000, which is past all characters, if that is smaller.
+#[tactic(auto, using(crate::proofs::HexRuns::capped_is))]
+pub(crate) fn hex_value(bytes: &[u8]) -> u32
+    ensures { result ≡ min 0x11_0000 (digits_value 16 (hex_run bytes.now)) }
+{
+    capped_value(bytes)
+}
+
+// The same of characters.
+fn capped_value_of(chars: &[char]) -> u32
+    ensures { result ≡ capped_value 0 chars.now }
+{
+    let mut code: u32 = 0;
+    let mut rest = chars;
+    while let [first, more @ ..] = rest {
+        match first.to_digit(16) {
+            Some(digit) => {
+                code = (code * 16 + digit).min(0x11_0000);
+                rest = more;
+            }
+            None => break,
+        }
+    }
+    code
+}
+
+#[tactic(auto, using(crate::proofs::HexRuns::capped_is))]
+pub(crate) fn hex_value_of(chars: &[char]) -> u32
+    ensures { result ≡ min 0x11_0000 (digits_value 16 (hex_run chars.now)) }
+{
+    capped_value_of(chars)
+}
+
+// How many hexadecimal digits stand at the front.
+pub(crate) fn hex_len(chars: &[char]) -> usize
+    ensures value { result ≡ hex_len chars.now }
+    ensures within { result ≤ length chars.now }
+{
+    let mut rest = chars;
+    let mut n = 0;
+    while let [first, more @ ..] = rest {
+        if !first.is_digit(16) {
+            break;
+        }
+        n += 1;
+        rest = more;
+    }
+    n
+}

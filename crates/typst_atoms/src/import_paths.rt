@@ -1,0 +1,28 @@
+//! Paths to imported items.
+ghost use Rattle.std.specs.Prelude.{◌≡◌};
+ghost use Rattle.typst_atoms.specs.Children.{all_children, last_child};
+ghost use Rattle.typst_atoms.specs.Items.{nodes_left};
+ghost use Rattle.typst_atoms.specs.Kinds.{is_kind};
+ghost use Rattle.typst_atoms.specs.View.{node_of};
+ghost use Rattle.typst_base.specs.declared.kind.SyntaxKind.TheVariants as kinds;
+
+use crate::casts::{cast_all, cast_last};
+use crate::items::Items;
+use crate::views::{Ident, ImportItemPath};
+
+impl<'a> ImportItemPath<'a> {
+    /// The path's parts in order, from both ends.
+    pub fn iter(self) -> Items<'a, Ident<'a>>
+        ensures { nodes_left (is_kind kinds.Ident) result
+            ≡ all_children (is_kind kinds.Ident) (node_of self.entry) }
+    {
+        cast_all(self.node())
+    }
+
+    /// The path's last part: the item's name.
+    pub fn name(self) -> Ident<'a>
+        ensures { node_of result ≡ last_child (is_kind kinds.Ident) (node_of self.entry) }
+    {
+        cast_last(self.node())
+    }
+}

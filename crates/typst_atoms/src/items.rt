@@ -1,0 +1,71 @@
+//! The children of one class, from both ends.
+ghost use Rattle.std.specs.Prelude.{◌≡◌};
+ghost use Rattle.std.specs.Iterator.{YieldsFirstBy, YieldsLastBy, item_count};
+ghost use Rattle.std.specs.Option.{option_copied};
+ghost use Rattle.typst_atoms.specs.Children.{all_in, all_children};
+ghost use Rattle.typst_atoms.specs.Items.{nodes_left, told_left};
+ghost use Rattle.typst_node.specs.Views.{told};
+
+use crate::nodes::children;
+use std::marker::PhantomData;
+use typst_node::{AstNode, SyntaxNode};
+
+/// The views of the nodes of a list whose kind lies in the class of `T`, in order: one list from both ends.
+///
+/// Each step passes over the nodes of other kinds, so all steps together go over the list once.
+#[derive(Drop)]
+pub struct Items<'a, T> {
+    rest: &'a [SyntaxNode],
+    of: PhantomData<T>,
+}
+
+impl<'a, T: AstNode<'a>> Items<'a, T> {
+    /// The views of the children; none where there is no node.
+    pub fn new(node: Option<&'a SyntaxNode>) -> Self
+        ensures { nodes_left T.class result ≡ all_children T.class (option_copied node.entry) }
+    {
+        Items::over(children(node))
+    }
+
+    /// The views of these nodes.
+    pub fn over(nodes: &'a [SyntaxNode]) -> Self
+        ensures { nodes_left T.class result ≡ all_in T.class nodes.now }
+    {
+        Items {
+            rest: nodes,
+            of: PhantomData,
+        }
+    }
+}
+
+impl<'a, T: AstNode<'a>> Iterator for Items<'a, T> {
+    type Item = T;
+
+    ghost next_gives = { YieldsFirstBy (told T.node_of T.view_kind T.proper) (told_left T.class) };
+
+    ghost remaining = { item_count (nodes_left T.class) };
+
+    fn next(&mut self) -> Option<T> {
+        while let [first, rest @ ..] = self.rest {
+            self.rest = rest;
+            if let Some(view) = T::from_untyped(first) {
+                return Some(view);
+            }
+        }
+        None
+    }
+}
+
+impl<'a, T: AstNode<'a>> DoubleEndedIterator for Items<'a, T> {
+    ghost next_back_gives = { YieldsLastBy (told T.node_of T.view_kind T.proper) (told_left T.class) };
+
+    fn next_back(&mut self) -> Option<T> {
+        while let Some((last, rest)) = self.rest.split_last() {
+            self.rest = rest;
+            if let Some(view) = T::from_untyped(last) {
+                return Some(view);
+            }
+        }
+        None
+    }
+}

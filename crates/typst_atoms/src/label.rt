@@ -1,0 +1,18 @@
+//! The name of a label.
+ghost use Rattle.std.specs.Prelude.{◌≡◌};
+ghost use Rattle.typst_atoms.specs.Labels.{label_name};
+ghost use Rattle.typst_atoms.specs.Texts.{text_in};
+ghost use Rattle.typst_atoms.specs.View.{node_of};
+
+use crate::views::Label;
+
+impl<'a> Label<'a> {
+    /// The label's name: the text without all `<` at its front and all `>` at its end.
+    pub fn get(self) -> &'a str
+        ensures { result.now ≡ label_name (text_in (node_of self.entry)) }
+    {
+        self.leaf_text()
+            .trim_start_matches('<')
+            .trim_end_matches('>')
+    }
+}

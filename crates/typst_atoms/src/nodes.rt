@@ -1,0 +1,57 @@
+//! The children of a node that may be missing: what the accessors of views are made of.
+ghost use Rattle.std.specs.Prelude.{◌≡◌};
+ghost use Rattle.std.specs.Option.{option_copied};
+ghost use Rattle.typst_atoms.specs.Children.{children_in, first_child, behind_first};
+ghost use Rattle.typst_atoms.specs.Kinds.{is_kind};
+ghost use Rattle.typst_atoms.specs.Texts.{text_in};
+
+use typst_base::SyntaxKind;
+use typst_node::SyntaxNode;
+
+/// The children; none where there is no node.
+pub fn children<'a>(node: Option<&'a SyntaxNode>) -> &'a [SyntaxNode]
+    ensures { result.now ≡ children_in (option_copied node.entry) }
+{
+    match node {
+        Some(node) => node.children(),
+        None => &[],
+    }
+}
+
+/// The leaf text; empty where there is no node, and for an inner node.
+pub fn leaf_text<'a>(node: Option<&'a SyntaxNode>) -> &'a str
+    ensures { result.now ≡ text_in (option_copied node.entry) }
+{
+    match node {
+        Some(node) => node.leaf_text(),
+        None => "",
+    }
+}
+
+/// The first child of the kind.
+pub fn first_of_kind<'a>(node: Option<&'a SyntaxNode>, kind: SyntaxKind) -> Option<&'a SyntaxNode>
+    ensures { option_copied result ≡ first_child (is_kind kind) (option_copied node.entry) }
+{
+    let mut rest = children(node);
+    while let [first, more @ ..] = rest {
+        if first.kind() == kind {
+            return Some(first);
+        }
+        rest = more;
+    }
+    None
+}
+
+/// The children behind the first child of the kind; none where there is no such child.
+pub fn behind<'a>(node: Option<&'a SyntaxNode>, kind: SyntaxKind) -> &'a [SyntaxNode]
+    ensures { result.now ≡ behind_first (is_kind kind) (children_in (option_copied node.entry)) }
+{
+    let mut rest = children(node);
+    while let [first, more @ ..] = rest {
+        rest = more;
+        if first.kind() == kind {
+            break;
+        }
+    }
+    rest
+}

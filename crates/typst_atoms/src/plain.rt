@@ -1,0 +1,33 @@
+//! Quotes, primes and booleans.
+ghost use Rattle.std.specs.Prelude.{◌≡◌, ◌↔◌, codes, length, IsTrue};
+ghost use Rattle.typst_atoms.specs.Texts.{text_in};
+ghost use Rattle.typst_atoms.specs.View.{node_of};
+
+use crate::views::{Bool, MathPrimes, SmartQuote};
+
+impl<'a> SmartQuote<'a> {
+    /// Whether it is a double quote.
+    pub fn double(self) -> bool
+        ensures { IsTrue result ↔ (text_in (node_of self.entry) ≡ codes "\"") }
+    {
+        self.leaf_text() == "\""
+    }
+}
+
+impl<'a> MathPrimes<'a> {
+    /// How many primes there are: the bytes of the text.
+    pub fn count(self) -> usize
+        ensures { result ≡ length (text_in (node_of self.entry)) }
+    {
+        self.leaf_text().len()
+    }
+}
+
+impl<'a> Bool<'a> {
+    /// The boolean's value: whether the text is `true`.
+    pub fn get(self) -> bool
+        ensures { IsTrue result ↔ (text_in (node_of self.entry) ≡ codes "true") }
+    {
+        self.leaf_text() == "true"
+    }
+}

@@ -1,0 +1,134 @@
+//! Raw texts.
+ghost use Rattle.std.specs.Prelude.{◌≡◌, ◌<◌, ◌⊎◌, [], ◌∷◌, ◌++◌, length, true, false, MatchBool, MatchOption, IfSome};
+ghost use Rattle.std.specs.List.{AllByRecursion};
+ghost use Rattle.std.specs.Str.{chars};
+ghost use Rattle.typst_atoms.specs.Children.{all_children};
+ghost use Rattle.typst_atoms.specs.Items.{nodes_left};
+ghost use Rattle.typst_atoms.specs.Kinds.{is_kind};
+ghost use Rattle.typst_atoms.specs.Raws.{is_fenced, lang_node, trimmed_chars, trimmed_in, AnyByRecursion};
+ghost use Rattle.typst_atoms.specs.Texts.{text_in};
+ghost use Rattle.typst_atoms.specs.View.{node_of, IsOptionalView};
+ghost use Rattle.typst_base.specs.declared.kind.SyntaxKind.TheVariants as kinds;
+
+use crate::casts::{cast_all, try_cast_first};
+use crate::items::Items;
+use crate::nodes::{children, first_of_kind};
+use crate::views::{Raw, RawLang, Text};
+use typst_base::SyntaxKind;
+use typst_node::SyntaxNode;
+
+// The first character, and the text behind it.
+fn split_first_char(text: &str) -> Option<(char, &str)>
+    ensures chars { MatchOption result (chars text.now ≡ [])
+        (λ parts. chars text.now ≡ parts.0 ∷ chars parts.1.now) }
+    ensures shorter { IfSome result (λ parts. length parts.1.now < length text.now) }
+{
+    let mut chars = text.chars();
+    let first = chars.next()?;
+    Some((first, chars.as_str()))
+}
+
+// Whether the text has a character for which the test answers true.
+fn any_char<F: Fn(char) -> bool>(text: &str, test: &F) -> bool
+    requires { F.IsAlwaysCallable test.now }
+    ensures { MatchBool result
+        (AnyByRecursion (λ c. F.post test.now c true) (chars text.now))
+        (AllByRecursion (λ c. F.post test.now c false) (chars text.now)) }
+{
+    let mut rest = text;
+    while let Some((first, more)) = split_first_char(rest) {
+        if test(first) {
+            return true;
+        }
+        rest = more;
+    }
+    false
+}
+
+// The text of the first node of these that was trimmed off a raw text, and the nodes behind it.
+fn split_first_trimmed(nodes: &[SyntaxNode]) -> Option<(&str, &[SyntaxNode])>
+    ensures chars { MatchOption result (trimmed_in nodes.now ≡ [])
+        (λ parts. trimmed_in nodes.now ≡ chars parts.0.now ++ trimmed_in parts.1.now) }
+    ensures shorter { IfSome result (λ parts. length parts.1.now < length nodes.now) }
+{
+    let mut rest = nodes;
+    while let [first, more @ ..] = rest {
+        if first.kind() == SyntaxKind::RawTrimmed {
+            return Some((first.leaf_text(), more));
+        }
+        rest = more;
+    }
+    None
+}
+
+// Whether what was trimmed off a raw text among these nodes has a character for which the test answers true.
+fn any_trimmed_char<F: Fn(char) -> bool>(nodes: &[SyntaxNode], test: &F) -> bool
+    requires { F.IsAlwaysCallable test.now }
+    ensures { MatchBool result
+        (AnyByRecursion (λ c. F.post test.now c true) (trimmed_in nodes.now))
+        (AllByRecursion (λ c. F.post test.now c false) (trimmed_in nodes.now)) }
+{
+    let mut rest = nodes;
+    while let Some((text, more)) = split_first_trimmed(rest) {
+        if any_char(text, test) {
+            return true;
+        }
+        rest = more;
+    }
+    false
+}
+
+impl<'a> Raw<'a> {
+    /// The lines of the text, from both ends.
+    pub fn lines(self) -> Items<'a, Text<'a>>
+        ensures { nodes_left (is_kind kinds.Text) result
+            ≡ all_children (is_kind kinds.Text) (node_of self.entry) }
+    {
+        cast_all(self.node())
+    }
+
+    // Whether the delimiter has at least three bytes.
+    fn is_fenced(self) -> bool
+        ensures { result ≡ is_fenced (node_of self.entry) }
+    {
+        match first_of_kind(self.node(), SyntaxKind::RawDelim) {
+            Some(delimiter) => delimiter.len() >= 3,
+            None => false,
+        }
+    }
+
+    /// The language tag, which only a text between delimiters of at least three backticks has.
+    pub fn lang(self) -> Option<RawLang<'a>>
+        ensures { IsOptionalView (lang_node (node_of self.entry)) result }
+    {
+        if self.is_fenced() {
+            try_cast_first(self.node())
+        } else {
+            None
+        }
+    }
+
+    /// Whether it stands as a block: between delimiters of at least three backticks, with a newline trimmed off.
+    /// The caller tells which characters are newlines.
+    pub fn block<F: Fn(char) -> bool>(self, is_newline: F) -> bool
+        requires { F.IsAlwaysCallable is_newline }
+        ensures { MatchBool result
+            ((is_fenced (node_of self.entry) ≡ true)
+            × AnyByRecursion (λ c. F.post is_newline c true)
+            (trimmed_chars (node_of self.entry)))
+            ((is_fenced (node_of self.entry) ≡ false)
+            ⊎ AllByRecursion (λ c. F.post is_newline c false)
+            (trimmed_chars (node_of self.entry))) }
+    {
+        self.is_fenced() && any_trimmed_char(children(self.node()), &is_newline)
+    }
+}
+
+impl<'a> RawLang<'a> {
+    /// The language tag.
+    pub fn get(self) -> &'a str
+        ensures { result.now ≡ text_in (node_of self.entry) }
+    {
+        self.leaf_text()
+    }
+}

@@ -1,0 +1,145 @@
+//! The value of a quoted string.
+ghost use Rattle.std.specs.Prelude.{◌≡◌, ◌≤◌, length, IfOk, ◌++◌, ◌∷◌, string_bytes};
+ghost use Rattle.std.specs.Str.{chars};
+ghost use Rattle.typst_atoms.specs.Strings.{simple_escape, escape_len, escape_char, char_or, unescaped, IsStringBody, IsStringValue};
+ghost use Rattle.typst_atoms.specs.Texts.{text_in};
+ghost use Rattle.typst_atoms.specs.View.{node_of};
+ghost use lib.Utf8.{encodes};
+
+use crate::hex::{hex_len, hex_value_of};
+use crate::views::Str;
+use std::alloc::{AllocError, Global};
+
+// What a backslash and this character stand for.
+fn simple_escape(c: char) -> Option<char>
+    ensures { result ≡ simple_escape c }
+{
+    match c {
+        '\\' => Some('\\'),
+        '"' => Some('"'),
+        'n' => Some('\n'),
+        'r' => Some('\r'),
+        't' => Some('\t'),
+        _ => None,
+    }
+}
+
+// How many characters behind a backslash belong to it.
+fn escape_len(chars: &[char]) -> usize
+    ensures value { result ≡ escape_len chars.now }
+    ensures within { result ≤ length chars.now }
+{
+    match chars {
+        [] => 0,
+        ['u', '{', hex @ ..] => {
+            let n = hex_len(hex);
+            match &hex[n..] {
+                ['}', ..] => n + 3,
+                _ => n + 2,
+            }
+        }
+        _ => 1,
+    }
+}
+
+// The character that a backslash and these stand for, unless they stand for themselves.
+fn escape_char(chars: &[char]) -> Option<char>
+    ensures { result ≡ escape_char chars.now }
+{
+    match chars {
+        [] => None,
+        ['u', '{', hex @ ..] => match hex {
+            [digit, ..] if digit.is_digit(16) => char::from_u32(hex_value_of(hex)),
+            _ => None,
+        },
+        [c, ..] => simple_escape(*c),
+    }
+}
+
+fn push_all(text: &mut String, chars: &[char]) -> Result<(), AllocError>
+    ensures { IfOk result (λ _. string_bytes text.new ≡ string_bytes text.old ++ encodes chars.now) }
+{
+    let mut rest = chars;
+    while let [first, more @ ..] = rest {
+        text.push(*first)?;
+        rest = more;
+    }
+    Ok(())
+}
+
+// Writes the character that was read, or a backslash and the characters behind it.
+fn push_escape(out: &mut String, escape: &[char], read: Option<char>) -> Result<(), AllocError>
+    ensures { IfOk result (λ _. string_bytes out.new
+        ≡ string_bytes out.old ++ encodes (char_or (92 ∷ escape.now) read)) }
+{
+    match read {
+        Some(c) => out.push(c),
+        None => {
+            out.push('\\')?;
+            push_all(out, escape)
+        }
+    }
+}
+
+// Writes what the first character, with those that belong to it, stands for, and answers what is left to read.
+fn push_front<'a>(out: &mut String, first: char, more: &'a [char]) -> Result<&'a [char], AllocError>
+    ensures reads { IfOk result (λ rest. string_bytes out.new ++ encodes (unescaped 0 rest.now)
+        ≡ string_bytes out.old ++ encodes (unescaped 0 (first ∷ more.now))) }
+    ensures within { IfOk result (λ rest. length rest.now ≤ length more.now) }
+{
+    if first != '\\' {
+        out.push(first)?;
+        return Ok(more);
+    }
+    let (escape, behind) = more.split_at(escape_len(more));
+    push_escape(out, escape, escape_char(more))?;
+    Ok(behind)
+}
+
+// Writes what the characters stand for.
+fn push_unescaped(out: &mut String, chars: &[char]) -> Result<(), AllocError>
+    ensures { IfOk result (λ _. string_bytes out.new
+        ≡ string_bytes out.old ++ encodes (unescaped 0 chars.now)) }
+{
+    let mut rest = chars;
+    while let [first, more @ ..] = rest {
+        rest = push_front(out, *first, more)?;
+    }
+    Ok(())
+}
+
+// The characters of a text.
+fn char_list(alloc: Global, text: &str) -> Result<Vec<char>, AllocError>
+    ensures { IfOk result (λ list. list.items ≡ chars text.now) }
+{
+    text.chars().collect(alloc)
+}
+
+// The text without the quotes around it, or all of it where there are none.
+fn string_body(text: &str) -> &str
+    ensures { IsStringBody text.now result.now }
+{
+    match text.strip_prefix("\"") {
+        Some(rest) => match rest.strip_suffix("\"") {
+            Some(body) => body,
+            None => text,
+        },
+        None => text,
+    }
+}
+
+impl<'a> Str<'a> {
+    /// The string's value: its text without the quotes around it, and each escape sequence read.
+    ///
+    /// `\\`, `\"`, `\n`, `\r`, `\t` and `\u{..}` of a Unicode scalar value stand for one character, all else for itself.
+    /// It takes memory in proportion to the text.
+    pub fn get(self, alloc: Global) -> Result<String, AllocError>
+        ensures { IfOk result
+            (λ value. IsStringValue (text_in (node_of self.entry)) (string_bytes value)) }
+    {
+        let all = char_list(alloc, string_body(self.leaf_text()))?;
+        let mut out = String::with_capacity(alloc, all.len())?;
+        push_unescaped(&mut out, all.as_slice())?;
+        Ok(out)
+    }
+}

@@ -1,0 +1,3 @@
+mod accessors;
+mod missing;
+mod readings;

@@ -1,0 +1,107 @@
+//! The generic view of nodes of one kind.
+ghost use Rattle.std.specs.Prelude.{◌≡◌, true, false, IsTrue, Some, refl};
+ghost use Rattle.std.specs.Option.{option_copied};
+ghost use Rattle.typst_atoms.specs.Kinds.{is_kind};
+ghost use Rattle.typst_atoms.specs.OfKind.{is_missing_or_of_kind, kind_from_test};
+ghost use Rattle.typst_base.specs.contracts.kind.SyntaxKind.{the_type};
+ghost use Rattle.typst_node.specs.Views.{node_kind};
+ghost use denote.Enum.Bare.{true_same};
+
+use crate::marker::Kind;
+use crate::nodes::leaf_text;
+use std::alloc::AllocError;
+use std::marker::PhantomData;
+use typst_base::{Span, SyntaxKind};
+use typst_node::{AstNode, SyntaxNode, span_of};
+
+/// A view of a node of the marker's kind, or the kind's placeholder.
+pub struct View<'a, M: Kind> {
+    node: Option<&'a SyntaxNode>,
+    kind: PhantomData<M>,
+    ghost of_kind: { IsTrue (is_missing_or_of_kind M.KIND node) },
+}
+
+impl<'a, M: Kind> Clone for View<'a, M> {
+    ghost is_clone = { λ view copy. copy ≡ view };
+
+    fn clone(&self) -> Result<Self, AllocError> {
+        Ok(*self)
+    }
+}
+
+impl<'a, M: Kind> Copy for View<'a, M> {}
+
+impl<'a, M: Kind> AstNode<'a> for View<'a, M> {
+    ghost class = { is_kind M.KIND };
+
+    ghost node_of = { λ view. option_copied view.node };
+
+    ghost view_kind = { λ _. M.KIND };
+
+    ghost blank = { M.KIND };
+
+    ghost blank_in_class = { true_same the_type M.KIND M.KIND refl };
+
+    ghost kind_is_node_kind = { λ view. kind_from_test M.KIND view.node view.of_kind };
+
+    fn from_untyped(node: &'a SyntaxNode) -> Option<Self> {
+        if node.kind() == M::KIND {
+            Some(View {
+                node: Some(node),
+                kind: PhantomData,
+            })
+        } else {
+            None
+        }
+    }
+
+    fn to_untyped(self) -> Option<&'a SyntaxNode> {
+        self.node
+    }
+
+    fn span(self) -> Span {
+        span_of(self.node)
+    }
+
+    fn kind(self) -> SyntaxKind {
+        M::KIND
+    }
+
+    fn placeholder() -> Self {
+        View {
+            node: None,
+            kind: PhantomData,
+        }
+    }
+}
+
+impl<'a, M: Kind> View<'a, M> {
+    ghost use Rattle.typst_atoms.specs.Texts.{text_in};
+    ghost use Rattle.typst_atoms.specs.View.{node_of};
+
+    /// The view of a node whose kind is known to be the view's, as `SyntaxNode::is` tells.
+    pub fn of_kind(node: &'a SyntaxNode) -> Self
+        requires { node_kind node.now ≡ M.KIND }
+        ensures { node_of result ≡ Some node.now }
+    {
+        let node = Some(node);
+        View {
+            node,
+            kind: PhantomData,
+        }
+    }
+
+    // The node, or none for a placeholder.
+    pub(crate) fn node(self) -> Option<&'a SyntaxNode>
+        ensures { option_copied result ≡ node_of self.entry }
+    {
+        self.node
+    }
+
+    // The node's leaf text; empty for a placeholder.
+    pub(crate) fn leaf_text(self) -> &'a str
+        ensures { result.now ≡ text_in (node_of self.entry) }
+    {
+        leaf_text(self.node)
+    }
+}

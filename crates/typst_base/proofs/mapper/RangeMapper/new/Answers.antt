@@ -1,0 +1,14 @@
+use Rattle.std.proofs.Common.{ap}
+use Rattle.typst_base.specs.Mapping.{mapping_of}
+use Rattle.typst_base.proofs.MapperLemmas.{kept_all, kept_ranges, kept_runs}
+use Rattle.typst_base.proofs.mapper.RangeMapper.new.Goals as goal
+
+pub invariant_of-result : goal.invariant_of-result
+invariant_of-result c =
+    let all = kept_all c.loop-segment.kept.items c.loop-segment.upto c.loop-segment.segment-index c.args.segments.now c.loop-segment-test.false c.loop-segment.invariant.kept in
+    kept_runs c.loop-segment.kept.items c.args.segments.now all
+
+pub returns-clause-mapping : goal.returns-clause-mapping
+returns-clause-mapping c =
+    let all = kept_all c.loop-segment.kept.items c.loop-segment.upto c.loop-segment.segment-index c.args.segments.now c.loop-segment-test.false c.loop-segment.invariant.kept in
+    ap mapping_of (kept_ranges c.loop-segment.kept.items c.args.segments.now all)

@@ -1,0 +1,40 @@
+-- A child stands one step below its parent.
+use Rattle.std.proofs.Common.{◌≡◌, ℕ, ◌+◌, ◌<◌, ◌≤◌, ◌⊎◌, inl, inr, length, take, get_or, List, [], ◌∷◌, Some, None, Option, arith, refl, sym, ap, ◌∙◌, subst}
+use Rattle.std.specs.Prelude.{slice_get}
+use Rattle.std.proofs.lemmas.Option.{slice_get_within}
+use Rattle.std.specs.declared.rc.Rc.{Rc}
+use Rattle.std.specs.declared.alloc.Global.{Global}
+use Rattle.typst_node.specs.Tree.{Content, AsLeaf, AsError, AsInner, Tree, trees, IsInner}
+use Rattle.typst_node.specs.Text.{content_text, own_text, text, text_of_all, offset}
+use Rattle.typst_linked.specs.Place.{Place, subtree, child_place}
+use Rattle.typst_linked.specs.Linked.{IsAt, place_below}
+use Rattle.typst_linked.proofs.Steps.{at-push, pushed}
+use Rattle.typst_linked.proofs.Offsets.{offset-push, length-text, text_of_all-more, text_of_all-take}
+
+-- no text stands at a node that has children
+pub no_own_text : (t c : Tree) (i : ℕ) (kids : List Tree) → kids ≡ trees t.children → (¬ (IsInner t.label.content) → kids ≡ []) → slice_get (trees t.children) i ≡ Some c → length (own_text t.label) ≡ 0
+no_own_text t c i kids e none s = no_text t.label.content (λ out. let k : None ≡ Some c = ap (λ (ks : List Tree). slice_get ks i) (sym (none out) ∙ e) ∙ s in cc)
+  where
+    no_text : (content : Content) → ¬ (¬ (IsInner content)) → length (content_text content) ≡ 0
+    no_text (AsLeaf kind text) h = absurd (h (λ x. x))
+    no_text (AsError text message hints) h = absurd (h (λ x. x))
+    no_text (AsInner kind bound) h = refl
+
+pub child_is_at : (p : Place) (n c : Tree) (o at i : ℕ) (kids : List Tree) → IsAt p n o → slice_get (trees n.children) i ≡ Some c → kids ≡ trees n.children → (¬ (IsInner n.label.content) → kids ≡ []) →
+    at ≡ o + length (text_of_all (take i (trees n.children))) → IsAt (child_place p i) c at
+child_is_at p n c o at i kids own s same inner e =
+    let no_text = no_own_text n c i kids same inner s in
+    record {
+      node_is = at-push p.path i p.root n c own.node_is s;
+      offset_is = omega (arith, e, own.offset_is, offset-push p.path i p.root n c own.node_is s);
+      within = omega (arith, e, own.within, length-text n, text_of_all-more (trees n.children) i c s, text_of_all-take (trees n.children) (i + 1));
+      fits = own.fits;
+      counted = own.counted;
+    }
+
+pub at_place : (p q : Place) (n : Tree) (o : ℕ) → p ≡ q → IsAt p n o → IsAt q n o
+at_place p q n o e at = subst (λ (r : Place). IsAt r n o) e at
+
+-- a node with a parent
+pub place_with : (node : Tree) (i : ℕ) (o : Option (Rc Place Global)) (parent : Rc Place Global) → o ≡ Some parent → place_below node i o ≡ child_place parent.value i
+place_with node i o parent e = ap (place_below node i) e

@@ -1,0 +1,16 @@
+pub mod Steps
+pub mod Firsts
+pub mod Paths
+pub mod Offsets
+pub mod Child
+pub mod Nearest
+pub mod Ordered
+pub mod Found
+pub mod Digits
+pub mod Weights
+pub mod Rising
+pub mod Searching
+pub mod Covers
+pub mod Walks
+pub mod Stops
+pub mod StopsBefore

@@ -1,0 +1,45 @@
+use Rattle.std.proofs.Common.{◌≡◌, ℕ, ◌+◌, ◌<◌, ◌≤◌, ◌∙◌, length, Some, None, ap, sym, subst, refl, arith, false, true}
+use Rattle.std.specs.Prelude.{slice_get}
+use Rattle.typst_node.specs.Tree.{Tree, trees}
+use Rattle.typst_linked.specs.Place.{Place, subtree, child_place}
+use Rattle.typst_linked.specs.Search.{first_path, found_below}
+use Rattle.typst_linked.specs.Leaves.{is_good}
+use Rattle.typst_linked.proofs.Steps.{same_node}
+use Rattle.typst_linked.proofs.Covers.{child_there}
+use Rattle.typst_linked.proofs.Searching.{count_there, smaller_turn}
+use Rattle.typst_linked.proofs.Walks.{first_path-children, first_hit, first_miss, not_passed}
+use Rattle.typst_linked.proofs.node.LinkedNode.+into_leftmost.Goals as goal
+
+pub loop-index-init : goal.loop-index-init
+loop-index-init t c = λ s hs.
+    let bad : is_good c.get.result.now ≡ false = not_passed c.is_good_leaf.result (is_good c.get.result.now) c.is_good_leaf.ensures.good.1 c.if-is_good_leaf.false in
+    first_path-children is_good s (ap is_good (same_node s c.get.result.now c.args.self hs c.get.ensures) ∙ bad)
+
+pub into_leftmost-requires : goal.into_leftmost-requires
+into_leftmost-requires t c =
+    let n = c.get-2.result.now in
+    let i = c.loop-index.index in
+    let child = child_there (trees n.children) i (omega (arith, ap length c.children-count.ensures.children)) in
+    let place : c.in_ok-child.child ≡ child_place c.args.self i = c.in_ok-child.ensures ∙ ap (λ (p : Place). child_place p i) c.in_ok-parent.ensures.ok in
+    let l = smaller_turn n child.0 c.args.self c.in_ok-child.child i (trees n.children) c.get-2.ensures refl child.1 place in
+    (subst (λ (k : ℕ). count_there (subtree c.in_ok-child.child) < k) c.decreases l, tt)
+
+pub returns-in-Some : goal.returns-in-Some
+returns-in-Some t c =
+    let n = c.get-2.result.now in
+    let i = c.loop-index.index in
+    let child = child_there (trees n.children) i (omega (arith, ap length c.children-count.ensures.children)) in
+    let place : c.in_ok-child.child ≡ child_place c.args.self i = c.in_ok-child.ensures ∙ ap (λ (p : Place). child_place p i) c.in_ok-parent.ensures.ok in
+    first_hit is_good c.args.self n child.0 i c.in-Some.leaf c.get-2.ensures child.1 (c.loop-index.invariant n c.get-2.ensures)
+    (sym c.in-Some.is ∙ c.in_ok-leaf.ensures ∙ ap (found_below (first_path is_good)) place)
+
+pub loop-index-preserved : goal.loop-index-preserved
+loop-index-preserved t c = λ s hs.
+    let n = c.get-2.result.now in
+    let i = c.loop-index.index in
+    let same = same_node s n c.args.self hs c.get-2.ensures in
+    let child = child_there (trees n.children) i (omega (arith, ap length c.children-count.ensures.children)) in
+    let place : c.in_ok-child.child ≡ child_place c.args.self i = c.in_ok-child.ensures ∙ ap (λ (p : Place). child_place p i) c.in_ok-parent.ensures.ok in
+    let there : slice_get (trees s.children) i ≡ Some child.0 = ap (λ (u : Tree). slice_get (trees u.children) i) same ∙ child.1 in
+    first_miss is_good c.args.self s child.0 i hs there (c.loop-index.invariant s hs)
+    (sym c.in_default.is ∙ c.in_ok-leaf.ensures ∙ ap (found_below (first_path is_good)) place)

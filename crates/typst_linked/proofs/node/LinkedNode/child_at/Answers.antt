@@ -1,0 +1,25 @@
+use Rattle.std.proofs.Common.{◌≡◌, ℕ, ◌+◌, ◌<◌, ◌∙◌, length, ap, sym, refl, arith, Some}
+use Rattle.std.specs.Prelude.{slice_get}
+use Rattle.std.proofs.lemmas.Option.{slice_get_read}
+use Rattle.typst_node.specs.Tree.{trees}
+use Rattle.typst_linked.proofs.Steps.{last_step-push}
+use Rattle.typst_linked.proofs.Child.{at_place, child_is_at}
+use Rattle.typst_linked.proofs.Offsets.{length-text, text_of_all-take}
+use Rattle.typst_linked.proofs.node.LinkedNode.child_at.Goals as goal
+
+pub overflow_add-offset : goal.overflow_add-offset
+overflow_add-offset c =
+    let node = c.above.inside.node.now in
+    let own = at_place _ _ _ _ (c.above.view_is ∙ c.deref-above.ensures) c.above.invariant.0 in
+    let begin = c.requires.begin node own.node_is in
+    omega (arith, begin, own.within, own.fits, length-text node, text_of_all-take (trees node.children) c.args.index)
+
+pub invariant_of-result : goal.invariant_of-result
+invariant_of-result c =
+    let node = c.above.inside.node.now in
+    let own = at_place _ _ _ _ (c.above.view_is ∙ c.deref-above.ensures) c.above.invariant.0 in
+    let begin = c.requires.begin node own.node_is in
+    let within = c.requires.child node own.node_is in
+    let s : slice_get (trees node.children) c.args.index ≡ Some c.index-children-index.result =
+    rw (← c.children.ensures.children) (slice_get_read c.children.result.now (length c.children.result.now) c.args.index c.index-children-index.result refl (omega (arith, ap length c.children.ensures.children, within)) c.index-children-index.is) in
+    (child_is_at _ _ _ _ _ _ c.children.result.now own s c.children.ensures.children c.children.ensures.inner_only (omega (arith, begin)), sym (last_step-push c.args.parent.value.path c.args.index))

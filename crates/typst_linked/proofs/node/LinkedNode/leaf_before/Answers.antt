@@ -1,0 +1,52 @@
+use Rattle.std.proofs.Common.{◌≡◌, ℕ, ◌+◌, ◌-◌, ◌<◌, ◌≤◌, ◌∙◌, length, Some, None, ap, sym, subst, refl, arith, false, true, inl, inr}
+use Rattle.std.specs.Prelude.{slice_get, not}
+use Rattle.std.proofs.lemmas.Option.{slice_get_read}
+use Rattle.typst_base.specs.KindClasses.{is_trivia_kind}
+use Rattle.typst_node.specs.Tree.{Tree, trees}
+use Rattle.typst_linked.specs.Place.{Place, subtree, child_place}
+use Rattle.typst_linked.specs.Search.{last_path, found_below}
+use Rattle.typst_linked.specs.Siblings.{is_solid}
+use Rattle.typst_linked.specs.Leaves.{is_good, earlier_up}
+use Rattle.typst_linked.proofs.Steps.{same_node}
+use Rattle.typst_linked.proofs.StopsBefore.{earlier_hit, earlier_miss, earlier_trivia}
+use Rattle.typst_linked.proofs.node.LinkedNode.leaf_before.Goals as goal
+
+pub returns-in-Some : goal.returns-in-Some
+returns-in-Some c =
+    let p = c.args.parent.now.value in
+    let n = c.get.result.now in
+    let i = c.loop-index.index - 1 in
+    let back : c.loop-index.index ≡ i + 1 = omega arith in
+    let hs : subtree p ≡ Some n = ap subtree (sym c.deref.ensures) ∙ c.get.ensures in
+    let node = c.index-children-index.result in
+    let s : slice_get (trees n.children) i ≡ Some node = rw (← c.children-children.ensures.children) (slice_get_read c.children-children.result.now (length c.children-children.result.now) i node refl (omega (arith, ap length c.children-children.ensures.children, c.requires n (ap subtree (sym c.deref.ensures) ∙ c.get.ensures))) c.index-children-index.is) in
+    let solid : is_solid node ≡ true = ap (λ k. not (is_trivia_kind k)) (sym c.kind.ensures) ∙ sym (ap not c.if-not-is_trivia.ensures) in
+    earlier_hit p n node c.args.end i c.in-Some.leaf hs s solid (c.loop-index.invariant n hs ∙ ap (earlier_up n) back)
+    (sym c.in-Some.is ∙ c.in_ok-leaf.ensures ∙ ap (found_below (last_path is_good)) c.in_ok-child.ensures)
+
+pub loop-index-preserved-in_default : goal.loop-index-preserved-in_default
+loop-index-preserved-in_default c = λ n hs.
+    let p = c.args.parent.now.value in
+    let i = c.loop-index.index - 1 in
+    let back : c.loop-index.index ≡ i + 1 = omega arith in
+    let own : subtree p ≡ Some c.get.result.now = ap subtree (sym c.deref.ensures) ∙ c.get.ensures in
+    let node = c.index-children-index.result in
+    let same : c.get.result.now ≡ n = same_node c.get.result.now n p own hs in
+    let s : slice_get (trees c.get.result.now.children) i ≡ Some node = rw (← c.children-children.ensures.children) (slice_get_read c.children-children.result.now (length c.children-children.result.now) i node refl (omega (arith, ap length c.children-children.ensures.children, c.requires c.get.result.now own)) c.index-children-index.is) in
+    let there : slice_get (trees n.children) i ≡ Some node = ap (λ (u : Tree). slice_get (trees u.children) i) (sym same) ∙ s in
+    let solid : is_solid node ≡ true = ap (λ k. not (is_trivia_kind k)) (sym c.kind.ensures) ∙ sym (ap not c.if-not-is_trivia.ensures) in
+    earlier_miss p n node c.args.end i hs there solid (c.loop-index.invariant n hs ∙ ap (earlier_up n) back)
+    (sym c.in_default.is ∙ c.in_ok-leaf.ensures ∙ ap (found_below (last_path is_good)) c.in_ok-child.ensures)
+
+pub loop-index-preserved : goal.loop-index-preserved
+loop-index-preserved c = λ n hs.
+    let p = c.args.parent.now.value in
+    let i = c.loop-index.index - 1 in
+    let back : c.loop-index.index ≡ i + 1 = omega arith in
+    let own : subtree p ≡ Some c.get.result.now = ap subtree (sym c.deref.ensures) ∙ c.get.ensures in
+    let node = c.index-children-index.result in
+    let same : c.get.result.now ≡ n = same_node c.get.result.now n p own hs in
+    let s : slice_get (trees c.get.result.now.children) i ≡ Some node = rw (← c.children-children.ensures.children) (slice_get_read c.children-children.result.now (length c.children-children.result.now) i node refl (omega (arith, ap length c.children-children.ensures.children, c.requires c.get.result.now own)) c.index-children-index.is) in
+    let there : slice_get (trees n.children) i ≡ Some node = ap (λ (u : Tree). slice_get (trees u.children) i) (sym same) ∙ s in
+    let trivia : is_solid node ≡ false = ap (λ k. not (is_trivia_kind k)) (sym c.kind.ensures) ∙ sym (ap not c.if-not-is_trivia.ensures) in
+    c.loop-index.invariant n hs ∙ ap (earlier_up n) back ∙ earlier_trivia n node i there trivia

@@ -1,0 +1,43 @@
+use Rattle.std.proofs.Common.{◌≡◌, ℕ, ◌+◌, ◌<◌, ◌≤◌, ◌∙◌, length, Some, None, ap, sym, subst, refl, arith, false, true, inl, inr}
+use Rattle.std.specs.Prelude.{slice_get, not}
+use Rattle.std.proofs.lemmas.Option.{slice_get_read}
+use Rattle.typst_base.specs.KindClasses.{is_trivia_kind}
+use Rattle.typst_node.specs.Tree.{Tree, trees}
+use Rattle.typst_linked.specs.Place.{Place, subtree, child_place}
+use Rattle.typst_linked.specs.Search.{first_path, found_below}
+use Rattle.typst_linked.specs.Siblings.{is_solid}
+use Rattle.typst_linked.specs.Leaves.{is_good, later_from}
+use Rattle.typst_linked.proofs.Steps.{same_node}
+use Rattle.typst_linked.proofs.Stops.{later_hit, later_miss, later_trivia, later_none}
+use Rattle.typst_linked.proofs.node.LinkedNode.leaf_from.Goals as goal
+use Rattle.typst_linked.proofs.node.LinkedNode.leaf_from.Goals.{then-not-is_trivia+in_ok-child+in_ok-leaf+in_default, else-not-is_trivia}
+
+pub returns-in-Some : goal.returns-in-Some
+returns-in-Some c =
+    let p = c.args.parent.now.value in
+    let n = c.get.result.now in
+    let i = c.loop-index.index in
+    let hs : subtree p ≡ Some n = ap subtree (sym c.deref.ensures) ∙ c.get.ensures in
+    let node = c.index-children-index.result in
+    let s : slice_get (trees n.children) i ≡ Some node = rw (← c.children-children.ensures.children) (slice_get_read c.children-children.result.now (length c.children-children.result.now) i node refl (omega arith) c.index-children-index.is) in
+    let solid : is_solid node ≡ true = ap (λ k. not (is_trivia_kind k)) (sym c.kind.ensures) ∙ sym (ap not c.if-not-is_trivia.ensures) in
+    later_hit p n node c.args.start i c.in-Some.leaf hs s solid (c.loop-index.invariant n hs)
+    (sym c.in-Some.is ∙ c.in_ok-leaf.ensures ∙ ap (found_below (first_path is_good)) c.in_ok-child.ensures)
+
+pub loop-index-preserved : goal.loop-index-preserved
+loop-index-preserved c = λ n hs.
+    let p = c.args.parent.now.value in
+    let i = c.loop-index.index in
+    let own : subtree p ≡ Some c.get.result.now = ap subtree (sym c.deref.ensures) ∙ c.get.ensures in
+    let node = c.index-children-index.result in
+    let same : c.get.result.now ≡ n = same_node c.get.result.now n p own hs in
+    let s : slice_get (trees c.get.result.now.children) i ≡ Some node = rw (← c.children-children.ensures.children) (slice_get_read c.children-children.result.now (length c.children-children.result.now) i node refl (omega arith) c.index-children-index.is) in
+    let there : slice_get (trees n.children) i ≡ Some node = ap (λ (u : Tree). slice_get (trees u.children) i) (sym same) ∙ s in
+    elim c.if-not-is_trivia.branch [
+      | then-not-is_trivia+in_ok-child+in_ok-leaf+in_default w ↦
+          let solid : is_solid node ≡ true = ap (λ k. not (is_trivia_kind k)) (sym c.kind.ensures) ∙ sym (ap not w.if-not-is_trivia.ensures) in
+          later_miss p n node c.args.start i hs there solid (c.loop-index.invariant n hs) (sym w.in_default.is ∙ w.in_ok-leaf.ensures ∙ ap (found_below (first_path is_good)) w.in_ok-child.ensures)
+      | else-not-is_trivia w ↦
+          let trivia : is_solid node ≡ false = ap (λ k. not (is_trivia_kind k)) (sym c.kind.ensures) ∙ sym (ap not w.if-not-is_trivia.ensures) in
+          c.loop-index.invariant n hs ∙ later_trivia n node i there trivia
+    ]

@@ -1,0 +1,12 @@
+pub mod Place
+pub mod Linked
+pub mod Falls
+pub mod Below
+pub mod Children
+pub mod Siblings
+pub mod Search
+pub mod Floor
+pub mod Part
+pub mod Ranges
+pub mod Finds
+pub mod Leaves

@@ -1,0 +1,28 @@
+-- What the fields of a linked node mean.
+use Rattle.std.specs.Prelude.{ℕ, ◌+◌, ◌<◌, ◌≤◌, ◌≡◌, ◌^◌, List, [], ◌∷◌, ◌++◌, length, Option, None, Some}
+use Rattle.std.specs.declared.rc.Rc.{Rc}
+use Rattle.std.specs.declared.alloc.Global.{Global}
+use Rattle.typst_node.specs.Tree.{Tree}
+use Rattle.typst_node.specs.Text.{text, offset}
+use Rattle.typst_node.specs.Count.{count}
+use Rattle.typst_linked.specs.Place.{Place, subtree, child_place, last_step}
+use Rattle.typst_linked.specs.declared.node.LinkedNode.TheInside.{Inside}
+
+-- a root stands alone, and a child one step below its parent
+abbrev pub place_below : Tree → ℕ → Option (Rc Place Global) → Place
+place_below node index None = record { root = node; path = [] }
+place_below node index (Some parent) = child_place parent.value index
+
+abbrev pub place_of : Inside → Place
+place_of a = place_below a.node.now a.index a.parent
+
+-- a node with an offset, at its place
+pub record IsAt (place : Place) (node : Tree) (at : ℕ) : Type 0 where
+  pub node_is : subtree place ≡ Some node
+  pub offset_is : at ≡ offset place.path place.root
+  pub within : at + length (text node) ≤ length (text place.root)
+  pub fits : length (text place.root) < 2 ^ 64
+  pub counted : count place.root < 2 ^ 64
+
+abbrev pub IsLinked : Inside → Type 0
+IsLinked a = IsAt (place_of a) a.node.now a.offset × (a.index ≡ last_step (place_of a).path)

@@ -1,0 +1,28 @@
+-- The first of some trees, one behind the other, whose text ends at or behind a goal.
+use Rattle.std.specs.Prelude.{ℕ, ◌+◌, ◌<◌, ◌≤◌, ◌≡◌, List, length, take, Some, slice_get}
+use Rattle.typst_node.specs.Tree.{Tree, trees}
+use Rattle.typst_node.specs.Text.{own_text, text_of_all}
+use Rattle.typst_linked.specs.declared.floor.Part.{Part}
+
+-- how many bytes of text stand before the tree with an index
+abbrev pub begin_at : List Tree → ℕ → ℕ
+begin_at ts i = length (text_of_all (take i ts))
+
+-- this tree's text ends at or behind the goal, and that of each tree before it ends before the goal
+pub record IsFirstEnding (goal : ℕ) (ts : List Tree) (part : Part) : Type 0 where
+  pub within : part.index < length ts
+  pub begin_is : part.begin ≡ begin_at ts part.index
+  pub ends : goal ≤ begin_at ts (part.index + 1)
+  pub before : 0 < part.index → part.begin < goal
+
+-- all texts end before the goal
+abbrev pub EndsBefore : ℕ → List Tree → Type 0
+EndsBefore goal ts = 0 < length ts → begin_at ts (length ts) < goal
+
+-- no text stands at the node itself, if it has children
+abbrev pub HasNoOwnText : Tree → Type 0
+HasNoOwnText t = (i : ℕ) (c : Tree) → slice_get (trees t.children) i ≡ Some c → length (own_text t.label) ≡ 0
+
+-- an index of a tree, and where its text begins
+abbrev pub IsPart : List Tree → Part → Type 0
+IsPart ts part = (part.index < length ts) × (part.begin ≡ begin_at ts part.index)

@@ -1,0 +1,67 @@
+-- The siblings of a place.
+use Rattle.std.specs.Prelude.{ℕ, zero, suc, ◌+◌, ◌-◌, List, [], ◌∷◌, length, take, drop, reverse, slice_get, Option, None, Some, Bool, not, nat_lt, if◌then◌else◌}
+use Rattle.std.specs.List.{position_from}
+use Rattle.std.specs.Option.{option_map, option_and_then}
+use Rattle.typst_base.specs.declared.kind.SyntaxKind.{SyntaxKind}
+use Rattle.typst_base.specs.KindClasses.{is_trivia_kind}
+use Rattle.typst_node.specs.Tree.{Tree, trees, kind_of}
+use Rattle.typst_node.specs.Preorder.{at}
+use Rattle.typst_linked.specs.Place.{Place, child_place, last_step}
+
+abbrev pub kind_at : Tree → SyntaxKind
+kind_at t = kind_of t.label.content
+
+-- a node whose kind isn't trivia
+abbrev pub is_solid : Tree → Bool
+is_solid t = not (is_trivia_kind (kind_at t))
+
+-- a path without its last step
+abbrev pub front : List ℕ → List ℕ
+front [] = []
+front (i ∷ []) = []
+front (i ∷ (j ∷ path)) = i ∷ front (j ∷ path)
+
+abbrev pub parent_place : Place → Place
+parent_place place = record { root = place.root; path = front place.path }
+
+abbrev pub children_of : Option Tree → List Tree
+children_of None = []
+children_of (Some t) = trees t.children
+
+-- the subtree at a path's parent; a root has none
+abbrev pub parent_at : Tree → List ℕ → Option Tree
+parent_at root [] = None
+parent_at root (i ∷ path) = at (front (i ∷ path)) root
+
+abbrev pub parent_tree : Place → Option Tree
+parent_tree place = parent_at place.root place.path
+
+-- the children of a place's parent; a root has no siblings
+abbrev pub siblings : Place → List Tree
+siblings place = children_of (parent_tree place)
+
+-- The index of another tree of a list, seen from an index: of the tree directly before, of the one directly behind,
+-- of the nearest before whose kind isn't trivia, and of the nearest behind.
+abbrev pub before_it : ℕ → List Tree → Option ℕ
+before_it zero ts = None
+before_it (suc i) ts = Some i
+
+abbrev pub behind_it : ℕ → List Tree → Option ℕ
+behind_it i ts = if nat_lt (i + 1) (length ts) then Some (i + 1) else None
+
+abbrev pub solid_before : ℕ → List Tree → Option ℕ
+solid_before i ts = option_map (λ k. i - 1 - k) (position_from is_solid 0 (reverse (take i ts)))
+
+abbrev pub solid_behind : ℕ → List Tree → Option ℕ
+solid_behind i ts = position_from is_solid (i + 1) (drop (i + 1) ts)
+
+-- the sibling that is picked, and its kind
+abbrev pub sibling : (ℕ → List Tree → Option ℕ) → Place → Option Place
+sibling pick place = option_map (child_place (parent_place place)) (pick (last_step place.path) (siblings place))
+
+abbrev pub sibling_kind : (ℕ → List Tree → Option ℕ) → Place → Option SyntaxKind
+sibling_kind pick place = option_and_then (λ i. option_map kind_at (slice_get (siblings place) i)) (pick (last_step place.path) (siblings place))
+
+-- the parent's kind
+abbrev pub parent_kind_of : Place → Option SyntaxKind
+parent_kind_of place = option_map kind_at (parent_tree place)

@@ -1,0 +1,93 @@
+// The children of a linked node, from both ends.
+ghost use Rattle.std.specs.Prelude.{◌≡◌, ◌-◌, Some, IfSome};
+ghost use Rattle.std.specs.Iterator.{at_most, UpTo};
+ghost use Rattle.std.specs.Iterator.SizeHint.{IsWithinCount};
+ghost use Rattle.typst_linked.specs.Children.{IsAllOf, GivesFirst, GivesLast};
+
+use crate::node::LinkedNode;
+use std::alloc::AllocError;
+use std::marker::Model;
+use std::rc::Rc;
+
+/// The children of a linked node, in order and from both ends.
+///
+/// Where memory is refused for a child, the item in that child's place is an error, and the child is passed.
+#[derive(Drop)]
+pub struct LinkedChildren<'a> {
+    parent: Rc<LinkedNode<'a>>,
+    // The children from the first index up to the second are left.
+    from: usize,
+    to: usize,
+}
+
+impl<'a> Model for LinkedChildren<'a> {
+    ghost use Rattle.typst_linked.specs.Below.{Below, below_code};
+
+    ghost Value = { Below };
+
+    ghost coded = { below_code };
+
+    ghost view = { λ a. record { parent = a.parent.value; from = a.from; to = a.to } };
+
+    ghost use Rattle.typst_linked.specs.Children.{IsBelow};
+
+    ghost invariant = { IsBelow };
+}
+
+impl<'a> LinkedChildren<'a> {
+    pub(crate) fn new(parent: Rc<LinkedNode<'a>>) -> Self
+        ensures { IsAllOf parent.entry.value result }
+    {
+        let to = parent.get().children().len();
+        LinkedChildren {
+            parent,
+            from: 0,
+            to,
+        }
+    }
+}
+
+impl<'a> Iterator for LinkedChildren<'a> {
+    type Item = Result<LinkedNode<'a>, AllocError>;
+
+    ghost next_gives = { GivesFirst };
+
+    ghost remaining = { λ s. at_most (s.to - s.from) };
+
+    fn next(&mut self) -> Option<Self::Item> {
+        if self.from == self.to {
+            return None;
+        }
+        let index = self.from;
+        self.from += 1;
+        Some(LinkedNode::nth_child(&self.parent, index))
+    }
+
+    fn size_hint(&self) -> (usize, Option<usize>)
+        ensures lower { IsWithinCount result.0 (at_most (self.now.to - self.now.from)) }
+        ensures upper { IfSome result.1 (UpTo (at_most (self.now.to - self.now.from))) }
+        ensures exact_lower { result.0 ≡ self.now.to - self.now.from }
+        ensures exact_upper { result.1 ≡ Some (self.now.to - self.now.from) }
+    {
+        let left = self.to - self.from;
+        (left, Some(left))
+    }
+}
+
+impl<'a> DoubleEndedIterator for LinkedChildren<'a> {
+    ghost next_back_gives = { GivesLast };
+
+    fn next_back(&mut self) -> Option<Self::Item> {
+        if self.from == self.to {
+            return None;
+        }
+        self.to -= 1;
+        Some(LinkedNode::nth_child(&self.parent, self.to))
+    }
+}
+
+impl<'a> ExactSizeIterator for LinkedChildren<'a> {
+    fn len(&self) -> usize {
+        self.to - self.from
+    }
+}

@@ -1,0 +1,144 @@
+// Searches by spans.
+ghost use Rattle.std.specs.Prelude.{ℕ, ◌≡◌, ◌+◌, ◌↔◌, length, Some, IfOk, IfSome, IsTrue, MatchOption};
+ghost use Rattle.typst_base.specs.SpanKind.{span_kind_of};
+ghost use Rattle.typst_node.specs.Tree.{Tree, trees};
+ghost use Rattle.typst_node.specs.Text.{text};
+ghost use Rattle.typst_linked.specs.Place.{Place, subtree, child_place};
+ghost use Rattle.typst_linked.specs.Part.{IsPart};
+ghost use Rattle.typst_linked.specs.Ranges.{begin_of, Covers, IsFirstCover, FindsRange};
+ghost use Rattle.typst_linked.specs.Finds.{FindsNumber, FindsSpan, HasNumberBelow, AreLooksFor, AreLooksForSpan, HasLookEachStep, HasLookEachStepFor};
+
+use crate::floor::Part;
+use crate::halving::{first_ending, last_up_to};
+use crate::looks::Looks;
+use crate::node::LinkedNode;
+use std::alloc::{AllocError, Global};
+use std::ops::Range;
+use typst_base::{Span, SpanKind};
+use typst_node::SyntaxNode;
+
+/// # Searches
+impl<'a> LinkedNode<'a> {
+    /// The node that a span points to, in this node's subtree.
+    ///
+    /// A detached span points to none. A node number is looked for in numbered trees, whatever the span's file; in a
+    /// tree that isn't numbered an answer has the number, but a node that has it may be missed. A range is looked for as
+    /// by [`LinkedNode::find_range`]. Only want of memory is an error.
+    pub fn find(&self, alloc: Global, span: Span) -> Result<Option<Self>, AllocError>
+        ensures { IfOk result (FindsSpan (span_kind_of span) self.now) }
+    {
+        self.find_counted(alloc, span, &mut Looks::new())
+    }
+
+    /// The same, and `looks` then holds how many nodes' numbers this call read, also where memory was refused: in a
+    /// numbered tree at most one and the binary digits of the numbers of children along one path downwards.
+    pub fn find_counted(
+        &self,
+        alloc: Global,
+        span: Span,
+        looks: &mut Looks,
+    ) -> Result<Option<Self>, AllocError>
+        ensures found { IfOk result (FindsSpan (span_kind_of span) self.now) }
+        ensures looks { AreLooksForSpan (span_kind_of span) self.now looks.new }
+        ensures steps { IfOk result (HasLookEachStepFor (span_kind_of span) self.now looks.new) }
+    {
+        match span.get() {
+            SpanKind::Detached => {
+                *looks = Looks::new();
+                Ok(None)
+            }
+            SpanKind::Number { num, .. } => self.find_number(alloc, num.0, looks),
+            SpanKind::Range { range, .. } => {
+                *looks = Looks::new();
+                self.find_range(alloc, range.start, range.end)
+            }
+        }
+    }
+
+    // The node with a number in this subtree. Each child is chosen by halving, and no number is read twice.
+    fn find_number(
+        &self,
+        alloc: Global,
+        wanted: u64,
+        looks: &mut Looks,
+    ) -> Result<Option<Self>, AllocError>
+        ensures found { IfOk result (FindsNumber wanted self.now) }
+        ensures hit { IfOk result (λ r. IfSome r (HasNumberBelow wanted self.now)) }
+        ensures looks { AreLooksFor wanted self.now looks.new }
+        ensures steps { IfOk result (HasLookEachStep self.now looks.new) }
+    {
+        *looks = Looks::new();
+        // The looks can be counted as the nodes can.
+        let _count = self.get().descendants();
+        let own = looks.number_of(self.get());
+        if own == wanted {
+            return Ok(Some(self.clone()?));
+        }
+        if wanted < own {
+            return Ok(None);
+        }
+        let mut here = self.clone()?;
+        while let Some(next) = last_up_to(here.get().children(), wanted, looks) {
+            here = here.into_child(alloc, next.index)?;
+            if next.number == wanted {
+                return Ok(Some(here));
+            }
+        }
+        Ok(None)
+    }
+
+    /// The node with this range of bytes: this node if its range is exactly that, else what is found below the first
+    /// child whose range covers it, else `None`. An empty node behind a nonempty sibling is missed.
+    pub fn find_range(
+        &self,
+        alloc: Global,
+        start: usize,
+        end: usize,
+    ) -> Result<Option<Self>, AllocError>
+        ensures { IfOk result (FindsRange start end self.now) }
+    {
+        self.clone()?.into_range(alloc, start, end)
+    }
+
+    // Whether the node's range of bytes is exactly this one.
+    fn has_range(&self, start: usize, end: usize) -> bool
+        ensures { (t : Tree) → subtree self.now ≡ Some t → (IsTrue result ↔ ((begin_of self.now ≡ start) × (begin_of self.now + length (text t) ≡ end))) }
+    {
+        let range = self.range();
+        let _node = self.get();
+        range.start == start && range.end == end
+    }
+
+    fn into_range(self, alloc: Global, start: usize, end: usize) -> Result<Option<Self>, AllocError>
+        ensures { IfOk result (FindsRange start end self.entry) }
+    {
+        if self.has_range(start, end) {
+            return Ok(Some(self));
+        }
+        let Some(part) = first_cover(self.get(), self.range(), start, end) else {
+            return Ok(None);
+        };
+        let child = self.into_part(alloc, part)?;
+        child.into_range(alloc, start, end)
+    }
+}
+
+// The first child of a node with this range whose range covers the wanted one.
+fn first_cover(node: &SyntaxNode, range: Range<usize>, start: usize, end: usize) -> Option<Part>
+    requires { range.end ≡ range.start + length (text node.now) }
+    ensures { (place : Place) → subtree place ≡ Some node.now → begin_of place ≡ range.start → MatchOption result ((i : ℕ) → ¬ (Covers start end (child_place place i))) (λ part. IsFirstCover start end place part.index × IsPart (trees node.now.children) part) }
+{
+    if node.children().is_empty() {
+        return None;
+    }
+    let mut looks = Looks::new();
+    let goal = end.saturating_sub(range.start);
+    let Some(part) = first_ending(node, goal, &mut looks) else {
+        return None;
+    };
+    if range.start + part.begin <= start {
+        Some(part)
+    } else {
+        None
+    }
+}

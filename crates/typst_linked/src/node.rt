@@ -1,0 +1,226 @@
+// A node of a borrowed tree with its parents.
+ghost use Rattle.std.specs.Prelude.{◌≡◌, ◌+◌, ◌<◌, ◌≤◌, [], length, take, Some, MatchOption, IfOk};
+ghost use Rattle.typst_node.specs.Tree.{Tree, trees};
+ghost use Rattle.typst_node.specs.Text.{text, text_of_all, offset};
+ghost use Rattle.typst_linked.specs.Place.{subtree, child_place, last_step, HasChild, BeginsAt};
+ghost use Rattle.std.specs.Option.{ForSome};
+ghost use Rattle.typst_linked.specs.Part.{IsPart};
+ghost use Rattle.typst_linked.specs.Siblings.{siblings};
+ghost use Rattle.typst_linked.specs.Children.{IsAllOf};
+
+use crate::children::LinkedChildren;
+use crate::floor::Part;
+use std::alloc::{AllocError, Global};
+use std::marker::Model;
+use std::ops::{Deref, Range};
+use std::rc::Rc;
+use typst_node::SyntaxNode;
+
+/// A node of a borrowed tree that knows its parents, its index among its siblings and where its text begins.
+///
+/// Parents are shared, so a clone takes no memory: its only error is that the parent is shared too often.
+#[derive(Drop)]
+pub struct LinkedNode<'a> {
+    node: &'a SyntaxNode,
+    parent: Option<Rc<LinkedNode<'a>>>,
+    // Among the parent's children; 0 for a root.
+    index: usize,
+    // In bytes from the beginning of the root's text.
+    offset: usize,
+}
+
+impl<'a> Model for LinkedNode<'a> {
+    ghost use Rattle.typst_linked.specs.Place.{Place, place_code};
+
+    ghost Value = { Place };
+
+    ghost coded = { place_code };
+
+    ghost use Rattle.typst_linked.specs.Linked.{place_of, IsLinked};
+
+    ghost view = { place_of };
+
+    ghost invariant = { IsLinked };
+
+    ghost use Rattle.std.specs.Prelude.{length};
+
+    ghost size = { λ p. length p.path };
+
+    ghost use Rattle.typst_linked.specs.Falls.{parent_is_less};
+
+    ghost size_decreases = { λ a h. parent_is_less a.node.now a.index a.parent };
+}
+
+/// # Reads
+impl<'a> LinkedNode<'a> {
+    /// The root of a tree, without a parent, at offset 0.
+    pub fn new(root: &'a SyntaxNode) -> Self
+        ensures root { result.root ≡ root.now }
+        ensures path { result.path ≡ [] }
+    {
+        let _len = root.len();
+        let _count = root.descendants();
+        LinkedNode {
+            node: root,
+            parent: None,
+            index: 0,
+            offset: 0,
+        }
+    }
+
+    /// The node itself, as it stands in the borrowed tree.
+    pub fn get(&self) -> &'a SyntaxNode
+        ensures { subtree self.now ≡ Some result.now }
+    {
+        self.node
+    }
+
+    /// The index among the parent's children, and 0 for the root.
+    pub fn index(&self) -> usize
+        ensures { result ≡ last_step self.now.path }
+    {
+        self.index
+    }
+
+    /// Where the node's text begins in the root's text, in bytes.
+    pub fn offset(&self) -> usize
+        ensures { result ≡ offset self.now.path self.now.root }
+    {
+        self.offset
+    }
+
+    /// The bytes of the root's text that are the node's.
+    pub fn range(&self) -> Range<usize>
+        ensures start { result.start ≡ offset self.now.path self.now.root }
+        ensures end { (t : Tree) → subtree self.now ≡ Some t → result.end ≡ result.start + length (text t) }
+    {
+        self.offset..self.offset + self.node.len()
+    }
+
+    /// The parent, or `None` for the root.
+    pub fn parent(&self) -> Option<&Self>
+        ensures { MatchOption result (self.now.path ≡ []) (λ p. self.now ≡ child_place p.now (last_step self.now.path)) }
+    {
+        match &self.parent {
+            None => None,
+            Some(parent) => Some(&**parent),
+        }
+    }
+}
+
+impl<'a> LinkedNode<'a> {
+    // The parent, as it is shared by its children.
+    pub(crate) fn shared_parent(&self) -> Option<&Rc<LinkedNode<'a>>>
+        ensures { MatchOption result (self.now.path ≡ []) (λ p. self.now ≡ child_place p.now.value (last_step self.now.path)) }
+    {
+        self.parent.as_ref()
+    }
+}
+
+impl<'a> LinkedNode<'a> {
+    // The children of the parent, this node among them; none for the root.
+    pub(crate) fn siblings(&self) -> &'a [SyntaxNode]
+        ensures siblings { result.now ≡ siblings self.now }
+        ensures within { last_step self.now.path ≤ length result.now }
+    {
+        match &self.parent {
+            None => &[],
+            Some(parent) => parent.node.children(),
+        }
+    }
+}
+
+/// # Children
+impl<'a> LinkedNode<'a> {
+    /// The children, in order and from both ends. Only want of memory is an error.
+    pub fn children(&self, alloc: Global) -> Result<LinkedChildren<'a>, AllocError>
+        ensures { IfOk result (IsAllOf self.now) }
+    {
+        let parent = Rc::new(alloc, self.clone()?)?;
+        Ok(LinkedChildren::new(parent))
+    }
+
+    // The child with an index, whose text begins `begin` bytes behind the beginning of its parent's.
+    pub(crate) fn child_at(parent: Rc<LinkedNode<'a>>, index: usize, begin: usize) -> Self
+        requires child { HasChild parent.value index }
+        requires begin { BeginsAt parent.value index begin }
+        ensures { result ≡ child_place parent.entry.value index }
+    {
+        let above: &LinkedNode = &parent;
+        let offset = above.offset + begin;
+        let node = &above.node.children()[index];
+        LinkedNode {
+            node,
+            parent: Some(parent),
+            index,
+            offset,
+        }
+    }
+
+    // The child with an index, below a parent that others share.
+    pub(crate) fn nth_child(parent: &Rc<LinkedNode<'a>>, index: usize) -> Result<Self, AllocError>
+        requires child { HasChild parent.now.value index }
+        ensures { IfOk result (λ l. l ≡ child_place parent.now.value index) }
+    {
+        let begin = child_begin(parent.get(), index);
+        Ok(LinkedNode::child_at(parent.clone()?, index, begin))
+    }
+
+    // The child with an index, below this node.
+    pub(crate) fn into_child(self, alloc: Global, index: usize) -> Result<Self, AllocError>
+        requires child { HasChild self index }
+        ensures { IfOk result (λ l. l ≡ child_place self.entry index) }
+    {
+        let begin = child_begin(self.node, index);
+        let parent = Rc::new(alloc, self)?;
+        Ok(LinkedNode::child_at(parent, index, begin))
+    }
+
+    // The same for a child of which it is known where its text begins.
+    pub(crate) fn into_part(self, alloc: Global, part: Part) -> Result<Self, AllocError>
+        requires { ForSome (subtree self) (λ t. IsPart (trees t.children) part) }
+        ensures { IfOk result (λ l. l ≡ child_place self.entry part.index) }
+    {
+        let parent = Rc::new(alloc, self)?;
+        Ok(LinkedNode::child_at(parent, part.index, part.begin))
+    }
+}
+
+// How many bytes of a node's text stand before that of the child with an index.
+fn child_begin(node: &SyntaxNode, index: usize) -> usize
+    requires { index < length (trees node.now.children) }
+    ensures { result ≡ length (text_of_all (take index (trees node.now.children))) }
+{
+    if index == 0 {
+        0
+    } else {
+        node.child_end(index - 1)
+    }
+}
+
+impl<'a> Clone for LinkedNode<'a> {
+    ghost is_clone = { λ a b. b ≡ a };
+
+    fn clone(&self) -> Result<Self, AllocError> {
+        let parent = match &self.parent {
+            None => None,
+            Some(parent) => Some(parent.clone()?),
+        };
+        Ok(LinkedNode {
+            node: self.node,
+            parent,
+            index: self.index,
+            offset: self.offset,
+        })
+    }
+}
+
+impl<'a> Deref for LinkedNode<'a> {
+    type Target = SyntaxNode;
+
+    ghost deref_gives = { λ l n. subtree l ≡ Some n };
+
+    fn deref(&self) -> &SyntaxNode {
+        self.node
+    }
+}

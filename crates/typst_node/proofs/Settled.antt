@@ -1,0 +1,231 @@
+-- Sums, diagnoses and ends after a part of a child list was exchanged.
+use Rattle.std.proofs.Common.{◌≡◌, ℕ, suc, zero, ◌+◌, ◌-◌, ◌<◌, ◌≤◌, ◌^◌, Bool, true, false, ◌||◌, List, [], ◌∷◌, ◌++◌, length, map, take, drop, refl, sym, ap, subst, ◌∙◌, arith, append_assoc, length-append, length-take, length-drop, get_or, set, drop-cons}
+use Rattle.std.proofs.lemmas.List.{take-append-drop, take_more, take_more_set, drop-set-lt, drop-drop, map-append, take_at, drop_at, take-set, drop-set}
+use Rattle.std.proofs.Math.Seq.{take-add}
+use Rattle.std.proofs.lemmas.List.Folds.{list_any-append, drop_split}
+use Rattle.std.specs.Prelude.{slice_range}
+use Rattle.std.specs.List.{list_any, AllByRecursion, splice}
+use Rattle.typst_node.specs.Tree.{Label, Tree, forest}
+use Rattle.typst_node.specs.Preorder.{preorder}
+use Rattle.typst_node.specs.Text.{text, text_of_all}
+use Rattle.typst_node.specs.View.{ends_from}
+use Rattle.typst_node.proofs.Trees.{length-text_of_all-cons, child_end_is, length_of_ends}
+use Rattle.typst_node.proofs.Opens.{length_text_append, splice_text, splice_count}
+use Rattle.typst_node.specs.Count.{count_of_all}
+use Rattle.typst_node.specs.Diagnosis.{is_error, is_warned}
+use Rattle.typst_node.specs.View.{IsMeasured}
+use Rattle.typst_node.specs.Sums.{AreSums}
+use Rattle.typst_node.specs.Stale.{IsStale}
+use Rattle.typst_node.specs.declared.node.InnerNode.{InnerNode}
+use Rattle.typst_node.specs.declared.node.inner.Sums.{Sums}
+
+-- a beginning is a shorter one and what follows it
+pub take_parts : {X : Type 0} (xs : List X) (a b : ℕ) → a ≤ b → take a xs ++ slice_range xs a b ≡ take b xs
+take_parts xs a b h = let many : a + (b - a) ≡ b = omega arith in sym (take-add a (b - a) xs) ∙ ap (λ n. take n xs) many
+
+-- the nodes of trees side by side
+pub preorder_append : (ts us : List Tree) → preorder (forest (ts ++ us)) ≡ preorder (forest ts) ++ preorder (forest us)
+preorder_append [] us = refl
+preorder_append (t ∷ ts) us = ap (λ ls. t.label ∷ (preorder t.children ++ ls)) (preorder_append ts us) ∙ ap (λ ls. t.label ∷ ls) (sym (append_assoc (preorder t.children) (preorder (forest ts)) (preorder (forest us))))
+
+pub any_append : (p : Label → Bool) (ts us : List Tree) → list_any p (preorder (forest (ts ++ us))) ≡ (list_any p (preorder (forest ts)) || list_any p (preorder (forest us)))
+any_append p ts us = ap (list_any p) (preorder_append ts us) ∙ list_any-append p (preorder (forest ts)) (preorder (forest us))
+
+or_swap : (a b c : Bool) → (a || (b || c)) ≡ ((a || c) || b)
+or_swap true b c = refl
+or_swap false true true = refl
+or_swap false true false = refl
+or_swap false false true = refl
+or_swap false false false = refl
+
+-- the nodes of all trees are those of a part and those of the rest
+pub any_parts : (p : Label → Bool) (ts : List Tree) (from to : ℕ) → from ≤ to
+    → list_any p (preorder (forest ts)) ≡ (list_any p (preorder (forest (take from ts ++ drop to ts))) || list_any p (preorder (forest (slice_range ts from to))))
+any_parts p ts from to h =
+    let split : ts ≡ take from ts ++ (slice_range ts from to ++ drop to ts) = sym (take-append-drop from ts) ∙ ap (λ zs. take from ts ++ zs) (drop_split ts from to h) in
+    ap (λ zs. list_any p (preorder (forest zs))) split
+    ∙ (any_append p (take from ts) (slice_range ts from to ++ drop to ts)
+    ∙ (ap (λ b. list_any p (preorder (forest (take from ts))) || b) (any_append p (slice_range ts from to) (drop to ts))
+    ∙ (or_swap (list_any p (preorder (forest (take from ts)))) (list_any p (preorder (forest (slice_range ts from to)))) (list_any p (preorder (forest (drop to ts))))
+    ∙ ap (λ b. b || list_any p (preorder (forest (slice_range ts from to)))) (sym (any_append p (take from ts) (drop to ts))))))
+
+or_true : (b : Bool) → (b || true) ≡ true
+or_true true = refl
+or_true false = refl
+
+-- what was held before, without what is gone and with what was added
+pub had_or_added : (had gone rest added : Bool) → had ≡ (gone || rest) → (gone ≡ true → added ≡ true) → (had || added) ≡ (rest || added)
+had_or_added had true rest true e h = ap (λ b. b || true) e ∙ sym (or_true rest)
+had_or_added had true rest false e h = let a : false ≡ true = h refl in cc
+had_or_added had false rest added e h = ap (λ b. b || added) e
+
+-- the diagnosis after an exchange where all that is gone is there again
+pub had_or_added_all : (p : Label → Bool) (ts : List Tree) (from to : ℕ) (had gone added : Bool) → from ≤ to
+    → had ≡ (gone || list_any p (preorder (forest (take from ts ++ drop to ts)))) → added ≡ list_any p (preorder (forest (slice_range ts from to))) → (gone ≡ true → added ≡ true)
+    → (had || added) ≡ list_any p (preorder (forest ts))
+had_or_added_all p ts from to had gone added order e is h =
+    had_or_added had gone (list_any p (preorder (forest (take from ts ++ drop to ts)))) added e h
+    ∙ (ap (λ b. list_any p (preorder (forest (take from ts ++ drop to ts))) || b) is ∙ sym (any_parts p ts from to order))
+
+-- the item at a place of a beginning
+pub get_take : {X : Type 0} (i n : ℕ) (xs : List X) (d : X) → i < n → get_or (take n xs) i d ≡ get_or xs i d
+get_take i zero xs d h = absurd (omega arith)
+get_take i (suc n) [] d h = refl
+get_take zero (suc n) (x ∷ xs) d h = refl
+get_take (suc i) (suc n) (x ∷ xs) d h = get_take i n xs d (omega arith)
+
+-- where the text of the children before a place ends
+pub start_at : (es : List ℕ) (ts : List Tree) (n : ℕ) → 0 < n → n ≤ length ts → take n es ≡ take n (ends_from 0 ts) → get_or es (n - 1) 0 ≡ length (text_of_all (take n ts))
+start_at es ts n some few same =
+    sym (get_take (n - 1) n es 0 (omega arith)) ∙ (ap (λ ys. get_or ys (n - 1) 0) same ∙ (get_take (n - 1) n (ends_from 0 ts) 0 (omega arith)
+    ∙ (child_end_is ts (n - 1) 0 (omega arith) ∙ ap (λ m. length (text_of_all (take m ts))) (let e : n - 1 + 1 ≡ n = omega arith in e))))
+
+pub start_none : (ts : List Tree) (n : ℕ) → n ≡ 0 → 0 ≡ length (text_of_all (take n ts))
+start_none ts n e = ap (λ m. length (text_of_all (take m ts))) (sym e)
+
+-- the text of one more
+pub text_more : (ts : List Tree) (i : ℕ) (d : Tree) → i < length ts → length (text_of_all (take (i + 1) ts)) ≡ length (text_of_all (take i ts)) + length (text (get_or ts i d))
+text_more ts i d h =
+    ap (λ us. length (text_of_all us)) (take_more ts i d h) ∙ omega (arith, length_text_append (take i ts) (get_or ts i d ∷ []), length-text_of_all-cons (get_or ts i d) [])
+
+pub text_front : (ts : List Tree) (i : ℕ) → length (text_of_all (take i ts)) + length (text_of_all (drop i ts)) ≡ length (text_of_all ts)
+text_front ts i = sym (length_text_append (take i ts) (drop i ts)) ∙ ap (λ us. length (text_of_all us)) (take-append-drop i ts)
+
+-- one more end is written
+pub end_more : (es : List ℕ) (ts : List Tree) (i end : ℕ) → i < length ts → i < length es → take i es ≡ take i (ends_from 0 ts) → end ≡ length (text_of_all (take (i + 1) ts)) → take (i + 1) (set es i end) ≡ take (i + 1) (ends_from 0 ts)
+end_more es ts i end h k same is =
+    let many : i < length (ends_from 0 ts) = omega (arith, length_of_ends 0 ts) in
+    take_more_set es i end k ∙ ((λ j. same j ++ (is ∙ sym (child_end_is ts i 0 h)) j ∷ []) ∙ sym (take_more (ends_from 0 ts) i 0 many))
+
+-- one more end is moved
+pub shift_done : (xs ys : List ℕ) (k gone added : ℕ) → k < length xs → k < length ys → take k ys ≡ map (λ e. e - gone + added) (take k xs) → drop k ys ≡ drop k xs
+    → take (k + 1) (set ys k (get_or ys k 0 - gone + added)) ≡ map (λ e. e - gone + added) (take (k + 1) xs)
+shift_done xs ys k gone added h j done left =
+    let x : get_or ys k 0 ≡ get_or xs k 0 = get_drop ys k j ∙ (ap (λ zs. get_or zs 0 0) left ∙ sym (get_drop xs k h)) in
+    take_more_set ys k (get_or ys k 0 - gone + added) j
+    ∙ ((λ i. done i ++ (x i - gone + added) ∷ []) ∙ (sym (map-append (λ e. e - gone + added) (take k xs) (get_or xs k 0 ∷ [])) ∙ ap (map (λ e. e - gone + added)) (sym (take_more xs k 0 h))))
+  where
+    get_drop : (zs : List ℕ) (n : ℕ) → n < length zs → get_or zs n 0 ≡ get_or (drop n zs) 0 0
+    get_drop zs n h = ap (λ ws. get_or ws 0 0) (sym (drop-cons zs n 0 h))
+
+pub shift_left : (xs ys : List ℕ) (k v : ℕ) → drop k ys ≡ drop k xs → drop (k + 1) (set ys k v) ≡ drop (k + 1) xs
+shift_left xs ys k v left = drop-set-lt (k + 1) ys k v (omega arith) ∙ (sym (drop-drop 1 k ys) ∙ (ap (drop 1) left ∙ drop-drop 1 k xs))
+
+-- ends that are moved by a difference
+pub shifted : (a gone added : ℕ) (ts : List Tree) → map (λ e. e - gone + added) (ends_from (a + gone) ts) ≡ ends_from (a + added) ts
+shifted a gone added [] = refl
+shifted a gone added (t ∷ ts) =
+    let one : a + gone + length (text t) ≡ (a + length (text t)) + gone = omega arith in
+    let two : a + gone + length (text t) - gone + added ≡ a + added + length (text t) = omega arith in
+    let three : (a + length (text t)) + added ≡ a + added + length (text t) = omega arith in
+    (λ i. two i ∷ map (λ e. e - gone + added) (ends_from (one i) ts)) ∙ (ap (λ es. (a + added + length (text t)) ∷ es) (shifted (a + length (text t)) gone added ts) ∙ ap (λ n. (a + added + length (text t)) ∷ ends_from n ts) three)
+
+-- they fit where the text does
+pub can_shift : (a gone added : ℕ) (ts : List Tree) → a + added + length (text_of_all ts) < 2 ^ 64 → AllByRecursion (λ e. (gone ≤ e) × (e - gone + added < 2 ^ 64)) (ends_from (a + gone) ts)
+can_shift a gone added [] h = tt
+can_shift a gone added (t ∷ ts) h =
+    let one : (a + length (text t)) + gone ≡ a + gone + length (text t) = omega arith in (
+      (omega arith, omega (arith, length-text_of_all-cons t ts)),
+      subst (λ n. AllByRecursion (λ e. (gone ≤ e) × (e - gone + added < 2 ^ 64)) (ends_from n ts)) one (can_shift (a + length (text t)) gone added ts (omega (arith, length-text_of_all-cons t ts))),
+    )
+
+-- the ends of the trees behind a place
+pub drop_ends : (at : ℕ) (ts : List Tree) (n : ℕ) → n ≤ length ts → drop n (ends_from at ts) ≡ ends_from (at + length (text_of_all (take n ts))) (drop n ts)
+drop_ends at ts zero h = ap (λ m. ends_from m ts) (omega arith)
+drop_ends at [] (suc n) h = absurd (omega arith)
+drop_ends at (t ∷ ts) (suc n) h =
+    drop_ends (at + length (text t)) ts n (omega arith)
+    ∙ ap (λ m. ends_from m (drop n ts)) (let e : at + length (text t) + length (text_of_all (take n ts)) ≡ at + length (text_of_all (t ∷ take n ts)) = omega (arith, length-text_of_all-cons t (take n ts)) in e)
+
+-- the ends before a place, and those behind it
+pub ends_whole : (es tail : List ℕ) (ts : List Tree) (from to added : ℕ) → from ≤ to → to ≤ length ts → take to es ≡ take to (ends_from 0 ts) → added ≡ length (text_of_all (slice_range ts from to))
+    → tail ≡ ends_from (length (text_of_all (take from ts)) + added) (drop to ts) → take to es ++ tail ≡ ends_from 0 ts
+ends_whole es tail ts from to added order inside same is left =
+    let parts : length (text_of_all (take from ts)) + added ≡ 0 + length (text_of_all (take to ts)) = omega (arith, text_parts) in
+    (λ i. same i ++ (left ∙ (ap (λ n. ends_from n (drop to ts)) parts ∙ sym (drop_ends 0 ts to inside))) i) ∙ take-append-drop to (ends_from 0 ts)
+  where
+    text_parts : length (text_of_all (take from ts)) + length (text_of_all (slice_range ts from to)) ≡ length (text_of_all (take to ts))
+    text_parts = sym (length_text_append (take from ts) (slice_range ts from to)) ∙ ap (λ us. length (text_of_all us)) (take_parts ts from to order)
+
+-- the ends of a beginning
+take_ends : (at n : ℕ) (ts : List Tree) → take n (ends_from at ts) ≡ ends_from at (take n ts)
+take_ends at zero ts = refl
+take_ends at (suc n) [] = refl
+take_ends at (suc n) (t ∷ ts) = ap (λ es. (at + length (text t)) ∷ es) (take_ends (at + length (text t)) n ts)
+
+or_comm : (a b : Bool) → (a || b) ≡ (b || a)
+or_comm true true = refl
+or_comm true false = refl
+or_comm false true = refl
+or_comm false false = refl
+
+-- the parts of a list with others in the place of some
+module _ {X : Type 0} (xs ys : List X) (from to : ℕ) (order : from ≤ to) (inside : to ≤ length xs) where
+  pub splice_front : take from (splice xs from to ys) ≡ take from xs
+  splice_front = take_at (take from xs) (ys ++ drop to xs) from (omega (arith, length-take from xs))
+
+  pub splice_back : drop (from + length ys) (splice xs from to ys) ≡ drop to xs
+  splice_back = ap (drop (from + length ys)) (sym (append_assoc (take from xs) ys (drop to xs))) ∙ drop_at (take from xs ++ ys) (drop to xs) (from + length ys) (omega (arith, length-append (take from xs) ys, length-take from xs))
+
+  pub splice_middle : slice_range (splice xs from to ys) from (from + length ys) ≡ ys
+  splice_middle =
+      let many : from + length ys - from ≡ length ys = omega arith in
+      (λ i. take (many i) (drop_at (take from xs) (ys ++ drop to xs) from (omega (arith, length-take from xs)) i)) ∙ take_at ys (drop to xs) (length ys) refl
+
+  pub length_splice : length (splice xs from to ys) + (to - from) ≡ length xs + length ys
+  length_splice = omega (arith, length-append (take from xs) (ys ++ drop to xs), length-append ys (drop to xs), length-take from xs, length-drop to xs)
+
+-- one item
+pub set_splice : {X : Type 0} (xs : List X) (i : ℕ) (y : X) → i < length xs → set xs i y ≡ splice xs i (i + 1) (y ∷ [])
+set_splice xs i y h = sym (take-append-drop i (set xs i y)) ∙ (λ j. take-set xs i y j ++ drop-set xs i y h j)
+
+pub slice_one : {X : Type 0} (xs : List X) (i : ℕ) (d : X) → i < length xs → get_or xs i d ∷ [] ≡ slice_range xs i (i + 1)
+slice_one xs i d h =
+    let many : i + 1 - i ≡ 1 = omega arith in
+    sym ((λ j. take (many j) (drop-cons xs i d h j)))
+
+-- an inner node whose children were exchanged, and whose list of ends has place for theirs
+module _ (old new : InnerNode) (ys : List Tree) (from to : ℕ) (gone : Sums) (order : from ≤ to) (inside : to ≤ length old.children.items) (measured : IsMeasured old)
+    (is_gone : AreSums gone (slice_range old.children.items from to)) (children : new.children.items ≡ splice old.children.items from to ys)
+    (kind : new.kind ≡ old.kind) (len : new.len ≡ old.len) (descendants : new.descendants ≡ old.descendants) (diagnosis : new.diagnosis ≡ old.diagnosis)
+    (ends : length new.ends.items + (to - from) ≡ length old.ends.items + length ys) (ends_before : take from new.ends.items ≡ take from old.ends.items)
+    (ends_behind : drop (from + length ys) new.ends.items ≡ drop to old.ends.items) where
+  front : take from new.children.items ≡ take from old.children.items
+  front = ap (take from) children ∙ splice_front old.children.items ys from to order inside
+
+  back : drop (from + length ys) new.children.items ≡ drop to old.children.items
+  back = ap (drop (from + length ys)) children ∙ splice_back old.children.items ys from to order inside
+
+  middle : slice_range new.children.items from (from + length ys) ≡ ys
+  middle = ap (λ ts. slice_range ts from (from + length ys)) children ∙ splice_middle old.children.items ys from to order inside
+
+  stale_any : (p : Label → Bool) (had was : Bool) → had ≡ list_any p (preorder (forest old.children.items)) → was ≡ list_any p (preorder (forest (slice_range old.children.items from to)))
+      → had ≡ (was || list_any p (preorder (forest (take from new.children.items ++ drop (from + length ys) new.children.items))))
+  stale_any p had was is was_is =
+      is ∙ (any_parts p old.children.items from to order
+      ∙ (or_comm (list_any p (preorder (forest (take from old.children.items ++ drop to old.children.items)))) (list_any p (preorder (forest (slice_range old.children.items from to))))
+      ∙ (λ i. sym was_is i || list_any p (preorder (forest (sym front i ++ sym back i))))))
+
+  pub put_stale : IsStale from (from + length ys) gone new
+  put_stale =
+      let texts = splice_text old.children.items ys from to order in
+      let counts = splice_count old.children.items ys from to order in
+      let text_in : length (text_of_all (slice_range new.children.items from (from + length ys))) ≡ length (text_of_all ys) = ap (λ ts. length (text_of_all ts)) middle in
+      let count_in : count_of_all (slice_range new.children.items from (from + length ys)) ≡ count_of_all ys = ap count_of_all middle in
+      let text_new : length (text_of_all new.children.items) ≡ length (text_of_all (splice old.children.items from to ys)) = ap (λ ts. length (text_of_all ts)) children in
+      let count_new : count_of_all new.children.items ≡ count_of_all (splice old.children.items from to ys) = ap count_of_all children in
+      let text_front : length (text_of_all (take from new.children.items)) ≡ length (text_of_all (take from old.children.items)) = ap (λ ts. length (text_of_all ts)) front in
+      let many : length new.children.items ≡ length (splice old.children.items from to ys) = ap length children in
+      record {
+        kind = λ e. measured.kind (sym kind ∙ e);
+        len = omega (arith, texts, text_in, text_new, len, measured.len, is_gone.len);
+        descendants = omega (arith, counts, count_in, count_new, descendants, measured.descendants, is_gone.descendants);
+        errors = stale_any is_error new.diagnosis.errors gone.diagnosis.errors (ap (λ d. d.errors) diagnosis ∙ measured.errors) is_gone.errors;
+        warnings = stale_any is_warned new.diagnosis.warnings gone.diagnosis.warnings (ap (λ d. d.warnings) diagnosis ∙ measured.warnings) is_gone.warnings;
+        ends = omega (arith, many, length_splice old.children.items ys from to order inside, ends, ap length measured.ends, length_of_ends 0 old.children.items);
+        ends_before = ends_before ∙ (ap (take from) measured.ends ∙ (take_ends 0 from old.children.items ∙ (ap (ends_from 0) (sym front) ∙ sym (take_ends 0 from new.children.items))));
+        ends_behind = ends_behind ∙ (ap (drop to) measured.ends ∙ (drop_ends 0 old.children.items to inside ∙ (λ i. ends_from (begins text_front i) (sym back i))));
+      }
+    where
+      begins : length (text_of_all (take from new.children.items)) ≡ length (text_of_all (take from old.children.items)) → 0 + length (text_of_all (take to old.children.items)) ≡ length (text_of_all (take from new.children.items)) + gone.len
+      begins same = omega (arith, is_gone.len, sym (length_text_append (take from old.children.items) (slice_range old.children.items from to)), ap (λ us. length (text_of_all us)) (take_parts old.children.items from to order))

@@ -1,0 +1,23 @@
+use Rattle.std.proofs.Common.{arith, ap, ◌∙◌}
+use Rattle.std.specs.List.{list_any}
+use Rattle.std.proofs.lemmas.List.{with_items_is}
+use Rattle.typst_node.specs.Tree.{forest}
+use Rattle.typst_node.specs.Preorder.{preorder}
+use Rattle.typst_node.specs.Diagnosis.{is_error, is_warned}
+use Rattle.typst_node.specs.View.{ends_from}
+use Rattle.typst_node.proofs.Opens.{part_count, part_text}
+use Rattle.typst_node.proofs.node.InnerNode.settle.Goals as goal
+
+pub returns-clause-measured : goal.returns-clause-measured
+returns-clause-measured c =
+    let items = c.args.self.now.children.items in
+    let texts = part_text items c.args.from c.args.to c.requires.window in
+    let counts = part_count items c.args.from c.args.to c.requires.window in
+    record {
+      kind = c.requires.stale.kind;
+      len = omega (arith, texts, c.requires.stale.len, c.requires.added.len);
+      descendants = omega (arith, counts, c.requires.stale.descendants, c.requires.added.descendants);
+      errors = c.diagnosis_after-self.ensures.errors ∙ ap (λ ts. list_any is_error (preorder (forest ts))) c.deref.ensures.value;
+      warnings = c.diagnosis_after-self.ensures.warnings ∙ ap (λ ts. list_any is_warned (preorder (forest ts))) c.deref.ensures.value;
+      ends = with_items_is c.args.self.now.ends c.settle_ends.new.ends (omega arith) ∙ (c.settle_ends.ensures ∙ ap (ends_from 0) c.deref-2.ensures.value);
+    }

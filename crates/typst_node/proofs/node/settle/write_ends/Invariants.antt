@@ -1,0 +1,11 @@
+use Rattle.std.proofs.Common.{◌≡◌, length, take, drop}
+use Rattle.typst_node.specs.Text.{text_of_all}
+use Rattle.typst_node.specs.View.{ends_from}
+use Rattle.typst_node.proofs.node.settle.write_ends.Given as goal
+
+abbrev pub invariant-loop-i : goal.invariant-loop-i
+invariant-loop-i l = record {
+  end : l.end ≡ length (text_of_all (take l.i l.children));
+  before : take l.i l.ends ≡ take l.i (ends_from 0 l.children);
+  behind : drop l.to l.ends ≡ drop l.to l.initial.ends;
+}

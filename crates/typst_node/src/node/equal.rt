@@ -1,0 +1,93 @@
+// Equality of whole trees.
+ghost use Rattle.std.specs.Prelude.{◌≡◌, ◌↔◌, IsTrue};
+ghost use Rattle.typst_node.specs.View.{content, below};
+
+use crate::node::spanless::{same_hints, same_kind, same_warnings};
+use crate::node::{Node, SyntaxNode};
+use typst_base::Span;
+
+fn same_span(span: Span, other: Span) -> bool
+    ensures { IsTrue result ↔ (span ≡ other) }
+{
+    span == other
+}
+
+impl SyntaxNode {
+    /// Whether both trees are the same, spans and bounds included.
+    #[cycle(same)]
+    fn same(&self, other: &SyntaxNode) -> bool
+        ensures { IsTrue result ↔ (self.now ≡ other.now) }
+    {
+        if !same_span(self.span, other.span) {
+            return false;
+        }
+        same_warnings(&self.warnings, &other.warnings) && self.node.same(&other.node)
+    }
+}
+
+impl Node {
+    #[cycle(same)]
+    fn same(&self, other: &Node) -> bool
+        ensures { IsTrue result ↔ ((content self.now ≡ content other.now) × (below self.now ≡ below other.now)) }
+    {
+        match self {
+            Node::Leaf(kind, text) => match other {
+                Node::Leaf(other_kind, other_text) => {
+                    same_kind(*kind, *other_kind) && text.as_str() == other_text.as_str()
+                }
+                Node::Inner(_) | Node::Error(_) => false,
+            },
+            Node::Inner(inner) => match other {
+                Node::Inner(other_inner) => {
+                    same_kind(inner.kind, other_inner.kind)
+                        && inner.upper == other_inner.upper
+                        && all_same(&inner.children, &other_inner.children)
+                }
+                Node::Leaf(..) | Node::Error(_) => false,
+            },
+            Node::Error(error) => match other {
+                Node::Error(other_error) => {
+                    error.text.as_str() == other_error.text.as_str()
+                        && error.message.as_str() == other_error.message.as_str()
+                        && same_hints(&error.hints, &other_error.hints)
+                }
+                Node::Leaf(..) | Node::Inner(_) => false,
+            },
+        }
+    }
+}
+
+/// Whether both lists hold the same trees.
+#[cycle(same)]
+fn all_same(nodes: &[SyntaxNode], others: &[SyntaxNode]) -> bool
+    ensures { IsTrue result ↔ (nodes.now ≡ others.now) }
+{
+    if nodes.len() != others.len() {
+        return false;
+    }
+    for i in 0..nodes.len() {
+        if !nodes[i].same(&others[i]) {
+            return false;
+        }
+    }
+    true
+}
+
+/// Equality of all that the trees hold, spans and bounds included. It takes time in proportion to the smaller one.
+impl PartialEq for SyntaxNode {
+    ghost use Rattle.typst_node.specs.Equal.{tree_eq, tree_eq_laws};
+
+    ghost eq = { tree_eq };
+
+    ghost laws = { tree_eq_laws };
+
+    fn eq(&self, other: &SyntaxNode) -> bool {
+        self.same(other)
+    }
+}
+
+impl Eq for SyntaxNode {
+    ghost use Rattle.typst_node.specs.Equal.{tree_eq_equivalence};
+
+    ghost laws = { tree_eq_equivalence };
+}

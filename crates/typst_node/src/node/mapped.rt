@@ -1,0 +1,153 @@
+// Trees whose nodes have the places of mapped bytes.
+ghost use Rattle.std.specs.Prelude.{◌≡◌, ◌+◌, ◌<◌, ◌≤◌, ◌↔◌, length, map, IsErrOf, OnErr, OnOk};
+ghost use Rattle.typst_base.specs.SubRange.{interval};
+ghost use Rattle.typst_node.specs.Mapped.{mapped_hint, mapped_part, mapped_tree, mapped_trees, mapped_warning};
+ghost use Rattle.typst_node.specs.Text.{text, text_of_all};
+ghost use Rattle.typst_node.specs.View.{hint_text, IsMeasured, shown_warnings, warning_text};
+
+use crate::node::{Hint, InnerNode, Node, SyntaxNode, Warning};
+use std::ops::Range;
+use thiserror::Error;
+use typst_base::{FileId, RangeMapper, Span, SubRange};
+
+/// Why a tree can't be synthesized over a mapper.
+#[derive(Clone, Copy, Debug, PartialEq, Eq, Error)]
+pub enum SynthesizeError {
+    /// The tree's text has more bytes than the mapper.
+    #[error("text length ({text}) is greater than mapper length ({mapper})")]
+    TooLong {
+        /// The length of the tree's text in bytes.
+        text: usize,
+        /// How many bytes the mapper has.
+        mapper: usize,
+    },
+}
+
+/// # Synthesis over a mapper
+impl SyntaxNode {
+    /// Gives each node of the tree the span of the original range of its bytes, as `mapper` maps them, in the file
+    /// `id`. Each inner node's bound becomes its span's number.
+    ///
+    /// A sub-range of a warning or a hint is mapped at its node's offset. It goes where it passes the node's text, or
+    /// where its place is no sub-range. Where the text is longer than the mapper, nothing has changed.
+    /// It takes no memory, and time in proportion to the nodes, each with the logarithm of the mapper's segments.
+    pub fn synthesize_mapped(
+        &mut self,
+        id: FileId,
+        mapper: &RangeMapper,
+    ) -> Result<(), SynthesizeError>
+        ensures too_long { IsErrOf result (SynthesizeError.TooLong (length (text self.old)) (length mapper.now.positions))
+            ↔ (length mapper.now.positions < length (text self.old)) }
+        ensures err { OnErr result (self.new ≡ self.old) }
+        ensures ok { OnOk result (self.new ≡ mapped_tree mapper.now id 0 self.old) }
+    {
+        let text = self.len();
+        let total = mapper.total_len();
+        if text > total {
+            return Err(SynthesizeError::TooLong {
+                text,
+                mapper: total,
+            });
+        }
+        self.map_places(id, mapper, 0);
+        Ok(())
+    }
+
+    /// Gives each node of the tree the place of its bytes, which begin at this offset of the mapped text.
+    #[cycle(map_places)]
+    fn map_places(&mut self, id: FileId, mapper: &RangeMapper, at: usize)
+        requires { at + length (text self.old) ≤ length mapper.now.positions }
+        ensures { self.new ≡ mapped_tree mapper.now id at self.old }
+    {
+        let _total = mapper.total_len();
+        let end = at + self.len();
+        let span = Span::from_range(id, mapper.map(at..end));
+        match &mut self.node {
+            Node::Leaf(..) => {
+                self.span = span;
+                map_parts(&mut self.warnings, mapper, at, end);
+            }
+            Node::Error(error) => {
+                self.span = span;
+                map_parts(&mut self.warnings, mapper, at, end);
+                map_hint_parts(&mut error.hints, mapper, at, end);
+            }
+            Node::Inner(inner) => {
+                self.span = span;
+                map_parts(&mut self.warnings, mapper, at, end);
+                inner.map_places_below(id, mapper, at, span);
+            }
+        }
+    }
+}
+
+impl InnerNode {
+    #[cycle(map_places)]
+    fn map_places_below(&mut self, id: FileId, mapper: &RangeMapper, at: usize, span: Span)
+        requires measured { IsMeasured self.old }
+        requires inside { at + length (text_of_all self.old.children.items) ≤ length mapper.now.positions }
+        ensures measured { IsMeasured self.new }
+        ensures kind { self.new.kind ≡ self.old.kind }
+        ensures upper { self.new.upper ≡ span.low }
+        ensures children { self.new.children.items ≡ mapped_trees mapper.now id at self.old.children.items }
+    {
+        let _total = mapper.total_len();
+        self.upper = span.number();
+        let mut at = at;
+        for child in self.children.iter_mut() {
+            let end = at + child.len();
+            child.map_places(id, mapper, at);
+            at = end;
+        }
+    }
+}
+
+/// Maps the sub-ranges of the warnings and their hints.
+fn map_parts(warnings: &mut Vec<Warning>, mapper: &RangeMapper, at: usize, end: usize)
+    requires ordered { at ≤ end }
+    requires inside { end ≤ length mapper.now.positions }
+    ensures { shown_warnings warnings.new.items
+        ≡ map (mapped_warning mapper.now (interval at end)) (shown_warnings warnings.old.items) }
+{
+    for warning in warnings.iter_mut() {
+        warning.map_parts(mapper, at, end);
+    }
+}
+
+impl Warning {
+    /// Maps the sub-ranges of the warning and its hints.
+    fn map_parts(&mut self, mapper: &RangeMapper, at: usize, end: usize)
+        requires ordered { at ≤ end }
+        requires inside { end ≤ length mapper.now.positions }
+        ensures { warning_text self.new ≡ mapped_warning mapper.now (interval at end) (warning_text self.old) }
+    {
+        self.sub_range = map_part(self.sub_range, mapper, at, end);
+        map_hint_parts(&mut self.hints, mapper, at, end);
+    }
+}
+
+/// Maps the sub-ranges of the hints.
+fn map_hint_parts(hints: &mut Vec<Hint>, mapper: &RangeMapper, at: usize, end: usize)
+    requires ordered { at ≤ end }
+    requires inside { end ≤ length mapper.now.positions }
+    ensures { map hint_text hints.new.items
+        ≡ map (mapped_hint mapper.now (interval at end)) (map hint_text hints.old.items) }
+{
+    for hint in hints.iter_mut() {
+        hint.sub_range = map_part(hint.sub_range, mapper, at, end);
+    }
+}
+
+/// Where a part of a node with these bytes lies, if it is a part of the node's text.
+#[tactic(auto, using(crate::proofs::MappedLemmas::part_made))]
+fn map_part(part: Option<SubRange>, mapper: &RangeMapper, at: usize, end: usize) -> Option<SubRange>
+    requires ordered { at ≤ end }
+    requires inside { end ≤ length mapper.now.positions }
+    ensures { result ≡ mapped_part mapper.now (interval at end) part }
+{
+    let part = part?;
+    if part.to_relative().end > end - at {
+        return None;
+    }
+    mapper.map_sub_range(at, part)
+}

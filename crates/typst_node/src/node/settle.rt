@@ -1,0 +1,151 @@
+// What an inner node keeps of its children, after some of them were exchanged.
+ghost use Rattle.std.specs.Prelude.{◌≡◌, ◌+◌, ◌-◌, ◌^◌, ◌<◌, ◌≤◌, ◌||◌, ◌++◌, ◌↔◌, true, map, length, take, drop, slice_range, IsTrue};
+ghost use Rattle.std.specs.List.{list_any, AllByRecursion};
+ghost use Rattle.typst_node.specs.Tree.{forest};
+ghost use Rattle.typst_node.specs.Preorder.{preorder};
+ghost use Rattle.typst_node.specs.Text.{text_of_all};
+ghost use Rattle.typst_node.specs.Count.{SumsFit};
+ghost use Rattle.typst_node.specs.Diagnosis.{is_error, is_warned};
+ghost use Rattle.typst_node.specs.View.{IsMeasured, ends_from};
+ghost use Rattle.typst_node.specs.Sums.{AreSums};
+ghost use Rattle.typst_node.specs.Stale.{IsStale};
+
+use crate::diagnosis::Diagnosis;
+use crate::node::inner::Sums;
+use crate::node::{InnerNode, SyntaxNode};
+
+/// What the nodes hold together.
+fn diagnosis_of(nodes: &[SyntaxNode]) -> Diagnosis
+    ensures errors { result.errors ≡ list_any is_error (preorder (forest nodes.now)) }
+    ensures warnings { result.warnings ≡ list_any is_warned (preorder (forest nodes.now)) }
+{
+    let mut diagnosis = Diagnosis {
+        errors: false,
+        warnings: false,
+    };
+    for node in nodes {
+        diagnosis = diagnosis.or(node.diagnosis());
+    }
+    diagnosis
+}
+
+/// Whether all that is gone is there again.
+fn is_covered(gone: Diagnosis, added: Diagnosis) -> bool
+    ensures { IsTrue result ↔ ((gone.errors ≡ true → added.errors ≡ true) × (gone.warnings ≡ true → added.warnings ≡ true)) }
+{
+    (!gone.errors || added.errors) && (!gone.warnings || added.warnings)
+}
+
+/// What the children hold, where they held `had` while some were there that held `gone` and not yet those that hold
+/// `added`. It looks at the children only where an entry may have gone.
+#[tactic(auto, using(crate::proofs::Settled::had_or_added_all))]
+fn diagnosis_after(
+    children: &[SyntaxNode],
+    from: usize,
+    to: usize,
+    had: Diagnosis,
+    gone: Diagnosis,
+    added: Diagnosis,
+) -> Diagnosis
+    requires window { from ≤ to }
+    requires errors { had.errors ≡ (gone.errors || list_any is_error (preorder (forest (take from children.now ++ drop to children.now)))) }
+    requires warnings { had.warnings ≡ (gone.warnings || list_any is_warned (preorder (forest (take from children.now ++ drop to children.now)))) }
+    requires added_errors { added.errors ≡ list_any is_error (preorder (forest (slice_range children.now from to))) }
+    requires added_warnings { added.warnings ≡ list_any is_warned (preorder (forest (slice_range children.now from to))) }
+    ensures errors { result.errors ≡ list_any is_error (preorder (forest children.now)) }
+    ensures warnings { result.warnings ≡ list_any is_warned (preorder (forest children.now)) }
+{
+    if is_covered(gone, added) {
+        had.or(added)
+    } else {
+        diagnosis_of(children)
+    }
+}
+
+/// Writes where the texts of the children from `from` up to `to` end, given where those before them do.
+fn write_ends(ends: &mut [usize], children: &[SyntaxNode], from: usize, to: usize)
+    requires many { length ends.old ≡ length children.now }
+    requires window { from ≤ to }
+    requires inside { to ≤ length children.now }
+    requires fits { length (text_of_all children.now) < 2 ^ 64 }
+    requires before { take from ends.old ≡ take from (ends_from 0 children.now) }
+    ensures before { take to ends.new ≡ take to (ends_from 0 children.now) }
+    ensures behind { drop to ends.new ≡ drop to ends.old }
+{
+    let mut end = if from == 0 { 0 } else { ends[from - 1] };
+    for i in from..to {
+        end += children[i].len();
+        ends[i] = end;
+    }
+}
+
+/// Moves the ends by the difference of two lengths.
+fn shift_ends(ends: &mut [usize], gone: usize, added: usize)
+    requires above { AllByRecursion (λ e. (gone ≤ e) × (e - gone + added < 2 ^ 64)) ends.old }
+    ensures { ends.new ≡ map (λ e. e - gone + added) ends.old }
+{
+    for end in ends.iter_mut() {
+        *end = *end - gone + added;
+    }
+}
+
+/// Writes where the texts of the children from `from` up to `to` end, and moves the ends behind them by the
+/// difference of what stood there and what stands there now. Behind a change that keeps the length nothing is written.
+fn settle_ends(
+    ends: &mut [usize],
+    children: &[SyntaxNode],
+    from: usize,
+    to: usize,
+    gone: usize,
+    added: usize,
+)
+    requires many { length ends.old ≡ length children.now }
+    requires window { from ≤ to }
+    requires inside { to ≤ length children.now }
+    requires fits { length (text_of_all children.now) < 2 ^ 64 }
+    requires added { added ≡ length (text_of_all (slice_range children.now from to)) }
+    requires before { take from ends.old ≡ take from (ends_from 0 children.now) }
+    requires behind { drop to ends.old ≡ ends_from (length (text_of_all (take from children.now)) + gone) (drop to children.now) }
+    ensures { ends.new ≡ ends_from 0 children.now }
+{
+    write_ends(ends, children, from, to);
+    if gone != added {
+        shift_ends(&mut ends[to..], gone, added);
+    }
+}
+
+impl InnerNode {
+    /// Corrects lengths, counts, diagnosis and ends after the children from `from` up to `to` came there: `gone` are
+    /// the sums of those that are counted in their place, `added` are their own.
+    #[tactic(auto, using(crate::proofs::Opens::part_count, crate::proofs::Opens::part_text))]
+    pub(super) fn settle(&mut self, from: usize, to: usize, gone: &Sums, added: &Sums)
+        requires window { from ≤ to }
+        requires inside { to ≤ length self.old.children.items }
+        requires stale { IsStale from to gone.now self.old }
+        requires added { AreSums added.now (slice_range self.old.children.items from to) }
+        requires fits { SumsFit self.old.children.items }
+        ensures measured { IsMeasured self.new }
+        ensures kind { self.new.kind ≡ self.old.kind }
+        ensures upper { self.new.upper ≡ self.old.upper }
+        ensures children { self.new.children ≡ self.old.children }
+    {
+        self.len = self.len - gone.len + added.len;
+        self.descendants = self.descendants - gone.descendants + added.descendants;
+        self.diagnosis = diagnosis_after(
+            &self.children,
+            from,
+            to,
+            self.diagnosis,
+            gone.diagnosis,
+            added.diagnosis,
+        );
+        settle_ends(
+            &mut self.ends,
+            &self.children,
+            from,
+            to,
+            gone.len,
+            added.len,
+        );
+    }
+}

@@ -1,0 +1,114 @@
+// Equality of nodes apart from spans and bounds.
+ghost use Rattle.std.specs.Prelude.{◌≡◌, ◌↔◌, IsTrue, map, string_bytes};
+ghost use Rattle.typst_node.specs.Plain.{plain, unbounded};
+ghost use Rattle.typst_node.specs.View.{hint_text, warning_text, content, below};
+
+use crate::node::{Hint, Node, SyntaxNode, Warning};
+use typst_base::SyntaxKind;
+
+pub(super) fn same_kind(kind: SyntaxKind, other: SyntaxKind) -> bool
+    ensures { IsTrue result ↔ (kind ≡ other) }
+{
+    kind == other
+}
+
+fn same_hint(hint: &Hint, other: &Hint) -> bool
+    ensures { IsTrue result ↔ (hint_text hint.now ≡ hint_text other.now) }
+{
+    hint.text.as_str() == other.text.as_str() && hint.sub_range == other.sub_range
+}
+
+pub(super) fn same_hints(hints: &[Hint], others: &[Hint]) -> bool
+    ensures { IsTrue result ↔ (map hint_text hints.now ≡ map hint_text others.now) }
+{
+    if hints.len() != others.len() {
+        return false;
+    }
+    for i in 0..hints.len() {
+        if !same_hint(&hints[i], &others[i]) {
+            return false;
+        }
+    }
+    true
+}
+
+fn same_warning(warning: &Warning, other: &Warning) -> bool
+    ensures { IsTrue result ↔ (warning_text warning.now ≡ warning_text other.now) }
+{
+    warning.sub_range == other.sub_range
+        && warning.message.as_str() == other.message.as_str()
+        && same_hints(&warning.hints, &other.hints)
+}
+
+pub(super) fn same_warnings(warnings: &[Warning], others: &[Warning]) -> bool
+    ensures { IsTrue result ↔ (map warning_text warnings.now ≡ map warning_text others.now) }
+{
+    if warnings.len() != others.len() {
+        return false;
+    }
+    for i in 0..warnings.len() {
+        if !same_warning(&warnings[i], &others[i]) {
+            return false;
+        }
+    }
+    true
+}
+
+/// # Comparing trees
+impl SyntaxNode {
+    /// Whether both trees are the same apart from spans and bounds: the same kinds, texts, messages, hints and
+    /// warnings, with their sub-ranges. It takes time in proportion to the smaller tree at most, and no memory.
+    #[cycle(alike)]
+    pub fn spanless_eq(&self, other: &SyntaxNode) -> bool
+        ensures { IsTrue result ↔ (plain self.now ≡ plain other.now) }
+    {
+        same_warnings(&self.warnings, &other.warnings) && self.node.spanless_eq(&other.node)
+    }
+}
+
+impl Node {
+    #[cycle(alike)]
+    fn spanless_eq(&self, other: &Node) -> bool
+        ensures { IsTrue result ↔ ((unbounded (content self.now) ≡ unbounded (content other.now)) × (map plain (below self.now) ≡ map plain (below other.now))) }
+    {
+        match self {
+            Node::Leaf(kind, text) => match other {
+                Node::Leaf(other_kind, other_text) => {
+                    same_kind(*kind, *other_kind) && text.as_str() == other_text.as_str()
+                }
+                Node::Inner(_) | Node::Error(_) => false,
+            },
+            Node::Inner(inner) => match other {
+                Node::Inner(other_inner) => {
+                    same_kind(inner.kind, other_inner.kind)
+                        && all_alike(&inner.children, &other_inner.children)
+                }
+                Node::Leaf(..) | Node::Error(_) => false,
+            },
+            Node::Error(error) => match other {
+                Node::Error(other_error) => {
+                    error.text.as_str() == other_error.text.as_str()
+                        && error.message.as_str() == other_error.message.as_str()
+                        && same_hints(&error.hints, &other_error.hints)
+                }
+                Node::Leaf(..) | Node::Inner(_) => false,
+            },
+        }
+    }
+}
+
+/// Whether both lists hold the same trees apart from spans and bounds.
+#[cycle(alike)]
+fn all_alike(nodes: &[SyntaxNode], others: &[SyntaxNode]) -> bool
+    ensures { IsTrue result ↔ (map plain nodes.now ≡ map plain others.now) }
+{
+    if nodes.len() != others.len() {
+        return false;
+    }
+    for i in 0..nodes.len() {
+        if !nodes[i].spanless_eq(&others[i]) {
+            return false;
+        }
+    }
+    true
+}

@@ -1,0 +1,47 @@
+// What stands alike at the beginning and at the end of two lists of nodes.
+ghost use Rattle.std.specs.Prelude.{◌≡◌, ◌+◌, ◌-◌, ◌≤◌, length, reverse, slice_range};
+ghost use Rattle.typst_node.specs.ChangedChildren.{IsCommonBeginning, common_first, common_last};
+
+use crate::node::SyntaxNode;
+
+/// How many nodes stand alike at the beginning of both.
+pub(super) fn count_common_first(nodes: &[SyntaxNode], others: &[SyntaxNode]) -> usize
+    ensures is { result ≡ common_first nodes.now others.now }
+    ensures longest { IsCommonBeginning nodes.now others.now result }
+    ensures within { result ≤ length nodes.now }
+    ensures within_others { result ≤ length others.now }
+{
+    let most = nodes.len().min(others.len());
+    for i in 0..most {
+        if !nodes[i].spanless_eq(&others[i]) {
+            return i;
+        }
+    }
+    most
+}
+
+/// How many nodes stand alike at the end of both.
+pub(super) fn count_common_last(nodes: &[SyntaxNode], others: &[SyntaxNode]) -> usize
+    ensures is { result ≡ common_last nodes.now others.now }
+    ensures longest { IsCommonBeginning (reverse nodes.now) (reverse others.now) result }
+    ensures within { result ≤ length nodes.now }
+    ensures within_others { result ≤ length others.now }
+{
+    let most = nodes.len().min(others.len());
+    for i in 0..most {
+        if !nodes[nodes.len() - 1 - i].spanless_eq(&others[others.len() - 1 - i]) {
+            return i;
+        }
+    }
+    most
+}
+
+/// Drops some nodes at the beginning, and at the end. It takes no memory.
+pub(super) fn trim(nodes: &mut Vec<SyntaxNode>, first: usize, last: usize)
+    requires { first + last ≤ length nodes.old.items }
+    ensures { nodes.new.items ≡ slice_range nodes.old.items first (length nodes.old.items - last) }
+{
+    nodes.truncate(nodes.len() - last);
+    nodes.rotate_left(first);
+    nodes.truncate(nodes.len() - first);
+}

@@ -1,0 +1,215 @@
+// Errors, warnings and hints.
+ghost use Rattle.std.specs.Prelude.{◌≡◌, ◌<◌, ◌∷◌, ◌++◌, ◌↔◌, [], map, None, string_bytes, vec_len, IfOk, IsTrue, OnErr, OnOk};
+ghost use Rattle.typst_node.specs.Hints.{error_tree, hint_for, hint_outermost, hinted, plain_hints, CanHint};
+ghost use Rattle.typst_node.specs.Warnings.{part_for, warned, warning, FitsRange};
+ghost use Rattle.typst_node.specs.View.{hint_text, shown_warnings};
+
+use crate::node::{ErrorNode, Hint, Node, SyntaxNode, Warning};
+use std::alloc::{AllocError, Global};
+use std::ops::Range;
+use typst_base::{Span, SubRange};
+
+/// # Making errors
+impl SyntaxNode {
+    /// A detached error with a copy of the message and of the text that is no syntax. Both may be empty.
+    /// Only want of memory is an error.
+    pub fn error(alloc: Global, message: &str, text: &str) -> Result<SyntaxNode, AllocError>
+        ensures { IfOk result (λ t. t ≡ error_tree message.now text.now) }
+    {
+        let message = String::from_str(alloc, message)?;
+        let text = String::from_str(alloc, text)?;
+        SyntaxNode::error_of(alloc, message, text)
+    }
+
+    /// A detached error with this message and text. They are dropped where memory is refused.
+    pub(crate) fn error_of(
+        alloc: Global,
+        message: String,
+        text: String,
+    ) -> Result<SyntaxNode, AllocError>
+        ensures { IfOk result (λ t. t ≡ error_tree (string_bytes message) (string_bytes text)) }
+    {
+        let error = ErrorNode {
+            text,
+            message,
+            hints: Vec::new(alloc),
+        };
+        Ok(SyntaxNode {
+            node: Node::Error(Box::new(alloc, error)?),
+            span: Span::detached(),
+            warnings: Vec::new(alloc),
+        })
+    }
+}
+
+/// # Warning
+///
+/// These calls change the node in place. Where memory is refused, nothing has changed.
+impl SyntaxNode {
+    /// Puts one more warning with a copy of the message round the node, outside those that it has.
+    pub fn warn(&mut self, alloc: Global, message: &str) -> Result<(), AllocError>
+        ensures ok { OnOk result (self.new ≡ warned (warning None message.now) self.old) }
+        ensures err { OnErr result (self.new ≡ self.old) }
+    {
+        self.add_warning(alloc, None, message)
+    }
+
+    /// Puts one more warning round the node that is about a part of its bytes, counted from its first byte.
+    ///
+    /// An end above 2^32 - 1 is cut to that. The test of the condition is `range_fits`.
+    pub fn warn_at(
+        &mut self,
+        alloc: Global,
+        range: Range<usize>,
+        message: &str,
+    ) -> Result<(), AllocError>
+        requires { FitsRange range self.old }
+        ensures ok { OnOk result (self.new ≡ warned (warning (part_for range) message.now) self.old) }
+        ensures err { OnErr result (self.new ≡ self.old) }
+    {
+        let part = SubRange::new(range.start, range.end);
+        self.add_warning(alloc, part, message)
+    }
+
+    /// Puts one more warning round the node.
+    fn add_warning(
+        &mut self,
+        alloc: Global,
+        sub_range: Option<SubRange>,
+        message: &str,
+    ) -> Result<(), AllocError>
+        ensures ok { OnOk result (self.new ≡ warned (warning sub_range message.now) self.old) }
+        ensures err { OnErr result (self.new ≡ self.old) }
+    {
+        let message = String::from_str(alloc, message)?;
+        self.warnings.push(Warning {
+            sub_range,
+            message,
+            hints: Vec::new(alloc),
+        })?;
+        Ok(())
+    }
+
+    /// Whether a range of the node's bytes can be the part that a warning or a hint is about: it isn't empty, ends
+    /// within the node's text, and starts below 2^32 - 1.
+    pub fn range_fits(&self, range: Range<usize>) -> bool
+        ensures { IsTrue result ↔ FitsRange range self.now }
+    {
+        range.end <= self.len() && SubRange::new(range.start, range.end).is_some()
+    }
+}
+
+/// # Giving hints
+///
+/// A hint goes to the outermost warning, and without a warning to the error. These calls change the node in place.
+/// Where memory is refused, nothing has changed.
+impl SyntaxNode {
+    /// Whether the node takes hints: it is an error, or under a warning.
+    pub fn can_hint(&self) -> bool
+        ensures { IsTrue result ↔ CanHint self.now.label }
+    {
+        !self.warnings.is_empty() || matches!(&self.node, Node::Error(_))
+    }
+
+    /// Adds a hint with a copy of the text. The test of the condition is `can_hint`.
+    pub fn hint(&mut self, alloc: Global, text: &str) -> Result<(), AllocError>
+        requires { CanHint self.old.label }
+        ensures ok { OnOk result (self.new ≡ hinted (hint_for None text.now ∷ []) self.old) }
+        ensures err { OnErr result (self.new ≡ self.old) }
+    {
+        self.add_hint(alloc, None, text)
+    }
+
+    /// Adds a hint that is about a part of the node's bytes, counted from its first byte.
+    ///
+    /// An end above 2^32 - 1 is cut to that. The tests of the conditions are `can_hint` and `range_fits`.
+    pub fn hint_at(
+        &mut self,
+        alloc: Global,
+        range: Range<usize>,
+        text: &str,
+    ) -> Result<(), AllocError>
+        requires takes { CanHint self.old.label }
+        requires fits { FitsRange range self.old }
+        ensures ok { OnOk result (self.new ≡ hinted (hint_for (part_for range) text.now ∷ []) self.old) }
+        ensures err { OnErr result (self.new ≡ self.old) }
+    {
+        let part = SubRange::new(range.start, range.end);
+        self.add_hint(alloc, part, text)
+    }
+
+    /// Adds a hint.
+    fn add_hint(
+        &mut self,
+        alloc: Global,
+        sub_range: Option<SubRange>,
+        text: &str,
+    ) -> Result<(), AllocError>
+        requires { CanHint self.old.label }
+        ensures ok { OnOk result (self.new ≡ hinted (hint_for sub_range text.now ∷ []) self.old) }
+        ensures err { OnErr result (self.new ≡ self.old) }
+    {
+        let text = String::from_str(alloc, text)?;
+        self.push_hint(Hint { text, sub_range })
+    }
+
+    /// The node with one more hint for each text, in their order. The test of the condition is `can_hint`.
+    ///
+    /// Where memory is refused, the node and the texts are dropped.
+    pub fn with_hints(
+        mut self,
+        _alloc: Global,
+        texts: Vec<String>,
+    ) -> Result<SyntaxNode, AllocError>
+        requires { CanHint self.label }
+        ensures { IfOk result (λ t. t ≡ hinted (plain_hints (map string_bytes texts.items)) self) }
+    {
+        for text in texts {
+            self.push_hint(Hint {
+                text,
+                sub_range: None,
+            })?;
+        }
+        Ok(self)
+    }
+
+    /// Adds a hint.
+    pub(super) fn push_hint(&mut self, hint: Hint) -> Result<(), AllocError>
+        requires { CanHint self.old.label }
+        ensures ok { OnOk result (self.new ≡ hinted (hint_text hint ∷ []) self.old) }
+        ensures err { OnErr result (self.new ≡ self.old) }
+    {
+        if !self.warnings.is_empty() {
+            return hint_last(&mut self.warnings, hint);
+        }
+        match &mut self.node {
+            Node::Error(error) => error.push_hint(hint),
+            Node::Leaf(..) | Node::Inner(_) => unreachable!(),
+        }
+    }
+}
+
+impl ErrorNode {
+    /// Adds a hint behind the error's own.
+    fn push_hint(&mut self, hint: Hint) -> Result<(), AllocError>
+        ensures text { self.new.text ≡ self.old.text }
+        ensures message { self.new.message ≡ self.old.message }
+        ensures ok { OnOk result (self.new.hints.items ≡ self.old.hints.items ++ hint ∷ []) }
+        ensures err { OnErr result (self.new.hints.items ≡ self.old.hints.items) }
+    {
+        self.hints.push(hint)?;
+        Ok(())
+    }
+}
+
+/// Adds a hint behind those of the last warning, which is the outermost one.
+fn hint_last(warnings: &mut Vec<Warning>, hint: Hint) -> Result<(), AllocError>
+    requires { 0 < vec_len warnings.old }
+    ensures ok { OnOk result (shown_warnings warnings.new.items
+        ≡ hint_outermost (hint_text hint ∷ []) (shown_warnings warnings.old.items)) }
+    ensures err { OnErr result (shown_warnings warnings.new.items ≡ shown_warnings warnings.old.items) }
+{
+    let last = warnings.len() - 1;
+    warnings[last].hints.push(hint)?;
+    Ok(())
+}

@@ -1,0 +1,5 @@
+pub mod Refusals
+pub mod PlainRuns
+pub mod Runs
+pub mod KeptPaths
+pub mod OneNumber

@@ -1,0 +1,37 @@
+-- Paths that a run keeps.
+use Rattle.std.specs.Prelude.{ℕ, ◌≡◌, List, [], ◌∷◌}
+use Rattle.typst_node.specs.Tree.{Tree}
+use Rattle.typst_node.specs.Paths.{IsPath}
+use Rattle.typst_node.specs.Outside.{IsInWindow, place_before}
+use Rattle.typst_tree.specs.Run.{Answers}
+use Rattle.typst_tree.specs.declared.session.Request.{Request}
+use Rattle.typst_tree.specs.declared.session.Request.TheVariants.{Replace, Find}
+use Rattle.typst_tree.specs.declared.session.Reply.{Reply}
+use Rattle.typst_tree.specs.declared.session.Reply.TheVariants.{Renumbered, Misfit, Refused, Found, NotFound, NoMemory}
+use Rattle.typst_tree.specs.declared.session.Slot.{Slot}
+use Rattle.typst_tree.specs.declared.session.Slot.TheVariants.{Ask, Told}
+
+-- Over a replacement that was done a path goes on as the path outside the window's subtrees whose place in the old tree it is.
+-- Over any other step it goes on as itself.
+abbrev pub GoesOnOver : Request → Reply → Tree → Tree → List ℕ → List ℕ → Type 0
+GoesOnOver (Replace path range others) (Renumbered r) old new p q =
+    IsPath q new × ¬ (IsInWindow path.items r.window.start r.window.end q) × (place_before path.items r old new q ≡ p)
+GoesOnOver (Replace path range others) Misfit old new p q = q ≡ p
+GoesOnOver (Replace path range others) (Refused e) old new p q = q ≡ p
+GoesOnOver (Replace path range others) (Found path' o l) old new p q = q ≡ p
+GoesOnOver (Replace path range others) (NotFound l) old new p q = q ≡ p
+GoesOnOver (Replace path range others) NoMemory old new p q = q ≡ p
+GoesOnOver (Find span) reply old new p q = q ≡ p
+
+abbrev pub GoesOn : Slot → Slot → Tree → Tree → List ℕ → List ℕ → Type 0
+GoesOn (Ask request) (Told reply) old new p q = GoesOnOver request reply old new p q
+GoesOn (Ask request) (Ask again) old new p q = q ≡ p
+GoesOn (Told told) after old new p q = q ≡ p
+
+-- a path of the first tree goes on over each slot, and is q at the end
+abbrev pub IsKept : Tree → List Slot → List Slot → Tree → List ℕ → List ℕ → Type 0
+IsKept old [] [] new p q = (new ≡ old) × (q ≡ p)
+IsKept old (before ∷ befores) (after ∷ afters) new p q =
+    (mid : Tree) × (between : List ℕ) × Answers old before after mid × GoesOn before after old mid p between × IsKept mid befores afters new between q
+IsKept old [] (after ∷ afters) new p q = ⊥
+IsKept old (before ∷ befores) [] new p q = ⊥

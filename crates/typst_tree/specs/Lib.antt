@@ -1,0 +1,4 @@
+pub mod Step
+pub mod Found
+pub mod Run
+pub mod Kept

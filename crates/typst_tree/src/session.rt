@@ -1,0 +1,198 @@
+// Runs of replacements and searches on one tree.
+ghost use Rattle.std.specs.Prelude.{◌≡◌, ◌++◌, ◌↔◌, ℕ, List, Some, IsTrue, IfOk};
+ghost use Rattle.typst_linked.specs.Search.{with_number};
+ghost use Rattle.typst_node.specs.Labels.{number};
+ghost use Rattle.typst_node.specs.Numbered.{IsNumbered, IsNumberedFor};
+ghost use Rattle.typst_node.specs.Paths.{IsPath, tree_at};
+ghost use Rattle.typst_node.specs.Plain.{plain};
+ghost use Rattle.typst_tree.specs.Step.{Step, FitsInner};
+ghost use Rattle.typst_tree.specs.Found.{TellsPlace};
+ghost use Rattle.typst_tree.specs.Kept.{IsKept};
+ghost use Rattle.typst_tree.specs.Run.{Answers, Run, edited_by};
+ghost use Rattle.typst_tree.specs.declared.session.Request.TheVariants.{Find, Replace};
+
+use std::alloc::{AllocError, Global};
+use std::mem;
+use std::ops::Range;
+use typst_base::Span;
+use typst_linked::{LinkedNode, Looks};
+use typst_node::{Renumbered, ReplaceError, SyntaxNode};
+
+/// What is asked of a tree.
+#[derive(Drop)]
+pub enum Request {
+    /// To replace the children with an index in the range of the inner node that the path leads to.
+    Replace {
+        /// Child indices from the root down.
+        path: Vec<usize>,
+        /// Child indices of the edited node.
+        range: Range<usize>,
+        /// The nodes that come for them. They are dropped unless the reply is `Renumbered`.
+        replacement: Vec<SyntaxNode>,
+    },
+    /// To find the node with this span.
+    Find(Span),
+}
+
+/// What became of a request.
+#[derive(Debug, PartialEq, Eq, Drop)]
+pub enum Reply {
+    /// The children were replaced, and this window was numbered anew.
+    Renumbered(Renumbered),
+    /// The path leads to no inner node, or the range doesn't fit its children. Nothing changed.
+    Misfit,
+    /// The replacement was refused. Nothing changed.
+    Refused(ReplaceError),
+    /// A node with the span.
+    Found {
+        /// Child indices from the root down.
+        path: Vec<usize>,
+        /// Where its text begins, in bytes.
+        offset: usize,
+        /// How many numbers the search read.
+        looks: u64,
+    },
+    /// There is no node with the span.
+    NotFound {
+        /// How many numbers the search read.
+        looks: u64,
+    },
+    /// The search, or the path of its answer, was refused memory. Nothing changed.
+    NoMemory,
+}
+
+/// A request, or the reply that it has got.
+#[derive(Drop)]
+pub enum Slot {
+    Ask(Request),
+    Told(Reply),
+}
+
+/// Serves the requests in order: each `Ask` becomes the `Told` of its reply, and a `Told` stays.
+///
+/// A refused replacement doesn't end the run. Memory is taken from `alloc`, and its want is told in a reply. The test
+/// of the condition is `SyntaxNode::is_numbered`.
+pub fn run(alloc: Global, root: &mut SyntaxNode, slots: &mut [Slot])
+    requires { IsNumbered root.old }
+    ensures run { Run root.old slots.old slots.new root.new }
+    ensures numbered { IsNumberedFor root.old.label.span.file root.new }
+    ensures plain { plain root.new ≡ plain (edited_by slots.old slots.new root.old) }
+    ensures kept { (p q : List ℕ) → IsPath p root.old
+        → IsKept root.old slots.old slots.new root.new p q
+        → IsPath q root.new × ((tree_at q root.new).label ≡ (tree_at p root.old).label) }
+    ensures found_again { (p q : List ℕ) → IsPath p root.old
+        → IsKept root.old slots.old slots.new root.new p q
+        → with_number (number (tree_at p root.old).label) root.new ≡ Some q }
+{
+    for slot in slots.iter_mut() {
+        answer(alloc, root, slot);
+    }
+}
+
+/// Serves one slot.
+fn answer(alloc: Global, root: &mut SyntaxNode, slot: &mut Slot)
+    requires { IsNumbered root.old }
+    ensures { Answers root.old slot.old slot.new root.new }
+{
+    *slot = match mem::replace(slot, Slot::Told(Reply::NoMemory)) {
+        Slot::Ask(request) => Slot::Told(serve(alloc, root, request)),
+        told => told,
+    };
+}
+
+/// The reply to one request, and its change of the tree.
+fn serve(alloc: Global, root: &mut SyntaxNode, request: Request) -> Reply
+    requires { IsNumbered root.old }
+    ensures { Step root.old request result root.new }
+{
+    match request {
+        Request::Replace {
+            path,
+            range,
+            replacement,
+        } => replace(alloc, root, path, range, replacement),
+        Request::Find(span) => find(alloc, root, span),
+    }
+}
+
+/// The reply to a replacement, and its change of the tree.
+fn replace(
+    alloc: Global,
+    root: &mut SyntaxNode,
+    path: Vec<usize>,
+    range: Range<usize>,
+    replacement: Vec<SyntaxNode>,
+) -> Reply
+    requires { IsNumbered root.old }
+    ensures { Step root.old (Replace path range replacement) result root.new }
+{
+    if !fits(root, &path, range.start, range.end) {
+        return Reply::Misfit;
+    }
+    match root.replace_at(alloc, &path, range, replacement) {
+        Ok(renumbered) => Reply::Renumbered(renumbered),
+        Err(error) => Reply::Refused(error),
+    }
+}
+
+/// Whether the path leads to an inner node, and the range lies within its children.
+fn fits(root: &SyntaxNode, path: &[usize], start: usize, end: usize) -> bool
+    ensures { IsTrue result ↔ FitsInner path.now start end root.now }
+{
+    match path.split_first() {
+        None => root.is_inner() && start <= end && end <= root.children().len(),
+        Some((index, rest)) => match root.children().get(*index) {
+            Some(child) => fits(child, rest, start, end),
+            None => false,
+        },
+    }
+}
+
+/// The reply to a search.
+fn find(alloc: Global, root: &SyntaxNode, span: Span) -> Reply
+    ensures { Step root.now (Find span) result root.now }
+{
+    let mut looks = Looks::new();
+    let start = LinkedNode::new(root);
+    match start.find_counted(alloc, span, &mut looks) {
+        Ok(found) => found_reply(alloc, found, looks.count()),
+        Err(_) => Reply::NoMemory,
+    }
+}
+
+/// The reply that tells where a node was found.
+fn found_reply(alloc: Global, found: Option<LinkedNode>, looks: u64) -> Reply
+    ensures { TellsPlace found.entry looks result }
+{
+    let Some(found) = found else {
+        return Reply::NotFound { looks };
+    };
+    let offset = found.offset();
+    match path_of(alloc, &found) {
+        Ok(path) => Reply::Found {
+            path,
+            offset,
+            looks,
+        },
+        Err(_) => Reply::NoMemory,
+    }
+}
+
+/// The child indices from the root down to a linked node.
+fn path_of(alloc: Global, node: &LinkedNode) -> Result<Vec<usize>, AllocError>
+    ensures { IfOk result (λ v. v.items ≡ node.now.path) }
+{
+    let mut path = Vec::new(alloc);
+    push_path(node, &mut path)?;
+    Ok(path)
+}
+
+fn push_path(node: &LinkedNode, path: &mut Vec<usize>) -> Result<(), AllocError>
+    ensures { IfOk result (λ _. path.new.items ≡ path.old.items ++ node.now.path) }
+{
+    if let Some(parent) = node.parent() {
+        push_path(parent, path)?;
+        path.push(node.index())?;
+    }
+    Ok(())
+}

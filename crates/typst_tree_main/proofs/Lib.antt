@@ -1,0 +1,4 @@
+pub mod Blanks
+pub mod KindTable
+pub mod Lines
+pub mod Shown

@@ -1,0 +1,12 @@
+use Rattle.std.specs.Prelude.{IsSome, is_some}
+use Rattle.std.proofs.Common.{ap}
+use Rattle.typst_tree_main.proofs.Lines.{no_other_word, lone_line}
+use Rattle.typst_tree_main.proofs.command.Command.parse.Goals as goal
+
+pub returns-in_default-clause-every : goal.returns-in_default-clause-every
+returns-in_default-clause-every c command is =
+    lone_line (IsSome c.lone.result) command _ c.in_default.ensures.every (λ root. ap is_some (c.lone.ensures.root root)) (λ show. ap is_some (c.lone.ensures.show show)) is
+
+pub returns-in_default-word-clause-every : goal.returns-in_default-word-clause-every
+returns-in_default-word-clause-every c command is =
+    absurd (no_other_word command _ _ _ c.in-Some.ensures.every c.in-Some.ensures.reads c.in_default-word.not-leaf c.in_default-word.not-inner c.in_default-word.not-number is)

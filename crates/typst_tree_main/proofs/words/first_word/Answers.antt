@@ -1,0 +1,8 @@
+use Rattle.typst_tree_main.proofs.Blanks.{split_reads, split_every}
+use Rattle.typst_tree_main.proofs.words.first_word.Goals as goal
+
+pub returns-clause-reads : goal.returns-clause-reads
+returns-clause-reads c = split_reads _ _ c.split_once.ensures.cases
+
+pub returns-clause-every : goal.returns-clause-every
+returns-clause-every c = split_every _ _ c.split_once.ensures.cases

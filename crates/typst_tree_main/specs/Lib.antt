@@ -1,0 +1,4 @@
+pub mod Command
+pub mod Done
+pub mod Fault
+pub mod Word

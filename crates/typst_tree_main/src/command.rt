@@ -1,0 +1,90 @@
+// The commands of a script, each read from one line.
+ghost use Rattle.std.specs.Prelude.{◌≡◌, ◌++◌, Some, IfSome, IsSome, codes};
+ghost use Rattle.typst_tree_main.specs.Command.{IsLineOf};
+ghost use Rattle.typst_tree_main.specs.declared.command.Command.{Command};
+ghost use Rattle.typst_tree_main.specs.declared.command.Command.TheVariants.{Root, Show};
+
+use crate::words;
+use typst_base::{FileId, SyntaxKind};
+
+/// What one line asks for.
+#[derive(Clone, Copy, Debug, PartialEq, Eq)]
+pub enum Command<'a> {
+    /// `leaf K TEXT`: pushes a leaf. The text is all that stands behind the second blank.
+    Leaf { kind: SyntaxKind, text: &'a str },
+    /// `inner K N`: pops N nodes and pushes their parent.
+    Inner { kind: SyntaxKind, count: u64 },
+    /// `root`: the stack's only node becomes the tree.
+    Root,
+    /// `number F LO HI`: numbers the tree for a file, from LO up to, not including, HI.
+    Number { file: FileId, low: u64, high: u64 },
+    /// `show`: prints the tree.
+    Show,
+}
+
+/// One past the greatest number that a node may have.
+const NUMBERS_END: u64 = 1 << 47;
+
+impl<'a> Command<'a> {
+    /// The command that a line without its end asks for. None where it is no command, as an empty line.
+    pub fn parse(line: &'a str) -> Option<Command<'a>>
+        ensures reads { IfSome result (λ command. IsLineOf command line.now) }
+        ensures every { (command : Command) → IsLineOf command line.now → IsSome result }
+    {
+        let Some((word, rest)) = words::first_word(line) else {
+            return Command::lone(line);
+        };
+        match word {
+            "leaf" => Command::leaf(rest),
+            "inner" => Command::inner(rest),
+            "number" => Command::number(rest),
+            _ => None,
+        }
+    }
+
+    fn lone(line: &'a str) -> Option<Command<'a>>
+        ensures root { line.now ≡ codes "root" → result ≡ Some Root }
+        ensures show { line.now ≡ codes "show" → result ≡ Some Show }
+        ensures reads { IfSome result (λ command. IsLineOf command line.now) }
+    {
+        match line {
+            "root" => Some(Command::Root),
+            "show" => Some(Command::Show),
+            _ => None,
+        }
+    }
+
+    fn leaf(rest: &'a str) -> Option<Command<'a>>
+        ensures reads { IfSome result (λ command. IsLineOf command (codes "leaf " ++ rest.now)) }
+        ensures every { (command : Command) → IsLineOf command (codes "leaf " ++ rest.now) → IsSome result }
+    {
+        let (kind, text) = words::first_word(rest)?;
+        let kind = words::kind(kind)?;
+        Some(Command::Leaf { kind, text })
+    }
+
+    fn inner(rest: &'a str) -> Option<Command<'a>>
+        ensures reads { IfSome result (λ command. IsLineOf command (codes "inner " ++ rest.now)) }
+        ensures every { (command : Command) → IsLineOf command (codes "inner " ++ rest.now) → IsSome result }
+    {
+        let (kind, count) = words::first_word(rest)?;
+        let kind = words::kind(kind)?;
+        let count = words::number(count)?;
+        Some(Command::Inner { kind, count })
+    }
+
+    fn number(rest: &'a str) -> Option<Command<'a>>
+        ensures reads { IfSome result (λ command. IsLineOf command (codes "number " ++ rest.now)) }
+        ensures every { (command : Command) → IsLineOf command (codes "number " ++ rest.now) → IsSome result }
+    {
+        let (file, rest) = words::first_word(rest)?;
+        let (low, high) = words::first_word(rest)?;
+        let file = words::file(file)?;
+        let low = words::number(low)?;
+        let high = words::number(high)?;
+        if low < 2 || high > NUMBERS_END {
+            return None;
+        }
+        Some(Command::Number { file, low, high })
+    }
+}

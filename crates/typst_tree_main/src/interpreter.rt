@@ -1,0 +1,152 @@
+// Carries out the commands of a script.
+ghost use Rattle.std.specs.Prelude.{ℕ, ◌≡◌, ◌≢◌, ◌<◌, ◌≤◌, ◌^◌, ◌-◌, ◌↔◌, List, [], length, drop, OnOk, IfErr, IsErrOf, IsNone, IsOk, Err};
+ghost use Rattle.typst_base.specs.declared.kind.SyntaxKind.TheVariants.{Error};
+ghost use Rattle.typst_node.specs.Count.{SumsFit};
+ghost use Rattle.typst_tree_main.specs.Command.{IsLineOf};
+ghost use Rattle.typst_tree_main.specs.declared.command.Command.{Command};
+ghost use Rattle.typst_tree_main.specs.declared.command.Command.TheVariants.{Leaf, Inner, Root, Number};
+ghost use Rattle.typst_tree_main.specs.declared.fault.Fault.TheVariants.{BadCommand, Memory, Overflow};
+
+use crate::command::Command;
+use crate::fault::Fault;
+use crate::show::show;
+use std::alloc::Global;
+use std::io::Write;
+use typst_base::{FileId, SyntaxKind};
+use typst_node::SyntaxNode;
+
+/// The nodes that a script has built, and its tree.
+#[derive(Drop)]
+pub struct Interpreter {
+    /// The newest node is the last.
+    stack: Vec<SyntaxNode>,
+    tree: Option<SyntaxNode>,
+    /// The line at work, from 1.
+    line: u64,
+}
+
+impl Interpreter {
+    ghost use Rattle.typst_tree_main.specs.Done.{IsDone, CanBeDone};
+
+    /// An empty stack, and no tree.
+    pub fn new(alloc: Global) -> Interpreter
+        ensures stack { result.stack.items ≡ [] }
+        ensures tree { IsNone result.tree }
+    {
+        Interpreter {
+            stack: Vec::new(alloc),
+            tree: None,
+            line: 1,
+        }
+    }
+
+    /// Carries out the line with this number, which stands without its end. An empty one is skipped.
+    pub fn obey<W: Write>(
+        &mut self,
+        alloc: Global,
+        line: u64,
+        text: &str,
+        out: &mut W,
+    ) -> Result<(), Fault>
+        ensures skipped { text.now ≡ [] → IsOk result × (self.new.stack.items ≡ self.old.stack.items)
+            × (self.new.tree ≡ self.old.tree) }
+        ensures done { OnOk result (text.now ≢ []
+            → (command : Command) × IsLineOf command text.now × IsDone command self.old self.new) }
+        ensures no_command { text.now ≢ [] → ((command : Command) → ¬ (IsLineOf command text.now))
+            → result ≡ Err (BadCommand line) }
+    {
+        self.line = line;
+        if text.is_empty() {
+            return Ok(());
+        }
+        let Some(command) = Command::parse(text) else {
+            return Err(self.bad());
+        };
+        self.carry_out(alloc, command, out)
+    }
+
+    /// That the line at work can't be done.
+    fn bad(&self) -> Fault
+        ensures { result ≡ BadCommand self.now.line }
+    {
+        Fault::BadCommand { line: self.line }
+    }
+
+    fn carry_out<W: Write>(
+        &mut self,
+        alloc: Global,
+        command: Command<'_>,
+        out: &mut W,
+    ) -> Result<(), Fault>
+        requires { (line : List ℕ) × IsLineOf command line }
+        ensures done { OnOk result (IsDone command.entry self.old self.new) }
+        ensures bad { IsErrOf result (BadCommand self.old.line) ↔ ¬ (CanBeDone command.entry self.old) }
+    {
+        match command {
+            Command::Leaf { kind, text } => self.leaf(alloc, kind, text),
+            Command::Inner { kind, count } => self.inner(alloc, kind, count),
+            Command::Root => self.root(),
+            Command::Number { file, low, high } => self.number(out, file, low, high),
+            Command::Show => show(out, self.tree.as_ref().ok_or(self.bad())?),
+        }
+    }
+
+    fn leaf(&mut self, alloc: Global, kind: SyntaxKind, text: &str) -> Result<(), Fault>
+        requires { kind ≢ Error }
+        ensures done { OnOk result (IsDone (Leaf kind text.entry) self.old self.new) }
+        ensures err { IfErr result (λ fault. fault ≡ Memory) }
+    {
+        self.stack.push(SyntaxNode::leaf(alloc, kind, text)?)?;
+        Ok(())
+    }
+
+    fn inner(&mut self, alloc: Global, kind: SyntaxKind, count: u64) -> Result<(), Fault>
+        requires { kind ≢ Error }
+        ensures done { OnOk result (IsDone (Inner kind count) self.old self.new) }
+        ensures bad { IsErrOf result (BadCommand self.old.line) ↔ (length self.old.stack.items < count) }
+        ensures overflow { IsErrOf result Overflow
+            → ¬ (SumsFit (drop (length self.old.stack.items - count) self.old.stack.items)) }
+    {
+        let start = self
+            .stack
+            .len()
+            .checked_sub(count as usize)
+            .ok_or(self.bad())?;
+        let children = self.stack.split_off(start)?;
+        self.stack.push(SyntaxNode::inner(alloc, kind, children)?)?;
+        Ok(())
+    }
+
+    fn root(&mut self) -> Result<(), Fault>
+        ensures done { OnOk result (IsDone Root self.old self.new) }
+        ensures bad { IsErrOf result (BadCommand self.old.line) ↔ (length self.old.stack.items ≢ 1) }
+    {
+        if self.stack.len() != 1 {
+            return Err(self.bad());
+        }
+        self.tree = self.stack.pop();
+        Ok(())
+    }
+
+    fn number<W: Write>(
+        &mut self,
+        out: &mut W,
+        file: FileId,
+        low: u64,
+        high: u64,
+    ) -> Result<(), Fault>
+        requires low { 2 ≤ low }
+        requires high { high ≤ 2 ^ 47 }
+        ensures done { OnOk result (IsDone (Number file low high) self.old self.new) }
+        ensures bad { IsErrOf result (BadCommand self.old.line) ↔ IsNone self.old.tree }
+    {
+        let bad = self.bad();
+        let Some(tree) = &mut self.tree else {
+            return Err(bad);
+        };
+        match tree.numberize(file, low..high) {
+            Ok(()) => Ok(()),
+            Err(_) => out.write_all(b"refused\n").map_err(Fault::of_writing),
+        }
+    }
+}

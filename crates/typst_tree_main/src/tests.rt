@@ -1,0 +1,255 @@
+// Scripts as a user would run them, and readers and writers that fail.
+use crate::fault::Fault;
+use crate::script::{run, run_within};
+use fakes::{FailingReader, FailingWriter};
+use std::alloc::Global;
+use std::test::Fail;
+use vectors::VECTORS;
+
+mod fakes;
+mod vectors;
+
+/// A tree of two leaves, numbered and shown.
+const NUMBERED: &[u8] = b"leaf 6 ab\nleaf 6 c\ninner 5 2\nroot\nnumber 1 2 14\nshow\n";
+
+const NUMBERED_SHOWN: &[u8] = b"5 3 14 3\n  6 5 6 2 ab\n  6 7 8 1 c\n";
+
+/// What a script prints, and how it ends: the text on standard error without its line's end, and the status.
+#[derive(Drop)]
+struct Outcome {
+    stdout: Vec<u8>,
+    stderr: String,
+    status: u8,
+}
+
+fn outcome_of(alloc: Global, script: &[u8]) -> Result<Outcome, Fail> {
+    let mut stdout: Vec<u8> = Vec::new(alloc);
+    let done = run(alloc, script, &mut stdout);
+    let (stderr, status) = match done {
+        Ok(()) => (String::new(alloc), 0),
+        Err(fault) => (format!(in alloc; "{fault}\n")?, fault.exit_status()),
+    };
+    Ok(Outcome {
+        stdout,
+        stderr,
+        status,
+    })
+}
+
+#[test]
+fn replays_the_vectors(rt: HostRuntime) -> Result<(), Fail> {
+    for vector in &VECTORS {
+        let name = vector.name;
+        let got = outcome_of(rt.alloc(), vector.script)?;
+        assert_eq!(rt; got.stdout.as_slice(), vector.stdout, "{name}");
+        assert_eq!(rt; got.stderr.as_str(), vector.stderr, "{name}");
+        assert_eq!(rt; got.status, vector.status, "{name}");
+    }
+    Ok(())
+}
+
+#[test]
+fn shows_what_was_built(rt: HostRuntime) -> Result<(), Fail> {
+    let cases: [(&[u8], &[u8]); 4] = [
+        // Numbered.
+        (NUMBERED, NUMBERED_SHOWN),
+        // A new tree is detached.
+        (
+            b"leaf 6 ab\nleaf 6 c\ninner 5 2\nroot\nshow\n",
+            b"5 1 0 3\n  6 1 2 2 ab\n  6 1 2 1 c\n",
+        ),
+        // Fewer numbers than nodes, and an empty range, change nothing.
+        (
+            b"leaf 6 ab\nleaf 6 c\ninner 5 2\nroot\nnumber 1 2 4\nnumber 1 14 2\nshow\n",
+            b"refused\nrefused\n5 1 0 3\n  6 1 2 2 ab\n  6 1 2 1 c\n",
+        ),
+        // A first number past all is refused, and not bad.
+        (
+            b"leaf 6 ab\nroot\nnumber 1 140737488355329 14\nshow\n",
+            b"refused\n6 1 2 2 ab\n",
+        ),
+    ];
+    for (script, stdout) in cases {
+        let got = outcome_of(rt.alloc(), script)?;
+        assert_eq!(rt; got.stdout.as_slice(), stdout);
+        assert_eq!(rt; got.stderr.as_str(), "");
+        assert_eq!(rt; got.status, 0);
+    }
+    Ok(())
+}
+
+#[test]
+fn names_the_bad_line(rt: HostRuntime) -> Result<(), Fail> {
+    let cases: [(&[u8], &str); 12] = [
+        (b"leaf 6 x\ninner 5 2\n", "line 2: bad command\n"),
+        // Numbers that no node has, and no file.
+        (b"leaf 6 a\nroot\nnumber 1 1 14\n", "line 3: bad command\n"),
+        (b"leaf 6 a\nroot\nnumber 0 2 14\n", "line 3: bad command\n"),
+        (
+            b"leaf 6 a\nroot\nnumber 65536 2 14\n",
+            "line 3: bad command\n",
+        ),
+        // A sign, and no digits.
+        (b"leaf +6 a\n", "line 1: bad command\n"),
+        (b"leaf 6 a\ninner 5 \n", "line 2: bad command\n"),
+        // Too few words, and too many.
+        (b"inner 5\n", "line 1: bad command\n"),
+        (b"leaf 6 a\nroot\nnumber 1 2\n", "line 3: bad command\n"),
+        (
+            b"leaf 6 a\nroot\nnumber 1 2 14 3\n",
+            "line 3: bad command\n",
+        ),
+        // No command, and a blank line that isn't empty.
+        (b"grow\n", "line 1: bad command\n"),
+        (b" \n", "line 1: bad command\n"),
+        // A bad line before one that isn't UTF-8 is the one that counts.
+        (b"root\n\xff\n", "line 1: bad command\n"),
+    ];
+    for (script, stderr) in cases {
+        let got = outcome_of(rt.alloc(), script)?;
+        assert_eq!(rt; got.stderr.as_str(), stderr);
+        assert_eq!(rt; got.stdout.as_slice(), b"".as_slice());
+        assert_eq!(rt; got.status, 2);
+    }
+    Ok(())
+}
+
+#[test]
+fn prints_each_fault(rt: HostRuntime) -> Result<(), Fail> {
+    let alloc = rt.alloc();
+    let cases = [
+        (Fault::BadCommand { line: 12 }, "line 12: bad command", 2),
+        (Fault::Read, "cannot read", 1),
+        (Fault::Write, "cannot write", 1),
+        (Fault::Memory, "no memory", 1),
+        (Fault::Overflow, "overflow", 1),
+    ];
+    for (fault, text, status) in cases {
+        assert_eq!(rt; format!(in alloc; "{fault}")?.as_str(), text);
+        assert_eq!(rt; fault.exit_status(), status);
+    }
+    Ok(())
+}
+
+#[test]
+fn every_beginning_ends_well_or_at_a_bad_line(rt: HostRuntime) -> Result<(), Fail> {
+    for end in 0..=NUMBERED.len() {
+        let got = outcome_of(rt.alloc(), &NUMBERED[..end])?;
+        assert!(rt; got.status == 0 || got.status == 2, "{end} bytes");
+        // `number 1 2 1` asks for numbers from an empty range.
+        let refused = got.stdout.as_slice() == b"refused\n".as_slice();
+        let shown = NUMBERED_SHOWN.starts_with(&got.stdout);
+        assert!(rt; shown || refused, "{end} bytes");
+    }
+    Ok(())
+}
+
+#[test]
+fn reads_no_more_than_the_bound(rt: HostRuntime) -> Result<(), Fail> {
+    let alloc = rt.alloc();
+    let len = NUMBERED.len() as u64;
+    let mut out: Vec<u8> = Vec::new(alloc);
+    assert_eq!(rt; run_within(alloc, NUMBERED, &mut out, len), Ok(()));
+    assert_eq!(rt; out.as_slice(), NUMBERED_SHOWN);
+    // One byte more is a fault of reading, and the lines before it were done.
+    let longer = b"leaf 6 ab\nleaf 6 c\ninner 5 2\nroot\nnumber 1 2 14\nshow\n\n";
+    let mut out: Vec<u8> = Vec::new(alloc);
+    let done = run_within(alloc, longer.as_slice(), &mut out, len);
+    assert_eq!(rt; done, Err(Fault::Read));
+    assert_eq!(rt; out.as_slice(), NUMBERED_SHOWN);
+    // The line that passes the bound isn't done.
+    let mut out: Vec<u8> = Vec::new(alloc);
+    let done = run_within(alloc, NUMBERED, &mut out, len - 1);
+    assert_eq!(rt; done, Err(Fault::Read));
+    assert_eq!(rt; out.as_slice(), b"".as_slice());
+    Ok(())
+}
+
+#[test]
+fn a_reader_that_fails_ends_the_script(rt: HostRuntime) -> Result<(), Fail> {
+    let alloc = rt.alloc();
+    // One call for each byte, and one for the end.
+    for calls_left in 0..NUMBERED.len() + 2 {
+        let mut out: Vec<u8> = Vec::new(alloc);
+        let reader = FailingReader {
+            bytes: NUMBERED,
+            calls_left,
+        };
+        let done = run(alloc, reader, &mut out);
+        if calls_left <= NUMBERED.len() {
+            assert_eq!(rt; done, Err(Fault::Read), "after {calls_left} calls");
+        } else {
+            assert_eq!(rt; done, Ok(()));
+        }
+        // The last line is `show`, and is read whole by the last call but one.
+        let shown = if calls_left < NUMBERED.len() {
+            b"".as_slice()
+        } else {
+            NUMBERED_SHOWN
+        };
+        assert_eq!(rt; out.as_slice(), shown, "after {calls_left} calls");
+    }
+    Ok(())
+}
+
+#[test]
+fn a_writer_that_fails_ends_the_script(rt: HostRuntime) -> Result<(), Fail> {
+    let alloc = rt.alloc();
+    for recovers in [false, true] {
+        // One call for each byte, and one to flush.
+        for calls_left in 0..NUMBERED_SHOWN.len() + 2 {
+            let mut out: Vec<u8> = Vec::new(alloc);
+            let writer = FailingWriter {
+                written: &mut out,
+                calls_left,
+                recovers,
+                has_failed: false,
+            };
+            let done = run(alloc, NUMBERED, writer);
+            if calls_left <= NUMBERED_SHOWN.len() {
+                assert_eq!(rt; done, Err(Fault::Write), "after {calls_left} calls");
+            } else {
+                assert_eq!(rt; done, Ok(()));
+            }
+            assert!(rt;
+                NUMBERED_SHOWN.starts_with(&out),
+                "after {calls_left} calls"
+            );
+            assert!(rt;
+                calls_left.min(NUMBERED_SHOWN.len()) <= out.len(),
+                "after {calls_left} calls"
+            );
+        }
+    }
+    Ok(())
+}
+
+#[test]
+fn a_writer_may_fail_in_mid_run(rt: HostRuntime) -> Result<(), Fail> {
+    let alloc = rt.alloc();
+    let mut script: Vec<u8> = Vec::new(alloc);
+    let mut shown: Vec<u8> = Vec::new(alloc);
+    script.extend_from_slice(NUMBERED)?;
+    shown.extend_from_slice(NUMBERED_SHOWN)?;
+    // More than a buffer holds.
+    for _ in 0..300 {
+        script.extend_from_slice(b"show\n")?;
+        shown.extend_from_slice(NUMBERED_SHOWN)?;
+    }
+    for recovers in [false, true] {
+        for calls_left in [0, 1, 100, 8191, 8192, 8193, 10000] {
+            let mut out: Vec<u8> = Vec::new(alloc);
+            let writer = FailingWriter {
+                written: &mut out,
+                calls_left,
+                recovers,
+                has_failed: false,
+            };
+            let done = run(alloc, script.as_slice(), writer);
+            assert_eq!(rt; done, Err(Fault::Write), "after {calls_left} calls");
+            assert!(rt; shown.starts_with(&out), "after {calls_left} calls");
+            assert!(rt; calls_left <= out.len(), "after {calls_left} calls");
+        }
+    }
+    Ok(())
+}
