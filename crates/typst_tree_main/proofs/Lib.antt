@@ -1,4 +1,5 @@
 pub mod Blanks
+pub mod Indices
 pub mod KindTable
 pub mod Lines
 pub mod Shown

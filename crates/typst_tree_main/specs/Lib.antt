@@ -1,4 +1,5 @@
 pub mod Command
 pub mod Done
 pub mod Fault
+pub mod Path
 pub mod Word

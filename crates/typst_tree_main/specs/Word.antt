@@ -9,9 +9,17 @@ use Rattle.typst_base.specs.declared.kind.SyntaxKind.TheVariants.{Error}
 abbrev pub blank : ℕ
 blank = 32
 
+-- what parts the message of an error from its text
+abbrev pub tab : ℕ
+tab = 9
+
+-- the text is a part without this byte, then the byte, then the rest
+abbrev pub IsSplitAt : ℕ → List ℕ → List ℕ → List ℕ → Type 0
+IsSplitAt byte text first rest = (text ≡ first ++ byte ∷ rest) × ¬ (Contains first byte)
+
 -- the text is a word without a blank, then a blank, then the rest
 abbrev pub IsSplit : List ℕ → List ℕ → List ℕ → Type 0
-IsSplit text word rest = (text ≡ word ++ blank ∷ rest) × ¬ (Contains word blank)
+IsSplit text word rest = IsSplitAt blank text word rest
 
 -- the word is decimal digits that write this number, and a u64 holds it
 abbrev pub IsNumber : List ℕ → ℕ → Type 0

@@ -2,22 +2,56 @@
 ghost use Rattle.std.specs.Prelude.{◌≡◌, ◌++◌, Some, IfSome, IsSome, codes};
 ghost use Rattle.typst_tree_main.specs.Command.{IsLineOf};
 ghost use Rattle.typst_tree_main.specs.declared.command.Command.{Command};
-ghost use Rattle.typst_tree_main.specs.declared.command.Command.TheVariants.{Root, Show};
+ghost use Rattle.typst_tree_main.specs.declared.command.Command.TheVariants.{Root, Run, Show};
 
 use crate::words;
-use typst_base::{FileId, SyntaxKind};
+use typst_tree::{FileId, SyntaxKind};
 
 /// What one line asks for.
 #[derive(Clone, Copy, Debug, PartialEq, Eq)]
 pub enum Command<'a> {
     /// `leaf K TEXT`: pushes a leaf. The text is all that stands behind the second blank.
-    Leaf { kind: SyntaxKind, text: &'a str },
+    Leaf {
+        kind: SyntaxKind,
+        text: &'a str,
+    },
+    /// `error MESSAGE<tab>TEXT`: pushes an error. The text is all that stands behind the first tab.
+    Error {
+        message: &'a str,
+        text: &'a str,
+    },
+    /// `warn M`: puts a warning round the newest node. The message is all that stands behind the first blank.
+    Warn {
+        message: &'a str,
+    },
     /// `inner K N`: pops N nodes and pushes their parent.
-    Inner { kind: SyntaxKind, count: u64 },
+    Inner {
+        kind: SyntaxKind,
+        count: u64,
+    },
     /// `root`: the stack's only node becomes the tree.
     Root,
     /// `number F LO HI`: numbers the tree for a file, from LO up to, not including, HI.
-    Number { file: FileId, low: u64, high: u64 },
+    Number {
+        file: FileId,
+        low: u64,
+        high: u64,
+    },
+    /// `replace PATH A B N`: pops N nodes and queues that they come for the children A..B of the node at the path.
+    Replace {
+        /// `-` for the root, or child indices joined by `.`.
+        path: &'a str,
+        start: u64,
+        end: u64,
+        count: u64,
+    },
+    /// `find F NUM`: queues a search for the node with this number in a file.
+    Find {
+        file: FileId,
+        number: u64,
+    },
+    /// `run`: serves the queue on the tree, prints one line a reply, and empties the queue.
+    Run,
     /// `show`: prints the tree.
     Show,
 }
@@ -36,19 +70,25 @@ impl<'a> Command<'a> {
         };
         match word {
             "leaf" => Command::leaf(rest),
+            "error" => Command::error(rest),
+            "warn" => Some(Command::Warn { message: rest }),
             "inner" => Command::inner(rest),
             "number" => Command::number(rest),
+            "replace" => Command::replace(rest),
+            "find" => Command::find(rest),
             _ => None,
         }
     }
 
     fn lone(line: &'a str) -> Option<Command<'a>>
         ensures root { line.now ≡ codes "root" → result ≡ Some Root }
+        ensures run { line.now ≡ codes "run" → result ≡ Some Run }
         ensures show { line.now ≡ codes "show" → result ≡ Some Show }
         ensures reads { IfSome result (λ command. IsLineOf command line.now) }
     {
         match line {
             "root" => Some(Command::Root),
+            "run" => Some(Command::Run),
             "show" => Some(Command::Show),
             _ => None,
         }
@@ -61,6 +101,14 @@ impl<'a> Command<'a> {
         let (kind, text) = words::first_word(rest)?;
         let kind = words::kind(kind)?;
         Some(Command::Leaf { kind, text })
+    }
+
+    fn error(rest: &'a str) -> Option<Command<'a>>
+        ensures reads { IfSome result (λ command. IsLineOf command (codes "error " ++ rest.now)) }
+        ensures every { (command : Command) → IsLineOf command (codes "error " ++ rest.now) → IsSome result }
+    {
+        let (message, text) = words::until_tab(rest)?;
+        Some(Command::Error { message, text })
     }
 
     fn inner(rest: &'a str) -> Option<Command<'a>>
@@ -86,5 +134,39 @@ impl<'a> Command<'a> {
             return None;
         }
         Some(Command::Number { file, low, high })
+    }
+
+    fn replace(rest: &'a str) -> Option<Command<'a>>
+        ensures reads { IfSome result (λ command. IsLineOf command (codes "replace " ++ rest.now)) }
+        ensures every { (command : Command) → IsLineOf command (codes "replace " ++ rest.now) → IsSome result }
+    {
+        let (path, rest) = words::first_word(rest)?;
+        let (start, rest) = words::first_word(rest)?;
+        let (end, count) = words::first_word(rest)?;
+        let start = words::number(start)?;
+        let end = words::number(end)?;
+        let count = words::number(count)?;
+        if !words::is_path(path) {
+            return None;
+        }
+        Some(Command::Replace {
+            path,
+            start,
+            end,
+            count,
+        })
+    }
+
+    fn find(rest: &'a str) -> Option<Command<'a>>
+        ensures reads { IfSome result (λ command. IsLineOf command (codes "find " ++ rest.now)) }
+        ensures every { (command : Command) → IsLineOf command (codes "find " ++ rest.now) → IsSome result }
+    {
+        let (file, number) = words::first_word(rest)?;
+        let file = words::file(file)?;
+        let number = words::number(number)?;
+        if number < 2 || number >= NUMBERS_END {
+            return None;
+        }
+        Some(Command::Find { file, number })
     }
 }

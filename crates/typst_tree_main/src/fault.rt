@@ -8,7 +8,7 @@ use std::alloc::{AllocError, AllocFailed};
 use std::io;
 use std::io::ErrorKind;
 use thiserror::Error;
-use typst_node::InnerError;
+use typst_tree::InnerError;
 
 /// What stops a script.
 #[derive(Clone, Copy, Debug, PartialEq, Eq, Error)]

@@ -1,26 +1,32 @@
 // Carries out the commands of a script.
-ghost use Rattle.std.specs.Prelude.{ℕ, ◌≡◌, ◌≢◌, ◌<◌, ◌≤◌, ◌^◌, ◌-◌, ◌↔◌, List, [], length, drop, OnOk, IfErr, IsErrOf, IsNone, IsOk, Err};
-ghost use Rattle.typst_base.specs.declared.kind.SyntaxKind.TheVariants.{Error};
+ghost use Rattle.std.specs.Prelude.{ℕ, ◌≡◌, ◌≢◌, ◌<◌, ◌≤◌, ◌^◌, ◌-◌, ◌↔◌, List, [], length, drop, OnOk, IfErr, IsErrOf, IsNone, IsSomeAnd, IsOk, Err};
+ghost use Rattle.typst_base.specs.declared.kind.SyntaxKind.TheVariants.{Error as ErrorKind};
 ghost use Rattle.typst_node.specs.Count.{SumsFit};
+ghost use Rattle.typst_node.specs.Numbered.{IsNumbered};
 ghost use Rattle.typst_tree_main.specs.Command.{IsLineOf};
+ghost use Rattle.typst_tree_main.specs.Path.{IsPathWord};
 ghost use Rattle.typst_tree_main.specs.declared.command.Command.{Command};
-ghost use Rattle.typst_tree_main.specs.declared.command.Command.TheVariants.{Leaf, Inner, Root, Number};
+ghost use Rattle.typst_tree_main.specs.declared.command.Command.TheVariants.{Leaf, Error, Warn, Inner, Root, Number, Replace, Find, Run};
 ghost use Rattle.typst_tree_main.specs.declared.fault.Fault.TheVariants.{BadCommand, Memory, Overflow};
 
 use crate::command::Command;
 use crate::fault::Fault;
+use crate::reply::print_replies;
 use crate::show::show;
+use crate::words;
 use std::alloc::Global;
 use std::io::Write;
-use typst_base::{FileId, SyntaxKind};
-use typst_node::SyntaxNode;
+use typst_tree::session::{Request, Slot};
+use typst_tree::{FileId, Span, SpanNumber, SyntaxKind, SyntaxNode, session};
 
-/// The nodes that a script has built, and its tree.
+/// The nodes that a script has built, its tree, and what it will ask of it.
 #[derive(Drop)]
 pub struct Interpreter {
     /// The newest node is the last.
     stack: Vec<SyntaxNode>,
     tree: Option<SyntaxNode>,
+    /// What the next `run` serves.
+    queue: Vec<Slot>,
     /// The line at work, from 1.
     line: u64,
 }
@@ -28,14 +34,16 @@ pub struct Interpreter {
 impl Interpreter {
     ghost use Rattle.typst_tree_main.specs.Done.{IsDone, CanBeDone};
 
-    /// An empty stack, and no tree.
+    /// An empty stack, no tree, and an empty queue.
     pub fn new(alloc: Global) -> Interpreter
         ensures stack { result.stack.items ≡ [] }
         ensures tree { IsNone result.tree }
+        ensures queue { result.queue.items ≡ [] }
     {
         Interpreter {
             stack: Vec::new(alloc),
             tree: None,
+            queue: Vec::new(alloc),
             line: 1,
         }
     }
@@ -49,7 +57,7 @@ impl Interpreter {
         out: &mut W,
     ) -> Result<(), Fault>
         ensures skipped { text.now ≡ [] → IsOk result × (self.new.stack.items ≡ self.old.stack.items)
-            × (self.new.tree ≡ self.old.tree) }
+            × (self.new.tree ≡ self.old.tree) × (self.new.queue.items ≡ self.old.queue.items) }
         ensures done { OnOk result (text.now ≢ []
             → (command : Command) × IsLineOf command text.now × IsDone command self.old self.new) }
         ensures no_command { text.now ≢ [] → ((command : Command) → ¬ (IsLineOf command text.now))
@@ -84,15 +92,25 @@ impl Interpreter {
     {
         match command {
             Command::Leaf { kind, text } => self.leaf(alloc, kind, text),
+            Command::Error { message, text } => self.error(alloc, message, text),
+            Command::Warn { message } => self.warn(alloc, message),
             Command::Inner { kind, count } => self.inner(alloc, kind, count),
             Command::Root => self.root(),
             Command::Number { file, low, high } => self.number(out, file, low, high),
+            Command::Replace {
+                path,
+                start,
+                end,
+                count,
+            } => self.replace(alloc, path, start, end, count),
+            Command::Find { file, number } => self.find(file, number),
+            Command::Run => self.run(alloc, out),
             Command::Show => show(out, self.tree.as_ref().ok_or(self.bad())?),
         }
     }
 
     fn leaf(&mut self, alloc: Global, kind: SyntaxKind, text: &str) -> Result<(), Fault>
-        requires { kind ≢ Error }
+        requires { kind ≢ ErrorKind }
         ensures done { OnOk result (IsDone (Leaf kind text.entry) self.old self.new) }
         ensures err { IfErr result (λ fault. fault ≡ Memory) }
     {
@@ -100,8 +118,28 @@ impl Interpreter {
         Ok(())
     }
 
+    fn error(&mut self, alloc: Global, message: &str, text: &str) -> Result<(), Fault>
+        ensures done { OnOk result (IsDone (Error message.entry text.entry) self.old self.new) }
+        ensures err { IfErr result (λ fault. fault ≡ Memory) }
+    {
+        self.stack.push(SyntaxNode::error(alloc, message, text)?)?;
+        Ok(())
+    }
+
+    fn warn(&mut self, alloc: Global, message: &str) -> Result<(), Fault>
+        ensures done { OnOk result (IsDone (Warn message.entry) self.old self.new) }
+        ensures bad { IsErrOf result (BadCommand self.old.line) ↔ (self.old.stack.items ≡ []) }
+    {
+        let Some(mut node) = self.stack.pop() else {
+            return Err(self.bad());
+        };
+        node.warn(alloc, message)?;
+        self.stack.push(node)?;
+        Ok(())
+    }
+
     fn inner(&mut self, alloc: Global, kind: SyntaxKind, count: u64) -> Result<(), Fault>
-        requires { kind ≢ Error }
+        requires { kind ≢ ErrorKind }
         ensures done { OnOk result (IsDone (Inner kind count) self.old self.new) }
         ensures bad { IsErrOf result (BadCommand self.old.line) ↔ (length self.old.stack.items < count) }
         ensures overflow { IsErrOf result Overflow
@@ -148,5 +186,60 @@ impl Interpreter {
             Ok(()) => Ok(()),
             Err(_) => out.write_all(b"refused\n").map_err(Fault::of_writing),
         }
+    }
+
+    fn replace(
+        &mut self,
+        alloc: Global,
+        path: &str,
+        start: u64,
+        end: u64,
+        count: u64,
+    ) -> Result<(), Fault>
+        requires { IsPathWord path.now }
+        ensures done { OnOk result (IsDone (Replace path.entry start end count) self.old self.new) }
+        ensures bad { IsErrOf result (BadCommand self.old.line) ↔ (length self.old.stack.items < count) }
+    {
+        let rest = self
+            .stack
+            .len()
+            .checked_sub(count as usize)
+            .ok_or(self.bad())?;
+        let path = words::path(alloc, path)?;
+        let request = Request::Replace {
+            path,
+            range: start as usize..end as usize,
+            replacement: self.stack.split_off(rest)?,
+        };
+        self.queue.push(Slot::Ask(request))?;
+        Ok(())
+    }
+
+    fn find(&mut self, file: FileId, number: u64) -> Result<(), Fault>
+        requires low { 2 ≤ number }
+        requires high { number < 2 ^ 47 }
+        ensures done { OnOk result (IsDone (Find file number) self.old self.new) }
+        ensures err { IfErr result (λ fault. fault ≡ Memory) }
+    {
+        let span = Span::from_number(file, SpanNumber(number));
+        self.queue.push(Slot::Ask(Request::Find(span)))?;
+        Ok(())
+    }
+
+    fn run<W: Write>(&mut self, alloc: Global, out: &mut W) -> Result<(), Fault>
+        ensures done { OnOk result (IsDone Run self.old self.new) }
+        ensures bad { IsErrOf result (BadCommand self.old.line) ↔ ¬ (IsSomeAnd self.old.tree IsNumbered) }
+    {
+        let bad = self.bad();
+        let Some(tree) = &mut self.tree else {
+            return Err(bad);
+        };
+        if !tree.is_numbered() {
+            return Err(bad);
+        }
+        session::run(alloc, tree, &mut self.queue);
+        print_replies(out, &self.queue)?;
+        self.queue.clear();
+        Ok(())
     }
 }

@@ -4,7 +4,7 @@ ghost use Rattle.typst_tree_main.specs.Fault.{IsWriteFault};
 
 use crate::fault::Fault;
 use std::io::Write;
-use typst_node::SyntaxNode;
+use typst_tree::SyntaxNode;
 
 /// Prints the nodes in preorder, indented two blanks a level: the kind's number, the span's number,
 /// the bound and the length in bytes, and behind them the text of a leaf or an error, if it has one.

@@ -14,6 +14,13 @@ const NUMBERED: &[u8] = b"leaf 6 ab\nleaf 6 c\ninner 5 2\nroot\nnumber 1 2 14\ns
 
 const NUMBERED_SHOWN: &[u8] = b"5 3 14 3\n  6 5 6 2 ab\n  6 7 8 1 c\n";
 
+/// Four replacements and a search.
+const EDITED: &[u8] =
+    b"leaf 55 *\nleaf 6 b\ninner 5 1\nleaf 55 *\ninner 13 3\nleaf 6 c\ninner 5 2\nroot\nnumber 1 2 30\nleaf 6 x\nleaf 6 y\ninner 5 2\nreplace 0 1 2 1\nfind 1 15\nleaf 6 x\nleaf 6 y\nreplace 0.1 0 1 2\nreplace 5 0 0 0\nreplace 1 0 0 0\nrun\nshow\n";
+
+const EDITED_SHOWN: &[u8] =
+    b"done window 0..3 tried 2\nfound 1 offset 4\nrefused\nmisfit\nmisfit\n5 3 30 5\n  13 4 14 4\n    55 5 6 1 *\n    5 6 9 2\n      6 7 8 1 x\n      6 8 9 1 y\n    55 9 10 1 *\n  6 15 16 1 c\n";
+
 /// What a script prints, and how it ends: the text on standard error without its line's end, and the status.
 #[derive(Drop)]
 struct Outcome {
@@ -80,7 +87,15 @@ fn shows_what_was_built(rt: HostRuntime) -> Result<(), Fail> {
 
 #[test]
 fn names_the_bad_line(rt: HostRuntime) -> Result<(), Fail> {
-    let cases: [(&[u8], &str); 12] = [
+    let cases: [(&[u8], &str); 19] = [
+        // No path, no tree, no node to warn of, too few nodes, and numbers that no node has.
+        (b"replace 0..1 0 0 0\n", "line 1: bad command\n"),
+        (b"replace -0 0 0 0\n", "line 1: bad command\n"),
+        (b"replace .0 0 0 0\n", "line 1: bad command\n"),
+        (b"run\n", "line 1: bad command\n"),
+        (b"warn w\n", "line 1: bad command\n"),
+        (b"leaf 6 a\nreplace - 0 0 2\n", "line 2: bad command\n"),
+        (b"find 1 140737488355328\n", "line 1: bad command\n"),
         (b"leaf 6 x\ninner 5 2\n", "line 2: bad command\n"),
         // Numbers that no node has, and no file.
         (b"leaf 6 a\nroot\nnumber 1 1 14\n", "line 3: bad command\n"),
@@ -250,6 +265,97 @@ fn a_writer_may_fail_in_mid_run(rt: HostRuntime) -> Result<(), Fail> {
             assert!(rt; shown.starts_with(&out), "after {calls_left} calls");
             assert!(rt; calls_left <= out.len(), "after {calls_left} calls");
         }
+    }
+    Ok(())
+}
+
+#[test]
+fn answers_replacements_and_searches(rt: HostRuntime) -> Result<(), Fail> {
+    let cases: [(&[u8], &[u8], &str, u8); 5] = [
+        // A replacement, and a search behind it.
+        (
+            b"leaf 6 ab\nleaf 6 c\ninner 5 2\nroot\nnumber 1 2 14\nshow\nleaf 6 x\nreplace - 1 1 1\nfind 1 6\nrun\n",
+            b"5 3 14 3\n  6 5 6 2 ab\n  6 7 8 1 c\ndone window 0..3 tried 2\nfound 2 offset 3\n",
+            "",
+            0,
+        ),
+        // A search reads numbers alone, and not the file.
+        (
+            b"leaf 6 ab\nleaf 6 c\ninner 5 2\nroot\nnumber 1 2 14\nfind 1 7\nfind 2 7\nfind 1 6\nfind 1 3\nrun\n",
+            b"found 1 offset 2\nfound 1 offset 2\nnot found\nfound - offset 0\n",
+            "",
+            0,
+        ),
+        // A tree that isn't numbered serves nothing.
+        (
+            b"leaf 6 ab\nleaf 6 c\ninner 5 2\nroot\nnumber 1 2 4\nrun\n",
+            b"refused\n",
+            "line 6: bad command\n",
+            2,
+        ),
+        // An error and a warning.
+        (
+            b"error m\t#\ninner 13 1\nwarn w\nleaf 6 c\ninner 5 2\nroot\nnumber 1 2 18\nshow\nleaf 6 b\nreplace 0 0 1 1\nrun\n",
+            b"5 3 18 2\n  13 4 8 1\n    1 5 6 1 #\n  6 9 10 1 c\ndone window 0..1 tried 1\n",
+            "",
+            0,
+        ),
+        (EDITED, EDITED_SHOWN, "", 0),
+    ];
+    for (script, stdout, stderr, status) in cases {
+        let got = outcome_of(rt.alloc(), script)?;
+        assert_eq!(rt; got.stdout.as_slice(), stdout);
+        assert_eq!(rt; got.stderr.as_str(), stderr);
+        assert_eq!(rt; got.status, status);
+    }
+    Ok(())
+}
+
+#[test]
+fn every_beginning_of_an_edited_script_ends_well_or_at_a_bad_line(
+    rt: HostRuntime,
+) -> Result<(), Fail> {
+    for end in 0..=EDITED.len() {
+        let got = outcome_of(rt.alloc(), &EDITED[..end])?;
+        assert!(rt; got.status == 0 || got.status == 2, "{end} bytes");
+    }
+    Ok(())
+}
+
+#[test]
+fn a_reader_may_fail_at_each_call_of_an_edited_script(rt: HostRuntime) -> Result<(), Fail> {
+    let alloc = rt.alloc();
+    for calls_left in 0..=EDITED.len() {
+        let mut out: Vec<u8> = Vec::new(alloc);
+        let reader = FailingReader {
+            bytes: EDITED,
+            calls_left,
+        };
+        let done = run(alloc, reader, &mut out);
+        assert_eq!(rt; done, Err(Fault::Read), "after {calls_left} calls");
+        assert!(rt; EDITED_SHOWN.starts_with(&out), "after {calls_left} calls");
+    }
+    Ok(())
+}
+
+#[test]
+fn a_writer_may_fail_at_each_call_of_an_edited_script(rt: HostRuntime) -> Result<(), Fail> {
+    let alloc = rt.alloc();
+    for calls_left in 0..=EDITED_SHOWN.len() {
+        let mut out: Vec<u8> = Vec::new(alloc);
+        let writer = FailingWriter {
+            written: &mut out,
+            calls_left,
+            recovers: false,
+            has_failed: false,
+        };
+        let done = run(alloc, EDITED, writer);
+        assert_eq!(rt; done, Err(Fault::Write), "after {calls_left} calls");
+        assert_eq!(rt;
+            out.as_slice(),
+            &EDITED_SHOWN[..calls_left],
+            "after {calls_left} calls"
+        );
     }
     Ok(())
 }

@@ -9,7 +9,7 @@ pub(super) struct Vector {
     pub(super) status: u8,
 }
 
-pub(super) const VECTORS: [Vector; 19] = [
+pub(super) const VECTORS: [Vector; 40] = [
     Vector {
         name: "a_blank_behind_a_word",
         script: b"leaf 6 a\nroot \n",
@@ -25,11 +25,67 @@ pub(super) const VECTORS: [Vector; 19] = [
         status: 2,
     },
     Vector {
+        name: "a_leaf_alone",
+        script: b"leaf 6 ab\nroot\nnumber 1 2 4\nfind 1 3\nreplace - 0 0 0\nrun\nshow\n",
+        stdout: b"found - offset 0\nmisfit\n6 3 4 2 ab\n",
+        stderr: "",
+        status: 0,
+    },
+    Vector {
+        name: "a_new_tree_isnt_numbered",
+        script: b"leaf 6 ab\nleaf 6 c\ninner 5 2\nroot\nnumber 1 2 14\nrun\nleaf 6 z\nroot\nrun\n",
+        stdout: b"",
+        stderr: "line 9: bad command\n",
+        status: 2,
+    },
+    Vector {
         name: "a_number_too_large",
         script: b"inner 5 18446744073709551616\n",
         stdout: b"",
         stderr: "line 1: bad command\n",
         status: 2,
+    },
+    Vector {
+        name: "a_path_that_is_no_path",
+        script: b"leaf 6 ab\nleaf 6 c\ninner 5 2\nroot\nnumber 1 2 14\nreplace 0. 0 0 0\n",
+        stdout: b"",
+        stderr: "line 6: bad command\n",
+        status: 2,
+    },
+    Vector {
+        name: "a_refused_numbering_keeps_the_old_one",
+        script: b"leaf 6 ab\nleaf 6 c\ninner 5 2\nroot\nnumber 1 2 14\nnumber 1 2 4\nfind 1 7\nrun\nshow\n",
+        stdout: b"refused\nfound 1 offset 2\n5 3 14 3\n  6 5 6 2 ab\n  6 7 8 1 c\n",
+        stderr: "",
+        status: 0,
+    },
+    Vector {
+        name: "an_error_alone",
+        script: b"error m\tx\nwarn w\nroot\nnumber 65535 2 3\nfind 1 2\nrun\nshow\n",
+        stdout: b"found - offset 0\n1 2 3 1 x\n",
+        stderr: "",
+        status: 0,
+    },
+    Vector {
+        name: "an_inner_node_alone",
+        script: b"inner 5 0\nroot\nshow\nnumber 1 2 3\nshow\nleaf 6 x\nreplace - 0 0 1\nrun\nshow\n",
+        stdout: b"5 1 0 0\n5 2 3 0\nrefused\n5 2 3 0\n",
+        stderr: "",
+        status: 0,
+    },
+    Vector {
+        name: "asks_before_the_tree",
+        script: b"find 1 5\nleaf 6 x\nreplace - 1 1 1\nleaf 6 ab\nleaf 6 c\ninner 5 2\nroot\nnumber 1 2 14\nrun\nshow\n",
+        stdout: b"found 0 offset 0\ndone window 0..3 tried 2\n5 3 14 4\n  6 4 5 2 ab\n  6 5 6 1 x\n  6 6 7 1 c\n",
+        stderr: "",
+        status: 0,
+    },
+    Vector {
+        name: "asks_outlive_a_tree",
+        script: b"leaf 6 ab\nleaf 6 c\ninner 5 2\nroot\nnumber 1 2 14\nfind 1 7\nleaf 6 z\ninner 5 1\nroot\nnumber 1 2 14\nrun\n",
+        stdout: b"not found\n",
+        stderr: "",
+        status: 0,
     },
     Vector {
         name: "cut_character_at_the_end",
@@ -46,10 +102,31 @@ pub(super) const VECTORS: [Vector; 19] = [
         status: 0,
     },
     Vector {
+        name: "empty_texts",
+        script: b"leaf 6 \nleaf 7  \nerror \t\nwarn \ninner 5 3\nroot\nshow\n",
+        stdout: b"5 1 0 1\n  6 1 2 0\n  7 1 2 1  \n  1 1 2 0\n",
+        stderr: "",
+        status: 0,
+    },
+    Vector {
         name: "errors_number_as_a_kind",
         script: b"leaf 1 x\n",
         stdout: b"",
         stderr: "line 1: bad command\n",
+        status: 2,
+    },
+    Vector {
+        name: "find_1",
+        script: b"leaf 6 ab\nleaf 6 c\ninner 5 2\nroot\nnumber 1 2 14\nfind 1 1\n",
+        stdout: b"",
+        stderr: "line 6: bad command\n",
+        status: 2,
+    },
+    Vector {
+        name: "find_below_and_above",
+        script: b"leaf 6 ab\nleaf 6 c\ninner 5 2\nroot\nnumber 1 2 14\nfind 1 2\nfind 1 140737488355327\nrun\nfind 1 140737488355328\n",
+        stdout: b"not found\nnot found\n",
+        stderr: "line 9: bad command\n",
         status: 2,
     },
     Vector {
@@ -67,8 +144,29 @@ pub(super) const VECTORS: [Vector; 19] = [
         status: 0,
     },
     Vector {
+        name: "messages_count_at_trimming",
+        script: b"error m\tx\ninner 5 1\nroot\nnumber 1 2 40\nerror n\tx\nreplace - 0 1 1\nerror n\tx\nreplace - 0 1 1\nleaf 6 x\nreplace - 0 1 1\nrun\nshow\n",
+        stdout: b"done window 0..1 tried 1\ndone window 1..1 tried 1\ndone window 0..1 tried 1\n5 6 40 1\n  6 15 16 1 x\n",
+        stderr: "",
+        status: 0,
+    },
+    Vector {
+        name: "misfits",
+        script: b"leaf 6 ab\nleaf 6 c\ninner 5 2\nroot\nnumber 1 2 14\nreplace - 1 0 0\nreplace - 0 3 0\nreplace 0 0 0 0\nreplace 2 0 0 0\nreplace 0.0 0 0 0\nreplace 18446744073709551615 0 0 0\nreplace - 18446744073709551615 18446744073709551615 0\nrun\nshow\n",
+        stdout: b"misfit\nmisfit\nmisfit\nmisfit\nmisfit\nmisfit\nmisfit\n5 3 14 3\n  6 5 6 2 ab\n  6 7 8 1 c\n",
+        stderr: "",
+        status: 0,
+    },
+    Vector {
         name: "no_blank_before_the_text",
         script: b"leaf 6 \nleaf 6\n",
+        stdout: b"",
+        stderr: "line 2: bad command\n",
+        status: 2,
+    },
+    Vector {
+        name: "no_tab",
+        script: b"error \t\nerror m t\n",
         stdout: b"",
         stderr: "line 2: bad command\n",
         status: 2,
@@ -95,6 +193,13 @@ pub(super) const VECTORS: [Vector; 19] = [
         status: 2,
     },
     Vector {
+        name: "numbered_again",
+        script: b"leaf 6 ab\nleaf 6 c\ninner 5 2\nroot\nnumber 1 2 14\nnumber 7 1000 1012\nfind 1 1005\nfind 1 7\nrun\nshow\n",
+        stdout: b"found 1 offset 2\nnot found\n5 1001 1012 3\n  6 1003 1004 2 ab\n  6 1005 1006 1 c\n",
+        stderr: "",
+        status: 0,
+    },
+    Vector {
         name: "popping_too_many",
         script: b"leaf 6 a\ninner 5 18446744073709551615\n",
         stdout: b"",
@@ -116,6 +221,13 @@ pub(super) const VECTORS: [Vector; 19] = [
         status: 2,
     },
     Vector {
+        name: "run_twice",
+        script: b"leaf 6 ab\nleaf 6 c\ninner 5 2\nroot\nnumber 1 2 14\nfind 1 7\nrun\nrun\nfind 1 5\nrun\n",
+        stdout: b"found 1 offset 2\nfound 0 offset 0\n",
+        stderr: "",
+        status: 0,
+    },
+    Vector {
         name: "show_without_a_tree",
         script: b"leaf 6 a\nshow\n",
         stdout: b"",
@@ -123,11 +235,46 @@ pub(super) const VECTORS: [Vector; 19] = [
         status: 2,
     },
     Vector {
+        name: "tabs_and_blanks_in_texts",
+        script: b"leaf 6 a\tb \nerror m m\tt\tt \nwarn  w\ninner 5 2\nroot\nshow\n",
+        stdout: b"5 1 0 8\n  6 1 2 4 a\tb \n  1 1 2 4 t\tt \n",
+        stderr: "",
+        status: 0,
+    },
+    Vector {
+        name: "trimming_of_equal_neighbours",
+        script: b"leaf 6 a\nleaf 6 a\nleaf 6 b\nleaf 6 a\nleaf 6 a\ninner 5 5\nroot\nnumber 1 2 100\nleaf 6 a\nleaf 6 a\nleaf 6 a\nleaf 6 a\nreplace - 0 5 4\nrun\nshow\nleaf 6 a\nleaf 6 a\nleaf 6 a\nleaf 6 a\nleaf 6 a\nleaf 6 a\nreplace - 0 4 6\nrun\nshow\n",
+        stdout: b"done window 2..2 tried 1\n5 6 100 4\n  6 14 15 1 a\n  6 22 23 1 a\n  6 38 39 1 a\n  6 46 47 1 a\ndone window 4..6 tried 1\n5 6 100 6\n  6 14 15 1 a\n  6 22 23 1 a\n  6 38 39 1 a\n  6 46 47 1 a\n  6 53 54 1 a\n  6 66 67 1 a\n",
+        stderr: "",
+        status: 0,
+    },
+    Vector {
+        name: "warnings_count_at_trimming",
+        script: b"leaf 6 a\nwarn w\nleaf 6 b\ninner 5 2\nroot\nnumber 1 2 40\nleaf 6 a\nleaf 6 b\nreplace - 0 2 2\nleaf 6 a\nwarn v\nleaf 6 b\nreplace - 0 2 2\nleaf 6 a\nwarn v\nleaf 6 b\nreplace - 0 2 2\nrun\nshow\n",
+        stdout: b"done window 0..1 tried 1\ndone window 0..1 tried 1\ndone window 2..2 tried 1\n5 5 40 2\n  6 8 9 1 a\n  6 17 18 1 b\n",
+        stderr: "",
+        status: 0,
+    },
+    Vector {
         name: "whole_range",
         script: b"leaf 6 ab\nleaf 6 c\ninner 5 2\nroot\nnumber 1 2 140737488355328\nshow\nnumber 1 2 140737488355329\n",
         stdout: b"5 11728124029612 140737488355328 3\n  6 35184372088833 35184372088834 2 ab\n  6 58640620148054 58640620148055 1 c\n",
         stderr: "line 7: bad command\n",
         status: 2,
+    },
+    Vector {
+        name: "zeros_before_numbers",
+        script: b"leaf 00000000000000000000000000006 a\ninner 05 01\nroot\nnumber 001 02 0000000000000000000000000000099\nfind 0001 00026\nreplace - 00 01 00\nrun\nshow\n",
+        stdout: b"not found\ndone window 0..0 tried 1\n5 14 99 0\n",
+        stderr: "",
+        status: 0,
+    },
+    Vector {
+        name: "edited",
+        script: b"leaf 55 *\nleaf 6 b\ninner 5 1\nleaf 55 *\ninner 13 3\nleaf 6 c\ninner 5 2\nroot\nnumber 1 2 30\nleaf 6 x\nleaf 6 y\ninner 5 2\nreplace 0 1 2 1\nfind 1 15\nleaf 6 x\nleaf 6 y\nreplace 0.1 0 1 2\nreplace 5 0 0 0\nreplace 1 0 0 0\nrun\nshow\n",
+        stdout: b"done window 0..3 tried 2\nfound 1 offset 4\nrefused\nmisfit\nmisfit\n5 3 30 5\n  13 4 14 4\n    55 5 6 1 *\n    5 6 9 2\n      6 7 8 1 x\n      6 8 9 1 y\n    55 9 10 1 *\n  6 15 16 1 c\n",
+        stderr: "",
+        status: 0,
     },
     Vector {
         name: "heading",
