@@ -143,13 +143,13 @@ args_skip b hash all ts t start e v h i =
 args_first : (b : Bool) (all ts : List Tree) (t : Tree) (start : List (Tree × Bool)) → args_in (items_in b all) ≡ start → all ≡ t ∷ ts → is_arg_kind (node_kind t) ≡ true → start ≡ (t, ends_in_semicolon (items_in b ts)) ∷ args_in (items_in b ts)
 args_first b all ts t start i e v = sym i ∙ (ap (λ xs. args_in (items_in b xs)) e ∙ args_in-arg b t ts v)
 
-told_same : (t : Tree) (node : Option Tree) (kind : SyntaxKind) (semi ends : Bool) → node ≡ Some t → kind ≡ node_kind t → semi ≡ ends → told_arg_of (t, ends) ≡ (node, kind, semi)
-told_same t node kind semi ends n k s = λ i. (sym n i, sym k i, sym s i)
+told_same : (t : Tree) (viewed : Option Tree) (kind : SyntaxKind) (semi ends : Bool) → viewed ≡ Some t → kind ≡ node_kind t → semi ≡ ends → told_arg_of (t, ends) ≡ (viewed, kind, semi)
+told_same t viewed kind semi ends n k s = λ i. (sym n i, sym k i, sym s i)
 
-pub args_step : (b semi : Bool) (all ts : List Tree) (t : Tree) (start : List (Tree × Bool)) (node : Option Tree) (kind : SyntaxKind) → args_in (items_in b all) ≡ start → all ≡ t ∷ ts → is_arg_kind (node_kind t) ≡ true → node ≡ Some t → kind ≡ node_kind t → semi ≡ ends_in_semicolon (items_in b ts) → map told_arg_of start ≡ (node, kind, semi) ∷ map told_arg_of (args_in (items_in b ts))
-args_step b semi all ts t start node kind i e v n k s =
+pub args_step : (b semi : Bool) (all ts : List Tree) (t : Tree) (start : List (Tree × Bool)) (viewed : Option Tree) (kind : SyntaxKind) → args_in (items_in b all) ≡ start → all ≡ t ∷ ts → is_arg_kind (node_kind t) ≡ true → viewed ≡ Some t → kind ≡ node_kind t → semi ≡ ends_in_semicolon (items_in b ts) → map told_arg_of start ≡ (viewed, kind, semi) ∷ map told_arg_of (args_in (items_in b ts))
+args_step b semi all ts t start viewed kind i e v n k s =
     ap (map told_arg_of) (args_first b all ts t start i e v)
-    ∙ ap (λ p. p ∷ map told_arg_of (args_in (items_in b ts))) (told_same t node kind semi (ends_in_semicolon (items_in b ts)) n k s)
+    ∙ ap (λ p. p ∷ map told_arg_of (args_in (items_in b ts))) (told_same t viewed kind semi (ends_in_semicolon (items_in b ts)) n k s)
 
 pub args_shorter : (b : Bool) (all ts : List Tree) (t : Tree) (start : List (Tree × Bool)) → args_in (items_in b all) ≡ start → all ≡ t ∷ ts → is_arg_kind (node_kind t) ≡ true → length (args_in (items_in b ts)) < length start
 args_shorter b all ts t start i e v =
