@@ -181,38 +181,58 @@ fn a_leaf_stays(rt: HostRuntime) -> Result<(), Fail> {
     Ok(())
 }
 
+/// Markup of the eight texts `a` to `h`, numbered within 2..20.
+fn eight_letters(alloc: Global) -> Result<SyntaxNode, Fail> {
+    markup(alloc, &["a", "b", "c", "d", "e", "f", "g", "h"], 1, 2..20)
+}
+
 #[test]
-fn windows_widen_by_powers_of_two(rt: HostRuntime) -> Result<(), Fail> {
+fn an_insertion_in_the_middle_widens_the_window_by_powers_of_two(
+    rt: HostRuntime,
+) -> Result<(), Fail> {
     let alloc = rt.alloc();
-    let letters = ["a", "b", "c", "d", "e", "f", "g", "h"];
-    // In the middle.
-    let mut tree = markup(alloc, &letters, 1, 2..20)?;
-    let whole = [2, 3, 4, 5, 6, 7, 8, 9, 10];
-    assert_eq!(rt; numbers(alloc, &tree)?.as_slice(), whole.as_slice());
+    let mut tree = eight_letters(alloc)?;
     let answer = replace(alloc, &mut tree, 4..4, texts(alloc, &["x"])?)?;
     assert_eq!(rt; answer, done(0..9, 4));
-    let more = [2, 3, 4, 5, 6, 7, 8, 9, 10, 11];
-    assert_eq!(rt; numbers(alloc, &tree)?.as_slice(), more.as_slice());
+    let all = numbers(alloc, &tree)?;
+    assert_eq!(rt; all.as_slice(), [2, 3, 4, 5, 6, 7, 8, 9, 10, 11].as_slice());
     assert_eq!(rt; tree.full_text(alloc)?.as_str(), "abcdxefgh");
-    // At the front.
-    let mut tree = markup(alloc, &letters, 1, 2..20)?;
+    Ok(())
+}
+
+#[test]
+fn an_insertion_at_the_front_widens_the_window_to_the_right(rt: HostRuntime) -> Result<(), Fail> {
+    let alloc = rt.alloc();
+    let mut tree = eight_letters(alloc)?;
     let answer = replace(alloc, &mut tree, 0..0, texts(alloc, &["x"])?)?;
     assert_eq!(rt; answer, done(0..9, 5));
-    assert_eq!(rt; numbers(alloc, &tree)?.as_slice(), more.as_slice());
+    let all = numbers(alloc, &tree)?;
+    assert_eq!(rt; all.as_slice(), [2, 3, 4, 5, 6, 7, 8, 9, 10, 11].as_slice());
     assert_eq!(rt; tree.full_text(alloc)?.as_str(), "xabcdefgh");
-    // Behind all others, where there is room at once.
-    let mut tree = markup(alloc, &letters, 1, 2..20)?;
+    Ok(())
+}
+
+#[test]
+fn an_insertion_at_the_end_has_room_at_once(rt: HostRuntime) -> Result<(), Fail> {
+    let alloc = rt.alloc();
+    let mut tree = eight_letters(alloc)?;
     let answer = replace(alloc, &mut tree, 8..8, texts(alloc, &["x"])?)?;
     assert_eq!(rt; answer, done(8..9, 1));
-    let last = [2, 3, 4, 5, 6, 7, 8, 9, 10, 13];
-    assert_eq!(rt; numbers(alloc, &tree)?.as_slice(), last.as_slice());
+    let all = numbers(alloc, &tree)?;
+    assert_eq!(rt; all.as_slice(), [2, 3, 4, 5, 6, 7, 8, 9, 10, 13].as_slice());
     assert_eq!(rt; tree.upper(), 20);
-    // One that differs in a whole row.
-    let mut tree = markup(alloc, &letters, 1, 2..20)?;
+    Ok(())
+}
+
+#[test]
+fn equal_neighbours_of_a_change_stay_as_they_are(rt: HostRuntime) -> Result<(), Fail> {
+    let alloc = rt.alloc();
+    let mut tree = eight_letters(alloc)?;
     let others = texts(alloc, &["a", "b", "c", "y", "e", "f", "g", "h"])?;
     let answer = replace(alloc, &mut tree, 0..8, others)?;
     assert_eq!(rt; answer, done(0..8, 4));
-    assert_eq!(rt; numbers(alloc, &tree)?.as_slice(), whole.as_slice());
+    let all = numbers(alloc, &tree)?;
+    assert_eq!(rt; all.as_slice(), [2, 3, 4, 5, 6, 7, 8, 9, 10].as_slice());
     assert_eq!(rt; tree.full_text(alloc)?.as_str(), "abcyefgh");
     Ok(())
 }
