@@ -13,7 +13,7 @@ pub fn children<'a>(node: Option<&'a SyntaxNode>) -> &'a [SyntaxNode]
     ensures { result.now ≡ children_in (option_copied node.entry) }
 {
     match node {
-        Some(node) => node.children(),
+        Some(node) => node.child_slice(),
         None => &[],
     }
 }

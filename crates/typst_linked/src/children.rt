@@ -38,7 +38,7 @@ impl<'a> LinkedChildren<'a> {
     pub(crate) fn new(parent: Rc<LinkedNode<'a>>) -> Self
         ensures { IsAllOf parent.entry.value result }
     {
-        let to = parent.get().children().len();
+        let to = parent.get().child_slice().len();
         LinkedChildren {
             parent,
             from: 0,

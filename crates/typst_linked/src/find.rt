@@ -78,7 +78,7 @@ impl<'a> LinkedNode<'a> {
             return Ok(None);
         }
         let mut here = self.clone()?;
-        while let Some(next) = last_up_to(here.get().children(), wanted, looks) {
+        while let Some(next) = last_up_to(here.get().child_slice(), wanted, looks) {
             here = here.into_child(alloc, next.index)?;
             if next.number == wanted {
                 return Ok(Some(here));
@@ -128,7 +128,7 @@ fn first_cover(node: &SyntaxNode, range: Range<usize>, start: usize, end: usize)
     requires { range.end ≡ range.start + length (text node.now) }
     ensures { (place : Place) → subtree place ≡ Some node.now → begin_of place ≡ range.start → MatchOption result ((i : ℕ) → ¬ (Covers start end (child_place place i))) (λ part. IsFirstCover start end place part.index × IsPart (trees node.now.children) part) }
 {
-    if node.children().is_empty() {
+    if node.child_slice().is_empty() {
         return None;
     }
     let mut looks = Looks::new();

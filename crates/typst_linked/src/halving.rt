@@ -48,7 +48,7 @@ pub(crate) fn first_ending(node: &SyntaxNode, goal: usize, looks: &mut Looks) ->
     ensures few { looks.new ≤ looks.old + length (trees node.now.children) }
     ensures grows { looks.old ≤ looks.new }
 {
-    let count = node.children().len();
+    let count = node.child_slice().len();
     let mut low = 0;
     let mut high = count;
     let mut begin = 0;

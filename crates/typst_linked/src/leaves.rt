@@ -28,7 +28,7 @@ impl<'a> LinkedNode<'a> {
         if is_good_leaf(self.get()) {
             return Ok(Some(self));
         }
-        let count = self.get().children().len();
+        let count = self.get().child_slice().len();
         let parent = Rc::new(alloc, self)?;
         for index in 0..count {
             let child = LinkedNode::nth_child(&parent, index)?;
@@ -52,7 +52,7 @@ impl<'a> LinkedNode<'a> {
         if is_good_leaf(self.get()) {
             return Ok(Some(self));
         }
-        let count = self.get().children().len();
+        let count = self.get().child_slice().len();
         let parent = Rc::new(alloc, self)?;
         for index in (0..count).rev() {
             let child = LinkedNode::nth_child(&parent, index)?;
@@ -106,7 +106,7 @@ impl<'a> LinkedNode<'a> {
         requires { ForSome (subtree parent.now.value) (λ t. end ≤ length (trees t.children)) }
         ensures { IfOk result (λ r. r ≡ found_below (λ t. earlier_up t end) parent.now.value) }
     {
-        let children = parent.get().children();
+        let children = parent.get().child_slice();
         for index in (0..end).rev() {
             if !children[index].kind().is_trivia() {
                 let child = LinkedNode::nth_child(parent, index)?;
@@ -126,7 +126,7 @@ impl<'a> LinkedNode<'a> {
     ) -> Result<Option<Self>, AllocError>
         ensures { IfOk result (λ r. r ≡ found_below (λ t. later_from t start) parent.now.value) }
     {
-        let children = parent.get().children();
+        let children = parent.get().child_slice();
         for index in start..children.len() {
             if !children[index].kind().is_trivia() {
                 let child = LinkedNode::nth_child(parent, index)?;
@@ -144,6 +144,6 @@ fn is_good_leaf(node: &SyntaxNode) -> bool
     ensures good { IsTrue result ↔ (is_good node.now ≡ true) }
     ensures childless { IsTrue result → trees node.now.children ≡ [] }
 {
-    let _children = node.children();
+    let _children = node.child_slice();
     node.is_leaf() && !node.kind().is_trivia()
 }

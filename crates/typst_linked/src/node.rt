@@ -125,7 +125,7 @@ impl<'a> LinkedNode<'a> {
     {
         match &self.parent {
             None => &[],
-            Some(parent) => parent.node.children(),
+            Some(parent) => parent.node.child_slice(),
         }
     }
 }
@@ -148,7 +148,7 @@ impl<'a> LinkedNode<'a> {
     {
         let above: &LinkedNode = &parent;
         let offset = above.offset + begin;
-        let node = &above.node.children()[index];
+        let node = &above.node.child_slice()[index];
         LinkedNode {
             node,
             parent: Some(parent),

@@ -197,7 +197,6 @@ fn a_range_is_found_below_the_first_cover(rt: HostRuntime) -> Result<(), Fail> {
 /// The index of the child with a number, by looking at one after the other.
 fn plain_walk(tree: &SyntaxNode, number: u64) -> Option<usize> {
     tree.children()
-        .iter()
         .position(|child| child.span().number() == number)
 }
 

@@ -1,3 +1,4 @@
+ghost use Rattle.std.specs.Slice.Iter.{iter_rest};
 ghost use Rattle.std.specs.Prelude.{◌≡◌, ◌+◌, ◌<◌, ◌==◌, ◌++◌, ◌↔◌, [], length, take, string_bytes, IfOk, OnOk, IsTrue};
 ghost use Rattle.typst_node.specs.Tree.{trees, kind_of, IsInner, IsLeaf};
 ghost use Rattle.typst_node.specs.Text.{text, own_text, text_of_all};
@@ -8,6 +9,7 @@ ghost use Rattle.typst_node.specs.Labels.{bound};
 use crate::diagnosis::Diagnosis;
 use std::alloc::{AllocError, Global};
 use std::marker::Model;
+use std::slice;
 use typst_base::{Span, SubRange, SyntaxKind};
 
 pub mod build;
@@ -254,9 +256,17 @@ impl SyntaxNode {
         }
     }
 
-    /// The node's children in order. A leaf or an error has none.
+    /// The node's children in order, from either end. A leaf or an error has none.
+    pub fn children(&self) -> slice::Iter<'_, SyntaxNode>
+        ensures { iter_rest result ≡ trees self.now.children }
+    {
+        self.child_slice().iter()
+    }
+
+    /// The node's children in order, side by side in memory. A leaf or an error has none. A child is read by its
+    /// index in constant time.
     #[tactic(auto, using(crate::proofs::Trees::trees_of_forest))]
-    pub fn children(&self) -> &[SyntaxNode]
+    pub fn child_slice(&self) -> &[SyntaxNode]
         ensures children { result.now ≡ trees self.now.children }
         ensures inner_only { ¬ (IsInner self.now.label.content) → result.now ≡ [] }
     {

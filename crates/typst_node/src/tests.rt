@@ -35,11 +35,11 @@ fn a_new_tree_is_detached_and_measured(rt: HostRuntime) -> Result<(), Fail> {
     assert_eq!(rt; tree.upper(), 0);
     assert_eq!(rt; tree.leaf_text(), "");
     assert_eq!(rt; tree.full_text(rt.alloc())?.as_str(), "abc");
-    assert_eq!(rt; tree.children().len(), 2);
+    assert_eq!(rt; tree.child_slice().len(), 2);
     assert_eq!(rt; tree.child_end(0), 2);
     assert_eq!(rt; tree.child_end(1), 3);
     assert!(rt; !tree.is_numbered());
-    let first = &tree.children()[0];
+    let first = &tree.child_slice()[0];
     assert!(rt; first.kind() == SyntaxKind::Text);
     assert!(rt; first.is_leaf() && !first.is_inner());
     assert_eq!(rt; first.leaf_text(), "ab");
@@ -53,7 +53,7 @@ fn a_placeholder_is_an_empty_leaf(rt: HostRuntime) {
     assert!(rt; leaf.kind() == SyntaxKind::End);
     assert!(rt; leaf.is_leaf() && leaf.is_empty());
     assert_eq!(rt; leaf.descendants(), 1);
-    assert_eq!(rt; leaf.children().len(), 0);
+    assert_eq!(rt; leaf.child_slice().len(), 0);
 }
 
 #[test]
@@ -127,10 +127,10 @@ fn deeper_nodes_share_what_their_parent_takes(rt: HostRuntime) -> Result<(), Fai
     tree.numberize(file, 2..30)?;
     assert_eq!(rt; numbers(alloc, &tree)?.as_slice(), [3, 4, 15].as_slice());
     assert_eq!(rt; tree.upper(), 30);
-    let strong = tree.children().first().ok_or("no child")?;
+    let strong = tree.child_slice().first().ok_or("no child")?;
     assert_eq!(rt; numbers(alloc, strong)?.as_slice(), [4, 5, 6, 8].as_slice());
     assert_eq!(rt; strong.upper(), 14);
-    assert_eq!(rt; strong.children().len(), 3);
+    assert_eq!(rt; strong.child_slice().len(), 3);
     assert_eq!(rt; strong.child_end(2), 3);
     Ok(())
 }

@@ -140,8 +140,8 @@ fn fits(root: &SyntaxNode, path: &[usize], start: usize, end: usize) -> bool
     ensures { IsTrue result ↔ FitsInner path.now start end root.now }
 {
     match path.split_first() {
-        None => root.is_inner() && start <= end && end <= root.children().len(),
-        Some((index, rest)) => match root.children().get(*index) {
+        None => root.is_inner() && start <= end && end <= root.child_slice().len(),
+        Some((index, rest)) => match root.child_slice().get(*index) {
             Some(child) => fits(child, rest, start, end),
             None => false,
         },

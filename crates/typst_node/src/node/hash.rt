@@ -101,7 +101,7 @@ impl SyntaxNode {
         ensures { state.new ≡ fold H.write state.old (tree_input self.now) }
     {
         self.feed_label(state);
-        let children = self.children();
+        let children = self.child_slice();
         state.write_usize(children.len());
         for child in children {
             child.feed(state);

@@ -70,7 +70,7 @@ impl SyntaxNode {
         let number = self.span.number();
         let mut at = number + 1;
         let bound = self.upper();
-        for child in self.children() {
+        for child in self.child_slice() {
             if !child.is_within(id, at, bound) {
                 return false;
             }

@@ -29,7 +29,7 @@ impl SyntaxNode {
     {
         match path.split_first() {
             None => self,
-            Some((index, rest)) => self.children()[*index].node_at(rest),
+            Some((index, rest)) => self.child_slice()[*index].node_at(rest),
         }
     }
 
@@ -111,7 +111,7 @@ impl SyntaxNode {
     {
         let len = self.len();
         let count = self.descendants();
-        let children = self.node_at(path).children();
+        let children = self.node_at(path).child_slice();
         let Some(gone) = sums_of(&children[range.start..range.end]) else {
             return false;
         };
@@ -136,10 +136,10 @@ impl SyntaxNode {
     {
         match path.split_first() {
             None => {
-                !self.is_inner() || range.start <= range.end && range.end <= self.children().len()
+                !self.is_inner() || range.start <= range.end && range.end <= self.child_slice().len()
             }
             Some((index, rest)) => {
-                *index < self.children().len() && self.children()[*index].edit_fits(rest, range)
+                *index < self.child_slice().len() && self.child_slice()[*index].edit_fits(rest, range)
             }
         }
     }

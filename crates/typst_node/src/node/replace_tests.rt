@@ -50,11 +50,11 @@ fn strong(alloc: Global) -> Result<SyntaxNode, Fail> {
 fn numbers(alloc: Global, node: &SyntaxNode) -> Result<Vec<u64>, Fail> {
     let mut numbers = Vec::new(alloc);
     numbers.push(node.span().number())?;
-    for child in node.children() {
+    for child in node.child_slice() {
         numbers.push(child.span().number())?;
-        for below in child.children() {
+        for below in child.child_slice() {
             numbers.push(below.span().number())?;
-            for last in below.children() {
+            for last in below.child_slice() {
                 numbers.push(last.span().number())?;
             }
         }
@@ -69,7 +69,7 @@ fn replace(
     range: Range<usize>,
     others: Vec<SyntaxNode>,
 ) -> Result<Result<Renumbered, ReplaceError>, Fail> {
-    if tree.is_inner() && (range.start > range.end || range.end > tree.children().len()) {
+    if tree.is_inner() && (range.start > range.end || range.end > tree.child_slice().len()) {
         return Err("the range does not fit")?;
     }
     if tree.span().id().is_some() && !tree.is_numbered() {
@@ -107,7 +107,7 @@ fn inserting_between_widens_the_window(rt: HostRuntime) -> Result<(), Fail> {
     assert_eq!(rt; tree.full_text(alloc)?.as_str(), "abxc");
     assert_eq!(rt; tree.len(), 4);
     assert_eq!(rt; tree.descendants(), 4);
-    assert!(rt; tree.children().len() == 3);
+    assert!(rt; tree.child_slice().len() == 3);
     assert_eq!(rt;
         (tree.child_end(0), tree.child_end(1), tree.child_end(2)),
         (2, 3, 4)
@@ -125,7 +125,7 @@ fn a_replacement_is_numbered_for_the_trees_file(rt: HostRuntime) -> Result<(), F
     assert_eq!(rt; answer, done(0..3, 2));
     assert_eq!(rt; numbers(alloc, &tree)?.as_slice(), [3, 4, 5, 6].as_slice());
     assert_eq!(rt; tree.span().id(), FileId::new(1));
-    for child in tree.children() {
+    for child in tree.child_slice() {
         assert_eq!(rt; child.span().id(), FileId::new(1));
     }
     Ok(())
@@ -263,10 +263,10 @@ fn replacing_below_corrects_what_is_above(rt: HostRuntime) -> Result<(), Fail> {
     assert_eq!(rt; tree.len(), 5);
     assert_eq!(rt; tree.descendants(), 8);
     assert_eq!(rt; tree.upper(), 30);
-    assert!(rt; tree.children().len() == 2);
+    assert!(rt; tree.child_slice().len() == 2);
     assert_eq!(rt; (tree.child_end(0), tree.child_end(1)), (4, 5));
-    let strong = &tree.children()[0];
-    assert!(rt; strong.children().len() == 3);
+    let strong = &tree.child_slice()[0];
+    assert!(rt; strong.child_slice().len() == 3);
     assert_eq!(rt; strong.upper(), 14);
     assert_eq!(rt; strong.descendants(), 6);
     let ends = (
@@ -275,7 +275,7 @@ fn replacing_below_corrects_what_is_above(rt: HostRuntime) -> Result<(), Fail> {
         strong.child_end(2),
     );
     assert_eq!(rt; ends, (1, 3, 4));
-    assert_eq!(rt; strong.children()[1].upper(), 9);
+    assert_eq!(rt; strong.child_slice()[1].upper(), 9);
     assert!(rt; tree.is_numbered());
     Ok(())
 }

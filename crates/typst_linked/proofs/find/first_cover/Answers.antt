@@ -10,8 +10,8 @@ pub returns-then-is_empty : goal.returns-then-is_empty
 returns-then-is_empty c = λ place h b.
     let k = c.is_empty.ensures in
     let f = c.if-is_empty.ensures in
-    let none : length c.children.result.now ≡ 0 = grind (arith, nat_tests) in
-    none_childless c.args.start c.args.end place c.args.node.now h (omega (arith, ap length c.children.ensures.children))
+    let none : length c.child_slice.result.now ≡ 0 = grind (arith, nat_tests) in
+    none_childless c.args.start c.args.end place c.args.node.now h (omega (arith, ap length c.child_slice.ensures.children))
 
 pub returns-in_default : goal.returns-in_default
 returns-in_default c = λ place h b.

@@ -37,7 +37,7 @@ loop-low-preserved c =
     }
 
 pub returns-then-low-count-clause-no_text : goal.returns-then-low-count-clause-no_text
-returns-then-low-count-clause-no_text c = λ i t s. no_own_text c.args.node.now t i c.children-count.result.now c.children-count.ensures.children c.children-count.ensures.inner_only s
+returns-then-low-count-clause-no_text c = λ i t s. no_own_text c.args.node.now t i c.child_slice-count.result.now c.child_slice-count.ensures.children c.child_slice-count.ensures.inner_only s
 
 pub returns-clause-no_text : goal.returns-clause-no_text
-returns-clause-no_text c = λ i t s. no_own_text c.args.node.now t i c.children-count.result.now c.children-count.ensures.children c.children-count.ensures.inner_only s
+returns-clause-no_text c = λ i t s. no_own_text c.args.node.now t i c.child_slice-count.result.now c.child_slice-count.ensures.children c.child_slice-count.ensures.inner_only s

@@ -19,7 +19,7 @@ pub into_leftmost-requires : goal.into_leftmost-requires
 into_leftmost-requires t c =
     let n = c.get-2.result.now in
     let i = c.loop-index.index in
-    let child = child_there (trees n.children) i (omega (arith, ap length c.children-count.ensures.children)) in
+    let child = child_there (trees n.children) i (omega (arith, ap length c.child_slice-count.ensures.children)) in
     let place : c.in_ok-child.child ≡ child_place c.args.self i = c.in_ok-child.ensures ∙ ap (λ (p : Place). child_place p i) c.in_ok-parent.ensures.ok in
     let l = smaller_turn n child.0 c.args.self c.in_ok-child.child i (trees n.children) c.get-2.ensures refl child.1 place in
     (subst (λ (k : ℕ). count_there (subtree c.in_ok-child.child) < k) c.decreases l, tt)
@@ -28,7 +28,7 @@ pub returns-in-Some : goal.returns-in-Some
 returns-in-Some t c =
     let n = c.get-2.result.now in
     let i = c.loop-index.index in
-    let child = child_there (trees n.children) i (omega (arith, ap length c.children-count.ensures.children)) in
+    let child = child_there (trees n.children) i (omega (arith, ap length c.child_slice-count.ensures.children)) in
     let place : c.in_ok-child.child ≡ child_place c.args.self i = c.in_ok-child.ensures ∙ ap (λ (p : Place). child_place p i) c.in_ok-parent.ensures.ok in
     first_hit is_good c.args.self n child.0 i c.in-Some.leaf c.get-2.ensures child.1 (c.loop-index.invariant n c.get-2.ensures)
     (sym c.in-Some.is ∙ c.in_ok-leaf.ensures ∙ ap (found_below (first_path is_good)) place)
@@ -38,7 +38,7 @@ loop-index-preserved t c = λ s hs.
     let n = c.get-2.result.now in
     let i = c.loop-index.index in
     let same = same_node s n c.args.self hs c.get-2.ensures in
-    let child = child_there (trees n.children) i (omega (arith, ap length c.children-count.ensures.children)) in
+    let child = child_there (trees n.children) i (omega (arith, ap length c.child_slice-count.ensures.children)) in
     let place : c.in_ok-child.child ≡ child_place c.args.self i = c.in_ok-child.ensures ∙ ap (λ (p : Place). child_place p i) c.in_ok-parent.ensures.ok in
     let there : slice_get (trees s.children) i ≡ Some child.0 = ap (λ (u : Tree). slice_get (trees u.children) i) same ∙ child.1 in
     first_miss is_good c.args.self s child.0 i hs there (c.loop-index.invariant s hs)

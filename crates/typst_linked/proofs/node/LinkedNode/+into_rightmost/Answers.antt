@@ -18,13 +18,13 @@ pub loop-index-init : goal.loop-index-init
 loop-index-init t c = λ s hs.
     let bad : is_good c.get.result.now ≡ false = not_passed c.is_good_leaf.result (is_good c.get.result.now) c.is_good_leaf.ensures.good.1 c.if-is_good_leaf.false in
     let kids = ap (λ (u : Tree). length (trees u.children)) (same_node s c.get-2.result.now c.args.self hs c.get-2.ensures) in
-    last_path-children is_good s (length c.children-count.result.now) (ap is_good (same_node s c.get.result.now c.args.self hs c.get.ensures) ∙ bad) (omega (arith, kids, ap length c.children-count.ensures.children))
+    last_path-children is_good s (length c.child_slice-count.result.now) (ap is_good (same_node s c.get.result.now c.args.self hs c.get.ensures) ∙ bad) (omega (arith, kids, ap length c.child_slice-count.ensures.children))
 
 pub into_rightmost-requires : goal.into_rightmost-requires
 into_rightmost-requires t c =
     let n = c.get-2.result.now in
     let i = c.loop-index.index - 1 in
-    let child = child_there (trees n.children) i (omega (arith, ap length c.children-count.ensures.children)) in
+    let child = child_there (trees n.children) i (omega (arith, ap length c.child_slice-count.ensures.children)) in
     let place : c.in_ok-child.child ≡ child_place c.args.self i = c.in_ok-child.ensures ∙ ap (λ (p : Place). child_place p i) c.in_ok-parent.ensures.ok in
     let l = smaller_turn n child.0 c.args.self c.in_ok-child.child i (trees n.children) c.get-2.ensures refl child.1 place in
     (subst (λ (k : ℕ). count_there (subtree c.in_ok-child.child) < k) c.decreases l, tt)
@@ -34,7 +34,7 @@ returns-in-Some t c =
     let n = c.get-2.result.now in
     let i = c.loop-index.index - 1 in
     let back : c.loop-index.index ≡ i + 1 = omega arith in
-    let child = child_there (trees n.children) i (omega (arith, ap length c.children-count.ensures.children)) in
+    let child = child_there (trees n.children) i (omega (arith, ap length c.child_slice-count.ensures.children)) in
     let place : c.in_ok-child.child ≡ child_place c.args.self i = c.in_ok-child.ensures ∙ ap (λ (p : Place). child_place p i) c.in_ok-parent.ensures.ok in
     last_hit is_good c.args.self n child.0 i c.in-Some.leaf c.get-2.ensures child.1 (c.loop-index.invariant n c.get-2.ensures ∙ ap (last_up is_good n) back)
     (sym c.in-Some.is ∙ c.in_ok-leaf.ensures ∙ ap (found_below (last_path is_good)) place)
@@ -45,7 +45,7 @@ loop-index-preserved t c = λ s hs.
     let i = c.loop-index.index - 1 in
     let back : c.loop-index.index ≡ i + 1 = omega arith in
     let same = same_node s n c.args.self hs c.get-2.ensures in
-    let child = child_there (trees n.children) i (omega (arith, ap length c.children-count.ensures.children)) in
+    let child = child_there (trees n.children) i (omega (arith, ap length c.child_slice-count.ensures.children)) in
     let place : c.in_ok-child.child ≡ child_place c.args.self i = c.in_ok-child.ensures ∙ ap (λ (p : Place). child_place p i) c.in_ok-parent.ensures.ok in
     let there : slice_get (trees s.children) i ≡ Some child.0 = ap (λ (u : Tree). slice_get (trees u.children) i) same ∙ child.1 in
     last_miss is_good c.args.self s child.0 i hs there (c.loop-index.invariant s hs ∙ ap (last_up is_good s) back)

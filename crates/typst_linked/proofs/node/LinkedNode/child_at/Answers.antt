@@ -21,5 +21,5 @@ invariant_of-result c =
     let begin = c.requires.begin node own.node_is in
     let within = c.requires.child node own.node_is in
     let s : slice_get (trees node.children) c.args.index ≡ Some c.index-children-index.result =
-    rw (← c.children.ensures.children) (slice_get_read c.children.result.now (length c.children.result.now) c.args.index c.index-children-index.result refl (omega (arith, ap length c.children.ensures.children, within)) c.index-children-index.is) in
-    (child_is_at _ _ _ _ _ _ c.children.result.now own s c.children.ensures.children c.children.ensures.inner_only (omega (arith, begin)), sym (last_step-push c.args.parent.value.path c.args.index))
+    rw (← c.child_slice.ensures.children) (slice_get_read c.child_slice.result.now (length c.child_slice.result.now) c.args.index c.index-children-index.result refl (omega (arith, ap length c.child_slice.ensures.children, within)) c.index-children-index.is) in
+    (child_is_at _ _ _ _ _ _ c.child_slice.result.now own s c.child_slice.ensures.children c.child_slice.ensures.inner_only (omega (arith, begin)), sym (last_step-push c.args.parent.value.path c.args.index))

@@ -31,61 +31,61 @@ loop-next-init c = λ s hs.
 
 pub last_up_to-requires : goal.last_up_to-requires
 last_up_to-requires c =
-    searching_room binary_digits _ _ _ _ c.args.wanted c.loop-next.looks c.children.result.now c.get.ensures c.get-in-loop-next.ensures c.children.ensures.children (omega arith) (c.loop-next.invariant _ c.get.ensures).0
+    searching_room binary_digits _ _ _ _ c.args.wanted c.loop-next.looks c.child_slice.result.now c.get.ensures c.get-in-loop-next.ensures c.child_slice.ensures.children (omega arith) (c.loop-next.invariant _ c.get.ensures).0
 
 pub into_child-requires : goal.into_child-requires
 into_child-requires c =
     let f = c.in-Some.ensures.found in
     record {
       child = λ m hm.
-          let e : c.children.result.now ≡ trees m.children = c.children.ensures.children ∙ ap (λ (t : Tree). trees t.children) (same_node c.get-in-loop-next.result.now m c.loop-next.here c.get-in-loop-next.ensures hm) in
-          omega (arith, ap length e, slice_get_within c.children.result.now c.in-Some.next.index f.1.0 f.1.1);
+          let e : c.child_slice.result.now ≡ trees m.children = c.child_slice.ensures.children ∙ ap (λ (t : Tree). trees t.children) (same_node c.get-in-loop-next.result.now m c.loop-next.here c.get-in-loop-next.ensures hm) in
+          omega (arith, ap length e, slice_get_within c.child_slice.result.now c.in-Some.next.index f.1.0 f.1.1);
     }
 
 pub returns-in_err-here-2-clause-looks : goal.returns-in_err-here-2-clause-looks
 returns-in_err-here-2-clause-looks c =
     let x = (c.loop-next.invariant _ c.get.ensures).0 in
-    searching_looks c.get.result.now c.get-in-loop-next.result.now c.args.self.now c.loop-next.here c.args.wanted c.loop-next.looks c.last_up_to.new.looks c.children.result.now c.get.ensures c.get-in-loop-next.ensures c.children.ensures.children x c.in-Some.ensures.cost c.in-Some.ensures.grows
+    searching_looks c.get.result.now c.get-in-loop-next.result.now c.args.self.now c.loop-next.here c.args.wanted c.loop-next.looks c.last_up_to.new.looks c.child_slice.result.now c.get.ensures c.get-in-loop-next.ensures c.child_slice.ensures.children x c.in-Some.ensures.cost c.in-Some.ensures.grows
 
 pub returns-then-next-wanted-clause-found : goal.returns-then-next-wanted-clause-found
 returns-then-next-wanted-clause-found c = λ s hs num.
     let x = (c.loop-next.invariant s hs).0 in
-    let y = next_turn binary_digits s c.get-in-loop-next.result.now c.args.self.now c.loop-next.here c.args.wanted c.loop-next.looks c.last_up_to.new.looks c.in-Some.next.index c.in-Some.next.number c.children.result.now hs c.get-in-loop-next.ensures c.children.ensures.children x c.in-Some.ensures.found c.in-Some.ensures.later c.in-Some.ensures.cost c.in-Some.ensures.few c.in-Some.ensures.least in
+    let y = next_turn binary_digits s c.get-in-loop-next.result.now c.args.self.now c.loop-next.here c.args.wanted c.loop-next.looks c.last_up_to.new.looks c.in-Some.next.index c.in-Some.next.number c.child_slice.result.now hs c.get-in-loop-next.ensures c.child_slice.ensures.children x c.in-Some.ensures.found c.in-Some.ensures.later c.in-Some.ensures.cost c.in-Some.ensures.few c.in-Some.ensures.least in
     ap Some c.in_ok-here-2.ensures ∙ searching_found binary_digits s c.args.self.now _ c.args.wanted c.last_up_to.new.looks hs y.0 (y.1 ∙ c.if-next-wanted.true) num
 
 pub returns-then-next-wanted-clause-hit : goal.returns-then-next-wanted-clause-hit
 returns-then-next-wanted-clause-hit c =
     let hs = c.get.ensures in
     let x = (c.loop-next.invariant _ hs).0 in
-    let y = next_turn binary_digits c.get.result.now c.get-in-loop-next.result.now c.args.self.now c.loop-next.here c.args.wanted c.loop-next.looks c.last_up_to.new.looks c.in-Some.next.index c.in-Some.next.number c.children.result.now hs c.get-in-loop-next.ensures c.children.ensures.children x c.in-Some.ensures.found c.in-Some.ensures.later c.in-Some.ensures.cost c.in-Some.ensures.few c.in-Some.ensures.least in
+    let y = next_turn binary_digits c.get.result.now c.get-in-loop-next.result.now c.args.self.now c.loop-next.here c.args.wanted c.loop-next.looks c.last_up_to.new.looks c.in-Some.next.index c.in-Some.next.number c.child_slice.result.now hs c.get-in-loop-next.ensures c.child_slice.ensures.children x c.in-Some.ensures.found c.in-Some.ensures.later c.in-Some.ensures.cost c.in-Some.ensures.few c.in-Some.ensures.least in
     subst (λ (p : Place). HasNumberBelow c.args.wanted c.args.self.now p) (sym c.in_ok-here-2.ensures)
     (searching_hit binary_digits c.get.result.now c.args.self.now _ c.args.wanted c.last_up_to.new.looks hs y.0 (y.1 ∙ c.if-next-wanted.true))
 
 pub returns-then-next-wanted-clause-looks : goal.returns-then-next-wanted-clause-looks
 returns-then-next-wanted-clause-looks c =
     let x = (c.loop-next.invariant _ c.get.ensures).0 in
-    searching_looks c.get.result.now c.get-in-loop-next.result.now c.args.self.now c.loop-next.here c.args.wanted c.loop-next.looks c.last_up_to.new.looks c.children.result.now c.get.ensures c.get-in-loop-next.ensures c.children.ensures.children x c.in-Some.ensures.cost c.in-Some.ensures.grows
+    searching_looks c.get.result.now c.get-in-loop-next.result.now c.args.self.now c.loop-next.here c.args.wanted c.loop-next.looks c.last_up_to.new.looks c.child_slice.result.now c.get.ensures c.get-in-loop-next.ensures c.child_slice.ensures.children x c.in-Some.ensures.cost c.in-Some.ensures.grows
 
 pub loop-next-smaller : goal.loop-next-smaller
 loop-next-smaller c =
     let f = c.in-Some.ensures.found in
-    smaller_turn c.get-in-loop-next.result.now f.1.0 c.loop-next.here c.in_ok-here-2.here c.in-Some.next.index c.children.result.now c.get-in-loop-next.ensures c.children.ensures.children f.1.1 c.in_ok-here-2.ensures
+    smaller_turn c.get-in-loop-next.result.now f.1.0 c.loop-next.here c.in_ok-here-2.here c.in-Some.next.index c.child_slice.result.now c.get-in-loop-next.ensures c.child_slice.ensures.children f.1.1 c.in_ok-here-2.ensures
 
 pub loop-next-preserved : goal.loop-next-preserved
 loop-next-preserved c = λ s hs.
     let x = (c.loop-next.invariant s hs).0 in
-    let y = next_turn binary_digits s c.get-in-loop-next.result.now c.args.self.now c.loop-next.here c.args.wanted c.loop-next.looks c.last_up_to.new.looks c.in-Some.next.index c.in-Some.next.number c.children.result.now hs c.get-in-loop-next.ensures c.children.ensures.children x c.in-Some.ensures.found c.in-Some.ensures.later c.in-Some.ensures.cost c.in-Some.ensures.few c.in-Some.ensures.least in
+    let y = next_turn binary_digits s c.get-in-loop-next.result.now c.args.self.now c.loop-next.here c.args.wanted c.loop-next.looks c.last_up_to.new.looks c.in-Some.next.index c.in-Some.next.number c.child_slice.result.now hs c.get-in-loop-next.ensures c.child_slice.ensures.children x c.in-Some.ensures.found c.in-Some.ensures.later c.in-Some.ensures.cost c.in-Some.ensures.few c.in-Some.ensures.least in
     subst (λ (p : Place). (z : Searching binary_digits s c.args.self.now p c.args.wanted c.last_up_to.new.looks) × (number z.node.label ≡ c.args.wanted → ⊥)) (sym c.in_ok-here-2.ensures)
     (y.0, λ same. c.if-next-wanted.false (sym y.1 ∙ same))
 
 pub returns-clause-found : goal.returns-clause-found
 returns-clause-found c = λ s hs num.
     let x = c.loop-next.invariant s hs in
-    let e = c.children.ensures.children ∙ sym (ap (λ (t : Tree). trees t.children) (searching_here binary_digits s c.get-in-loop-next.result.now c.args.self.now c.loop-next.here c.args.wanted c.loop-next.looks hs c.get-in-loop-next.ensures x.0)) in
+    let e = c.child_slice.ensures.children ∙ sym (ap (λ (t : Tree). trees t.children) (searching_here binary_digits s c.get-in-loop-next.result.now c.args.self.now c.loop-next.here c.args.wanted c.loop-next.looks hs c.get-in-loop-next.ensures x.0)) in
     let l = subst (λ (ks : List Tree). NumbersRise ks → AreAbove ks c.args.wanted 0) e c.in_default.ensures.later in
     searching_none binary_digits s c.args.self.now c.loop-next.here c.args.wanted c.loop-next.looks hs x.0 x.1 l num
 
 pub returns-clause-looks : goal.returns-clause-looks
 returns-clause-looks c =
     let x = (c.loop-next.invariant _ c.get.ensures).0 in
-    searching_looks c.get.result.now c.get-in-loop-next.result.now c.args.self.now c.loop-next.here c.args.wanted c.loop-next.looks c.last_up_to.new.looks c.children.result.now c.get.ensures c.get-in-loop-next.ensures c.children.ensures.children x c.in_default.ensures.cost c.in_default.ensures.grows
+    searching_looks c.get.result.now c.get-in-loop-next.result.now c.args.self.now c.loop-next.here c.args.wanted c.loop-next.looks c.last_up_to.new.looks c.child_slice.result.now c.get.ensures c.get-in-loop-next.ensures c.child_slice.ensures.children x c.in_default.ensures.cost c.in_default.ensures.grows

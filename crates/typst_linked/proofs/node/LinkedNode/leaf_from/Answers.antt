@@ -19,7 +19,7 @@ returns-in-Some c =
     let i = c.loop-index.index in
     let hs : subtree p ≡ Some n = ap subtree (sym c.deref.ensures) ∙ c.get.ensures in
     let node = c.index-children-index.result in
-    let s : slice_get (trees n.children) i ≡ Some node = rw (← c.children-children.ensures.children) (slice_get_read c.children-children.result.now (length c.children-children.result.now) i node refl (omega arith) c.index-children-index.is) in
+    let s : slice_get (trees n.children) i ≡ Some node = rw (← c.child_slice-children.ensures.children) (slice_get_read c.child_slice-children.result.now (length c.child_slice-children.result.now) i node refl (omega arith) c.index-children-index.is) in
     let solid : is_solid node ≡ true = ap (λ k. not (is_trivia_kind k)) (sym c.kind.ensures) ∙ sym (ap not c.if-not-is_trivia.ensures) in
     later_hit p n node c.args.start i c.in-Some.leaf hs s solid (c.loop-index.invariant n hs)
     (sym c.in-Some.is ∙ c.in_ok-leaf.ensures ∙ ap (found_below (first_path is_good)) c.in_ok-child.ensures)
@@ -31,7 +31,7 @@ loop-index-preserved c = λ n hs.
     let own : subtree p ≡ Some c.get.result.now = ap subtree (sym c.deref.ensures) ∙ c.get.ensures in
     let node = c.index-children-index.result in
     let same : c.get.result.now ≡ n = same_node c.get.result.now n p own hs in
-    let s : slice_get (trees c.get.result.now.children) i ≡ Some node = rw (← c.children-children.ensures.children) (slice_get_read c.children-children.result.now (length c.children-children.result.now) i node refl (omega arith) c.index-children-index.is) in
+    let s : slice_get (trees c.get.result.now.children) i ≡ Some node = rw (← c.child_slice-children.ensures.children) (slice_get_read c.child_slice-children.result.now (length c.child_slice-children.result.now) i node refl (omega arith) c.index-children-index.is) in
     let there : slice_get (trees n.children) i ≡ Some node = ap (λ (u : Tree). slice_get (trees u.children) i) (sym same) ∙ s in
     elim c.if-not-is_trivia.branch [
       | then-not-is_trivia+in_ok-child+in_ok-leaf+in_default w ↦

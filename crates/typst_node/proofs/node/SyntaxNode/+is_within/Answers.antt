@@ -12,22 +12,22 @@ use Rattle.typst_node.proofs.node.SyntaxNode.+is_within.Goals as goal
 
 pub is_within-requires : goal.is_within-requires
 is_within-requires t c =
-    let items = c.children-child-items.result.now in
+    let items = c.child_slice-child-items.result.now in
     let few = count_at items c.loop-child.child-index c.child-item.result (omega arith) in
     let sum = count_of_trees c.args.self.now.children in
     let same : count c.child-item.result ≡ count (get_or items c.loop-child.child-index c.child-item.result) = ap count c.child-item.is in
-    let fewer = rw c.children-child-items.ensures.children at few in
-    let same_too = rw c.children-child-items.ensures.children at same in
+    let fewer = rw c.child_slice-child-items.ensures.children at few in
+    let same_too = rw c.child_slice-child-items.ensures.children at same in
     (omega (arith, c.decreases), tt)
 
 pub returns-then-not-is_within : goal.returns-then-not-is_within
 returns-then-not-is_within t c = (
   λ h. cc,
   λ w.
-      let items = c.children-child-items.result.now in
+      let items = c.child_slice-child-items.result.now in
       let num : number c.args.self.now.label ≡ c.number-number.result = sym (c.number-number.ensures.is ∙ ap (λ t. t.label.span.low) c.self.view_is) in
       let up : bound c.args.self.now.label ≡ c.upper-bound.result = sym c.upper-bound.ensures in
-      let kids : c.args.self.now.children ≡ forest items = sym (forest-trees c.args.self.now.children) ∙ ap forest (sym c.children-child-items.ensures.children) in
+      let kids : c.args.self.now.children ≡ forest items = sym (forest-trees c.args.self.now.children) ∙ ap forest (sym c.child_slice-child-items.ensures.children) in
       let inner = coe 0 1 (i. IsWithin c.args.id (num i + 1) (up i) (kids i)) w.2 in
       let rest = rw (drop_next items c.loop-child.child-index c.child-item.result c.loop-child-test.true, ← c.child-item.is) at (c.loop-child.invariant.0 inner) in
       let first = first_within _ _ _ c.child-item.result (drop (c.loop-child.child-index + 1) items) rest in
@@ -36,10 +36,10 @@ returns-then-not-is_within t c = (
 
 pub returns : goal.returns
 returns t c =
-    let items = c.children-child-items.result.now in
+    let items = c.child_slice-child-items.result.now in
     let num : number c.args.self.now.label ≡ c.number-number.result = sym (c.number-number.ensures.is ∙ ap (λ t. t.label.span.low) c.self.view_is) in
     let up : bound c.args.self.now.label ≡ c.upper-bound.result = sym c.upper-bound.ensures in
-    let kids : c.args.self.now.children ≡ forest items = sym (forest-trees c.args.self.now.children) ∙ ap forest (sym c.children-child-items.ensures.children) in
+    let kids : c.args.self.now.children ≡ forest items = sym (forest-trees c.args.self.now.children) ∙ ap forest (sym c.child_slice-child-items.ensures.children) in
     let file : c.args.self.now.label.span.file ≡ c.args.id = grind (arith, common_steps) in
     let done : drop c.loop-child.child-index items ≡ [] = drop_all c.loop-child.child-index items c.loop-child-test.false in
     let so_far = rw done at c.loop-child.invariant in (
