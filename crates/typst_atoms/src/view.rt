@@ -15,8 +15,12 @@ use typst_base::{Span, SyntaxKind};
 use typst_node::{AstNode, SyntaxNode, span_of};
 
 /// A view of a node of the marker's kind, or the kind's placeholder.
+///
+/// Views are equal where their nodes are, spans and bounds included; placeholders of one type are equal.
+#[derive_where(PartialEq, Eq, Hash, Debug)]
 pub struct View<'a, M: Kind> {
     node: Option<&'a SyntaxNode>,
+    #[derive_where(skip)]
     kind: PhantomData<M>,
     ghost of_kind: { IsTrue (is_missing_or_of_kind M.KIND node) },
 }
