@@ -14,3 +14,6 @@ pub mod Covers
 pub mod Walks
 pub mod Stops
 pub mod StopsBefore
+pub mod LeafCovers
+pub mod LeafWays
+pub mod LastLeaves

@@ -10,3 +10,5 @@ pub mod Part
 pub mod Ranges
 pub mod Finds
 pub mod Leaves
+pub mod LeafAt
+pub mod LeafLooks

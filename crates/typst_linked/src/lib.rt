@@ -15,10 +15,12 @@
 #![tactic(auto)]
 
 pub use children::LinkedChildren;
+pub use cursor::Side;
 pub use looks::Looks;
 pub use node::LinkedNode;
 
 mod children;
+mod cursor;
 mod find;
 mod floor;
 mod halving;
