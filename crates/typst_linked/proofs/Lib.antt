@@ -17,3 +17,4 @@ pub mod StopsBefore
 pub mod LeafCovers
 pub mod LeafWays
 pub mod LastLeaves
+pub mod OuterModes

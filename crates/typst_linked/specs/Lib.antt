@@ -12,3 +12,4 @@ pub mod Finds
 pub mod Leaves
 pub mod LeafAt
 pub mod LeafLooks
+pub mod Modes

@@ -26,6 +26,7 @@ mod floor;
 mod halving;
 mod leaves;
 mod looks;
+mod modes;
 mod node;
 mod siblings;
 #[cfg(test)]
