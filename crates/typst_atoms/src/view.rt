@@ -1,5 +1,5 @@
 //! The generic view of nodes of one kind.
-ghost use Rattle.std.specs.Prelude.{◌≡◌, true, false, IsTrue, Some, refl};
+ghost use Rattle.std.specs.Prelude.{◌≡◌, true, false, IsTrue, Some, refl, ⊤};
 ghost use Rattle.std.specs.Option.{option_copied};
 ghost use Rattle.typst_atoms.specs.Kinds.{is_kind};
 ghost use Rattle.typst_atoms.specs.OfKind.{is_missing_or_of_kind, kind_from_test};
@@ -27,6 +27,8 @@ pub struct View<'a, M: Kind> {
 
 impl<'a, M: Kind> Clone for View<'a, M> {
     ghost is_clone = { λ view copy. copy ≡ view };
+
+    ghost is_infallible = { λ _. ⊤ };
 
     fn clone(&self) -> Result<Self, AllocError> {
         Ok(*self)
