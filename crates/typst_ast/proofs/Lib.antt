@@ -3,3 +3,4 @@ pub mod BoundNames
 pub mod Ends
 pub mod ExprLists
 pub mod ItemLists
+pub mod PathParts

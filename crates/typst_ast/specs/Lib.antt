@@ -1,5 +1,6 @@
 pub mod Arg
 pub mod ArrayItem
+pub mod BareNames
 pub mod Bindings
 pub mod Closures
 pub mod DestructuringItem
@@ -18,6 +19,7 @@ pub mod MathArgItem
 pub mod MathArgs
 pub mod Operators
 pub mod Param
+pub mod Paths
 pub mod Pattern
 pub mod Refs
 pub mod Roots
