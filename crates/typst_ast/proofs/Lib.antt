@@ -4,3 +4,4 @@ pub mod Ends
 pub mod ExprLists
 pub mod ItemLists
 pub mod PathParts
+pub mod PlainReads

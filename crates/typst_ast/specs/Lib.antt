@@ -1,3 +1,4 @@
+pub mod Alike
 pub mod Arg
 pub mod ArrayItem
 pub mod BareNames

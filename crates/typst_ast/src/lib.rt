@@ -19,6 +19,7 @@
 //! list of the node's children: the first, last or all children whose kind lies in a class.
 #![tactic(auto)]
 
+pub use alike::is_alike;
 pub use arg::Arg;
 pub use array_item::ArrayItem;
 pub use bare_names::BareImportError;
@@ -34,6 +35,7 @@ pub use paths::file_stem;
 pub use pattern::Pattern;
 pub use view::View;
 
+pub mod alike;
 pub mod arg;
 pub mod array_item;
 pub mod bare_names;
