@@ -1,4 +1,5 @@
 pub mod Behind
+pub mod BoundNames
 pub mod Ends
 pub mod ExprLists
 pub mod ItemLists

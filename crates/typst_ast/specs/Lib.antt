@@ -1,5 +1,6 @@
 pub mod Arg
 pub mod ArrayItem
+pub mod Bindings
 pub mod Closures
 pub mod DestructuringItem
 pub mod DictItem

@@ -34,6 +34,7 @@ pub use view::View;
 
 pub mod arg;
 pub mod array_item;
+pub mod bindings;
 pub mod blocks;
 pub mod calls;
 pub mod collections;
