@@ -3,3 +3,5 @@ pub mod BoundNames
 pub mod Ends
 pub mod ExprLists
 pub mod ItemLists
+pub mod PathParts
+pub mod PlainReads
