@@ -1,3 +1,4 @@
 mod accessors;
+mod comparing;
 mod missing;
 mod readings;

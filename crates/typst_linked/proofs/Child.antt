@@ -1,14 +1,13 @@
 -- A child stands one step below its parent.
-use Rattle.std.proofs.Common.{◌≡◌, ℕ, ◌+◌, ◌<◌, ◌≤◌, ◌⊎◌, inl, inr, length, take, get_or, List, [], ◌∷◌, Some, None, Option, arith, refl, sym, ap, ◌∙◌, subst}
+use Rattle.std.proofs.Common.{◌≡◌, ℕ, ◌+◌, length, take, List, [], Some, None, Option, arith, refl, sym, ap, ◌∙◌, subst}
 use Rattle.std.specs.Prelude.{slice_get}
-use Rattle.std.proofs.lemmas.Option.{slice_get_within}
 use Rattle.std.specs.declared.rc.Rc.{Rc}
 use Rattle.std.specs.declared.alloc.Global.{Global}
 use Rattle.typst_node.specs.Tree.{Content, AsLeaf, AsError, AsInner, Tree, trees, IsInner}
-use Rattle.typst_node.specs.Text.{content_text, own_text, text, text_of_all, offset}
-use Rattle.typst_linked.specs.Place.{Place, subtree, child_place}
+use Rattle.typst_node.specs.Text.{content_text, own_text, text, text_of_all}
+use Rattle.typst_linked.specs.Place.{Place, child_place}
 use Rattle.typst_linked.specs.Linked.{IsAt, place_below}
-use Rattle.typst_linked.proofs.Steps.{at-push, pushed}
+use Rattle.typst_linked.proofs.Steps.{at-push}
 use Rattle.typst_linked.proofs.Offsets.{offset-push, length-text, text_of_all-more, text_of_all-take}
 
 -- no text stands at a node that has children

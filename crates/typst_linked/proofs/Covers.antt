@@ -1,18 +1,18 @@
 -- Which children cover a range.
-use Rattle.std.proofs.Common.{◌≡◌, ℕ, suc, zero, ◌+◌, ◌-◌, ◌<◌, ◌≤◌, inl, inr, List, [], ◌∷◌, ◌++◌, length, take, Option, None, Some, refl, sym, ◌∙◌, ap, subst, arith, append_assoc}
-use Rattle.std.specs.Prelude.{slice_get, MatchOption, IsSomeAnd}
+use Rattle.std.proofs.Common.{◌≡◌, ℕ, suc, zero, ◌+◌, ◌-◌, ◌<◌, ◌≤◌, inl, inr, List, [], ◌∷◌, length, take, Option, None, Some, sym, ◌∙◌, ap, subst, arith, append_assoc}
+use Rattle.std.specs.Prelude.{slice_get, IsSomeAnd}
 use Rattle.std.proofs.lemmas.Bool.{cases_lt, cases_order}
-use Rattle.std.proofs.lemmas.Option.{slice_get_within, slice_get_past}
+use Rattle.std.proofs.lemmas.Option.{slice_get_within}
 use Rattle.typst_node.specs.Tree.{Tree, trees}
-use Rattle.typst_node.specs.Text.{own_text, text, text_of_all, offset}
+use Rattle.typst_node.specs.Text.{text}
 use Rattle.typst_node.specs.Preorder.{if_some, at}
 use Rattle.typst_node.proofs.Trees.{length-text_of_all-cons}
 use Rattle.typst_linked.specs.Place.{Place, subtree, below, child_place}
 use Rattle.typst_linked.specs.Part.{begin_at, IsFirstEnding, EndsBefore, HasNoOwnText}
 use Rattle.typst_linked.specs.Ranges.{begin_of, HasRange, Covers, IsFirstCover, IsRangePath, FindsRange}
 use Rattle.typst_linked.specs.declared.floor.Part.{Part}
-use Rattle.typst_linked.proofs.Steps.{at-append, at-push, if_some_value}
-use Rattle.typst_linked.proofs.Offsets.{offset-push, text_of_all-more, text_of_all-take}
+use Rattle.typst_linked.proofs.Steps.{at-append, at-push}
+use Rattle.typst_linked.proofs.Offsets.{offset-push, text_of_all-more}
 use Rattle.typst_linked.proofs.Found.{option_cases}
 
 -- earlier texts end earlier

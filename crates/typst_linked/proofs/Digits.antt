@@ -1,5 +1,5 @@
 -- Halving takes one binary digit.
-use Rattle.std.proofs.Common.{suc, zero, ◌≡◌, ℕ, ◌+◌, ◌-◌, ◌/◌, ◌<◌, ◌≤◌, ◌^◌, length, arith, subst, ◌∙◌, sym}
+use Rattle.std.proofs.Common.{suc, zero, ℕ, ◌+◌, ◌/◌, ◌<◌, ◌≤◌, ◌^◌, arith, subst}
 use Rattle.std.specs.Int.Digits.{digits_of}
 use Rattle.std.proofs.lemmas.Int.Digits.{length-digits_of-le, length-digits_of_step, number_lt, all_below_base_digits_of, number_digits_of}
 use Rattle.typst_linked.specs.Search.{binary_digits}

@@ -1,7 +1,7 @@
 -- What stands before and after the first element that passes a test.
-use Rattle.std.proofs.Common.{◌≡◌, ℕ, suc, ◌+◌, List, [], ◌∷◌, ◌++◌, map, Bool, true, false, cond, ◌⊎◌, inl, inr, refl, sym, ◌∙◌, ap, arith}
+use Rattle.std.proofs.Common.{◌≡◌, ℕ, suc, ◌+◌, List, [], ◌∷◌, ◌++◌, map, Bool, true, false, ◌⊎◌, inl, inr, refl, sym, ◌∙◌, ap, arith}
 use Rattle.std.proofs.Math.Numerals.{one-add}
-use Rattle.std.specs.Prelude.{take, drop, Option, None, Some, ◌||◌}
+use Rattle.std.specs.Prelude.{drop, ◌||◌}
 use Rattle.std.specs.List.{before_first, after_first, position_or_len, list_any, find}
 use Rattle.std.specs.Option.{option_map}
 

@@ -1,17 +1,15 @@
 -- What a search of the list of paths finds.
-use Rattle.std.proofs.Common.{◌≡◌, ℕ, suc, zero, ◌+◌, ◌<◌, ◌≤◌, ◌⊎◌, inl, inr, List, [], ◌∷◌, ◌++◌, length, map, reverse, get_or, Bool, true, false, cond, ◌||◌, Option, None, Some, refl, sym, ◌∙◌, ap, subst, arith}
-use Rattle.std.specs.List.{find, list_any, Contains, AllByRecursion}
+use Rattle.std.proofs.Common.{◌≡◌, ℕ, suc, zero, ◌<◌, ◌≤◌, ◌⊎◌, inl, inr, List, [], ◌∷◌, length, map, reverse, get_or, Bool, true, false, cond, ◌||◌, Option, None, Some, refl, sym, ◌∙◌, ap, subst, arith}
+use Rattle.std.specs.List.{find, list_any, AllByRecursion}
 use Rattle.std.specs.Option.{option_or}
 use Rattle.std.proofs.lemmas.List.{reverse-append}
 use Rattle.std.proofs.lemmas.List.Folds.{find-append, list_any-from_Any}
-use Rattle.std.proofs.lemmas.Bool.{eqb-true}
-use Rattle.std.proofs.lemmas.Bool.Decides.{nat_tests}
-use Rattle.typst_node.specs.Tree.{Tree, trees}
+use Rattle.typst_node.specs.Tree.{Tree}
 use Rattle.typst_node.specs.Preorder.{nodes, paths, subtrees, at}
 use Rattle.typst_node.specs.Labels.{number}
 use Rattle.typst_node.specs.Numbered.{Rise, IsNumbered}
 use Rattle.typst_node.proofs.Paths.{at-paths, labels-subtrees, path-in-paths}
-use Rattle.typst_linked.specs.Search.{is_there, has_number, has_number_up_to, first_path, last_path, with_number, floor_path}
+use Rattle.typst_linked.specs.Search.{is_there, has_number_up_to, first_path, floor_path}
 use Rattle.typst_linked.proofs.Firsts.{bool_cases}
 
 -- ---- lists
@@ -64,7 +62,7 @@ first_last : {X : Type 0} (p : X → Bool) (x : X) (xs : List X) (y : X) → fin
 first_last p x xs y none last = sym (ap (λ o. option_or o (find p (x ∷ []))) none) ∙ sym (find_last-cons p x xs) ∙ last
 
 -- the last one is there if one passes
-last_there : {X : Type 0} (p : X → Bool) (xs : List X) (k : ℕ) (d : X) → k < length xs → get_or xs k d ≡ d → p d ≡ true → find p (reverse xs) ≡ None → ⊥
+pub last_there : {X : Type 0} (p : X → Bool) (xs : List X) (k : ℕ) (d : X) → k < length xs → get_or xs k d ≡ d → p d ≡ true → find p (reverse xs) ≡ None → ⊥
 last_there p [] k d l e h none = absurd (omega arith)
 last_there p (x ∷ xs) zero d l e h none =
     let e : x ≡ d = e in

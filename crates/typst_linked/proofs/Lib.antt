@@ -14,3 +14,7 @@ pub mod Covers
 pub mod Walks
 pub mod Stops
 pub mod StopsBefore
+pub mod LeafCovers
+pub mod LeafWays
+pub mod LastLeaves
+pub mod OuterModes

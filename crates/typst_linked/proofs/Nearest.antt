@@ -1,12 +1,12 @@
 -- The siblings of a child, and the nearest one that isn't trivia.
-use Rattle.std.proofs.Common.{◌≡◌, ℕ, suc, zero, ◌+◌, ◌-◌, ◌<◌, ◌≤◌, List, [], ◌∷◌, ◌++◌, length, take, drop, get_or, reverse, Option, None, Some, Bool, true, false, cond, inl, inr, refl, sym, ◌∙◌, ap, arith, add-one, drop-cons}
+use Rattle.std.proofs.Common.{◌≡◌, ℕ, ◌+◌, ◌-◌, ◌<◌, List, [], ◌∷◌, ◌++◌, length, take, drop, get_or, reverse, Some, cond, inl, inr, refl, sym, ◌∙◌, ap, arith, add-one, drop-cons}
 use Rattle.std.specs.List.{position_from}
 use Rattle.std.specs.Option.{option_map}
 use Rattle.std.proofs.lemmas.List.{take_more, reverse-append}
 use Rattle.typst_node.specs.Tree.{Tree, trees}
 use Rattle.typst_node.specs.Preorder.{at}
 use Rattle.typst_linked.specs.Place.{Place, subtree, child_place}
-use Rattle.typst_linked.specs.Siblings.{front, siblings, children_of, is_solid, solid_before, solid_behind, parent_place, parent_tree, parent_at}
+use Rattle.typst_linked.specs.Siblings.{front, siblings, children_of, is_solid, solid_before, parent_place, parent_tree, parent_at}
 use Rattle.typst_linked.proofs.Firsts.{bool_cases}
 
 front-cons : (i j : ℕ) (p : List ℕ) → front (i ∷ (p ++ j ∷ [])) ≡ i ∷ front (p ++ j ∷ [])

@@ -1,6 +1,6 @@
 -- Where the text of a node begins.
-use Rattle.std.proofs.Common.{◌≡◌, ℕ, suc, zero, ◌+◌, ◌<◌, ◌≤◌, List, [], ◌∷◌, ◌++◌, length, take, refl, sym, ◌∙◌, ap, arith, length-append, add-one}
-use Rattle.std.specs.Prelude.{slice_get, Option, None, Some}
+use Rattle.std.proofs.Common.{◌≡◌, ℕ, suc, zero, ◌+◌, ◌≤◌, List, [], ◌∷◌, ◌++◌, length, take, refl, sym, ◌∙◌, ap, arith, length-append, add-one}
+use Rattle.std.specs.Prelude.{slice_get, None, Some}
 use Rattle.typst_node.specs.Tree.{Forest, Tree, trees}
 use Rattle.typst_node.specs.Preorder.{preorder, at}
 use Rattle.typst_node.specs.Text.{own_text, joined, text, text_of_all, offset}

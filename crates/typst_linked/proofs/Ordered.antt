@@ -1,9 +1,9 @@
 -- Where numbers stand in a numbered tree.
-use Rattle.std.proofs.Common.{◌≡◌, ℕ, suc, zero, ◌+◌, ◌<◌, ◌≤◌, ◌⊎◌, inl, inr, List, [], ◌∷◌, ◌++◌, length, Option, None, Some, refl, sym, ◌∙◌, ap, subst, arith, length-append}
+use Rattle.std.proofs.Common.{◌≡◌, ℕ, suc, zero, ◌+◌, ◌<◌, ◌≤◌, inl, inr, List, [], ◌∷◌, length, None, Some, refl, sym, ◌∙◌, ap, subst, arith, length-append}
 use Rattle.std.specs.Prelude.{slice_get}
 use Rattle.std.proofs.lemmas.Bool.{cases_order}
-use Rattle.typst_node.specs.Tree.{Label, Forest, none, tree, Tree, trees}
-use Rattle.typst_node.specs.Preorder.{preorder, nodes, if_some, at}
+use Rattle.typst_node.specs.Tree.{Forest, none, tree, Tree, trees}
+use Rattle.typst_node.specs.Preorder.{preorder, at}
 use Rattle.typst_node.specs.Count.{count}
 use Rattle.typst_node.specs.Labels.{number, bound}
 use Rattle.typst_node.specs.Numbered.{IsNumbered}

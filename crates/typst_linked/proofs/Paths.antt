@@ -1,14 +1,13 @@
 -- The list of a tree's paths.
-use Rattle.std.proofs.Common.{◌≡◌, ℕ, suc, zero, ◌+◌, ◌<◌, ◌≤◌, ◌⊎◌, inl, inr, List, [], ◌∷◌, ◌++◌, map, length, take, Bool, true, false, refl, sym, ◌∙◌, ap, arith, append_assoc, eq-eqb}
-use Rattle.std.specs.Prelude.{slice_get, Option, None, Some, ◌==◌, ◌&&◌, ◌||◌}
-use Rattle.std.specs.List.{list_any, before_first, after_first}
-use Rattle.std.proofs.lemmas.Bool.{eqb-true}
+use Rattle.std.proofs.Common.{◌≡◌, ℕ, suc, zero, ◌+◌, inl, inr, List, [], ◌∷◌, ◌++◌, map, take, Bool, true, false, refl, sym, ◌∙◌, ap, arith, append_assoc, eq-eqb}
+use Rattle.std.specs.Prelude.{slice_get, None, Some, ◌&&◌, ◌||◌}
+use Rattle.std.specs.List.{list_any, before_first}
 use Rattle.std.proofs.lemmas.Bool.Decides.{eqb_tells}
 use Rattle.std.proofs.lemmas.List.Folds.{list_any-append}
 use Rattle.typst_node.specs.Tree.{Label, Forest, none, tree, Tree, trees, forest}
-use Rattle.typst_node.specs.Preorder.{paths, paths_from, if_some, at}
+use Rattle.typst_node.specs.Preorder.{paths, paths_from, at}
 use Rattle.typst_node.specs.Text.{is_same_path}
-use Rattle.typst_linked.proofs.Firsts.{before-append_hit, before-append_miss, before-map, after-append_hit, after-append_miss, after-map, list_any-map, bool_cases}
+use Rattle.typst_linked.proofs.Firsts.{before-append_hit, before-append_miss, before-map, list_any-map}
 use Rattle.typst_linked.proofs.Steps.{if_some_value}
 
 -- the paths of trees side by side begin with those of the first

@@ -2,11 +2,10 @@
 use Rattle.std.proofs.Common.{◌≡◌, ◌≢◌, ℕ, ◌+◌, ◌<◌, ◌≤◌, ◌^◌, length, List, [], ◌∷◌, ◌++◌, Some, None, Option, true, false, inl, inr, arith, sym, ap, ◌∙◌, refl, subst, append_assoc, append-nil, length-append, eq-eqb}
 use Rattle.std.specs.Prelude.{slice_get, nat_le, sum_by}
 use Rattle.std.specs.Option.{option_map, option_and_then}
-use Rattle.std.specs.List.{find}
 use Rattle.std.proofs.lemmas.Bool.{eqb-true}
 use Rattle.std.proofs.lemmas.Option.{slice_get_within}
 use Rattle.typst_node.specs.Tree.{Tree, trees}
-use Rattle.typst_node.specs.Preorder.{if_some, at}
+use Rattle.typst_node.specs.Preorder.{at}
 use Rattle.typst_node.specs.Count.{count}
 use Rattle.typst_node.specs.Labels.{number}
 use Rattle.typst_node.specs.Numbered.{IsNumbered}
@@ -15,9 +14,9 @@ use Rattle.typst_linked.specs.Search.{has_number, has_number_up_to, with_number,
 use Rattle.typst_linked.specs.Finds.{AreLooksFor, HasNumberBelow}
 use Rattle.typst_linked.proofs.Digits.{digits_most}
 use Rattle.std.proofs.lemmas.List.Sums.{sum_by-cons}
-use Rattle.typst_linked.specs.Floor.{NumbersRise, AreAbove, IsFloorOf}
-use Rattle.typst_linked.proofs.Steps.{if_some_value, at-append, at-push, same_node}
-use Rattle.typst_linked.proofs.Ordered.{IsInOrder, numbered_order, child_in_order, node_in_order, one_before, deeper, narrow, stop, count_child, count_children, count_at}
+use Rattle.typst_linked.specs.Floor.{NumbersRise, AreAbove}
+use Rattle.typst_linked.proofs.Steps.{at-append, at-push, same_node}
+use Rattle.typst_linked.proofs.Ordered.{IsInOrder, numbered_order, child_in_order, node_in_order, one_before, deeper, narrow, stop, count_child, count_children}
 use Rattle.typst_linked.proofs.Weights.{weight_along-root, weight_along-push, weight_along-append}
 use Rattle.typst_linked.proofs.Found.{first_path_none, first_path_only, floor_largest, no_floor, option_cases}
 use Rattle.typst_linked.proofs.Firsts.{bool_cases}

@@ -1,5 +1,5 @@
 -- The stops behind and before a path, one level after the other.
-use Rattle.std.proofs.Common.{◌≡◌, ℕ, suc, zero, ◌+◌, ◌<◌, ◌≤◌, List, [], ◌∷◌, ◌++◌, length, map, take, drop, reverse, Option, None, Some, Bool, true, false, ◌&&◌, cond, inl, inr, refl, sym, ◌∙◌, ap, subst, arith, append_assoc, add-one, drop-cons}
+use Rattle.std.proofs.Common.{◌≡◌, ℕ, suc, zero, ◌+◌, ◌≤◌, List, [], ◌∷◌, ◌++◌, length, map, drop, Option, None, Some, Bool, true, false, ◌&&◌, cond, inl, inr, refl, sym, ◌∙◌, ap, arith, add-one, drop-cons}
 use Rattle.std.specs.Prelude.{slice_get}
 use Rattle.std.proofs.lemmas.Option.{slice_get_within, get_or_from_slice_get}
 use Rattle.typst_linked.proofs.Walks.{drop_past, below_hit, below_miss}
@@ -17,7 +17,7 @@ use Rattle.typst_linked.specs.Search.{is_there, first_path, found_below}
 use Rattle.typst_linked.specs.Siblings.{is_solid}
 use Rattle.typst_linked.specs.Leaves.{is_good, branch, leads_to_solid, is_stop, stop_behind, is_later, later_from, elsewhere}
 use Rattle.typst_linked.proofs.Steps.{if_some_value, at-push}
-use Rattle.typst_linked.proofs.Firsts.{after-hit, after-miss, after-append_hit, after-append_miss, after-map, find-map, bool_cases}
+use Rattle.typst_linked.proofs.Firsts.{after-miss, after-append_hit, after-append_miss, after-map, find-map}
 use Rattle.typst_linked.proofs.Paths.{any_below, none_below, same_below, listed}
 use Rattle.typst_linked.proofs.Found.{find_none, option_cases}
 

@@ -1,12 +1,12 @@
 -- The stops before a path, one level after the other.
-use Rattle.std.proofs.Common.{◌≡◌, ℕ, suc, zero, ◌+◌, ◌<◌, ◌≤◌, List, [], ◌∷◌, ◌++◌, length, map, take, drop, reverse, Option, None, Some, Bool, true, false, ◌&&◌, cond, inl, inr, refl, sym, ◌∙◌, ap, subst, arith, append_assoc, add-one}
+use Rattle.std.proofs.Common.{◌≡◌, ℕ, ◌+◌, ◌<◌, ◌≤◌, List, [], ◌∷◌, ◌++◌, length, map, take, reverse, Option, None, Some, Bool, true, false, ◌&&◌, inl, inr, refl, sym, ◌∙◌, ap, arith}
 use Rattle.std.specs.Prelude.{slice_get}
 use Rattle.std.proofs.lemmas.Option.{slice_get_within, get_or_from_slice_get}
 use Rattle.std.specs.List.{find, before_first}
 use Rattle.std.specs.Option.{option_map, option_or}
 use Rattle.std.proofs.lemmas.List.{take_more, reverse-append}
 use Rattle.std.proofs.lemmas.List.Folds.{find-append}
-use Rattle.typst_node.specs.Tree.{Label, Forest, none, tree, Tree, trees, forest}
+use Rattle.typst_node.specs.Tree.{Forest, none, tree, Tree, trees, forest}
 use Rattle.typst_node.specs.Preorder.{paths, paths_from, if_some, at}
 use Rattle.typst_node.specs.Text.{is_same_path}
 use Rattle.typst_node.proofs.Trees.{trees_of_forest}
@@ -15,7 +15,7 @@ use Rattle.typst_linked.specs.Search.{is_there, last_path, found_below}
 use Rattle.typst_linked.specs.Siblings.{is_solid}
 use Rattle.typst_linked.specs.Leaves.{is_good, is_stop, stop_before, is_later, earlier_up, elsewhere}
 use Rattle.typst_linked.proofs.Steps.{if_some_value, at-push}
-use Rattle.typst_linked.proofs.Firsts.{before-miss, before-hit, find-map}
+use Rattle.typst_linked.proofs.Firsts.{before-miss, find-map}
 use Rattle.typst_linked.proofs.Paths.{before_from}
 use Rattle.typst_linked.proofs.Found.{find_none, option_cases}
 use Rattle.typst_linked.proofs.Searching.{found_at}

@@ -1,12 +1,12 @@
 -- Good leaves of a node, from those of its children.
-use Rattle.std.proofs.Common.{◌≡◌, ℕ, suc, zero, ◌+◌, ◌-◌, ◌<◌, ◌≤◌, List, [], ◌∷◌, ◌++◌, length, map, take, drop, reverse, get_or, Option, None, Some, Bool, true, false, cond, inl, inr, refl, sym, ◌∙◌, ap, arith, append_assoc, append-nil, add-one, drop-cons}
+use Rattle.std.proofs.Common.{◌≡◌, ℕ, suc, zero, ◌+◌, ◌≤◌, List, [], ◌∷◌, ◌++◌, length, map, take, drop, reverse, Option, None, Some, Bool, true, false, cond, inl, inr, refl, sym, ◌∙◌, ap, arith, append_assoc, append-nil, add-one, drop-cons}
 use Rattle.std.specs.Prelude.{slice_get}
 use Rattle.std.specs.List.{find}
-use Rattle.std.specs.Option.{option_map, option_or, option_and_then}
+use Rattle.std.specs.Option.{option_map, option_or}
 use Rattle.std.proofs.lemmas.List.{take_more, reverse-append}
 use Rattle.std.proofs.lemmas.List.Folds.{find-append}
 use Rattle.std.proofs.lemmas.Option.{slice_get_within, get_or_from_slice_get}
-use Rattle.typst_node.specs.Tree.{Label, Forest, none, tree, Tree, trees, forest}
+use Rattle.typst_node.specs.Tree.{none, Tree, trees, forest}
 use Rattle.typst_node.specs.Preorder.{paths, paths_from, if_some, at}
 use Rattle.typst_node.proofs.Trees.{forest-trees}
 use Rattle.typst_linked.specs.Place.{Place, subtree, below, child_place}
@@ -163,11 +163,13 @@ last_miss test p n c i h s sofar e =
     sofar ∙ last_up-more test n c i s ∙ ap (λ o. option_or (option_map (λ q. i ∷ q) o) (last_up test n i)) x
 
 -- a node without children that passes is the last one itself
-pub last_here : (test : Tree → Bool) (p : Place) (n : Tree) → subtree p ≡ Some n → test n ≡ true → trees n.children ≡ [] → Some p ≡ found_below (last_path test) p
-last_here test p n h good childless =
+pub last_path-self : (test : Tree → Bool) (n : Tree) → test n ≡ true → trees n.children ≡ [] → last_path test n ≡ Some []
+last_path-self test n good childless =
     let bare : n.children ≡ none = sym (forest-trees n.children) ∙ ap forest childless in
-    let there : last_path test n ≡ Some [] = ap (λ f. find (test_at test n) (reverse ([] ∷ paths_from 0 f))) bare ∙ ap (λ b. cond b (Some []) None) good in
-    ap Some (below-nothing p) ∙ sym (found_at (last_path test) p n (Some []) h there)
+    ap (λ f. find (test_at test n) (reverse ([] ∷ paths_from 0 f))) bare ∙ ap (λ b. cond b (Some []) None) good
+
+pub last_here : (test : Tree → Bool) (p : Place) (n : Tree) → subtree p ≡ Some n → test n ≡ true → trees n.children ≡ [] → Some p ≡ found_below (last_path test) p
+last_here test p n h good childless = ap Some (below-nothing p) ∙ sym (found_at (last_path test) p n (Some []) h (last_path-self test n good childless))
 
 -- what a test tells that came out false
 pub not_passed : (r b : Bool) → (b ≡ true → r ≡ true) → r ≡ false → b ≡ false

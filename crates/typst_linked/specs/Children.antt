@@ -1,5 +1,5 @@
 -- What an iterator over children has left, and what it gives.
-use Rattle.std.specs.Prelude.{ℕ, ◌+◌, ◌-◌, ◌<◌, ◌≤◌, ◌≡◌, length, Option, Result, Some, MatchOption, IfOk}
+use Rattle.std.specs.Prelude.{◌+◌, ◌-◌, ◌<◌, ◌≤◌, ◌≡◌, length, Option, Result, Some, MatchOption, IfOk}
 use Rattle.std.specs.Option.{ForSome}
 use Rattle.std.specs.declared.alloc.AllocError.{AllocError}
 use Rattle.typst_node.specs.Tree.{Tree, trees}

@@ -1,5 +1,5 @@
 -- A parent's path is shorter than its child's.
-use Rattle.std.specs.Prelude.{ℕ, ◌+◌, ◌≤◌, max, Option, None, Some, length, ◌++◌, ◌∷◌, []}
+use Rattle.std.specs.Prelude.{ℕ, ◌+◌, ◌≤◌, max, Option, None, Some, length, ◌∷◌, []}
 use Rattle.std.proofs.Common.{arith, length-append}
 use Rattle.std.specs.declared.rc.Rc.{Rc}
 use Rattle.std.specs.declared.alloc.Global.{Global}

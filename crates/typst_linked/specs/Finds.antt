@@ -1,5 +1,5 @@
 -- What a search by a span answers and reads.
-use Rattle.std.specs.Prelude.{ℕ, ◌+◌, ◌≤◌, ◌≡◌, List, length, Option, None, Some, IfSome, IsSomeAnd}
+use Rattle.std.specs.Prelude.{ℕ, ◌+◌, ◌≤◌, ◌≡◌, List, length, Option, None, Some, IfSome}
 use Rattle.std.specs.Option.{ForSome}
 use Rattle.typst_base.specs.declared.span.SpanKind.{SpanKind}
 use Rattle.typst_base.specs.declared.span.SpanKind.TheVariants.{Detached, Number, Range}

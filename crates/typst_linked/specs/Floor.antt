@@ -1,5 +1,5 @@
 -- Children whose numbers rise, and the place behind a floor among them.
-use Rattle.std.specs.Prelude.{ℕ, ◌+◌, ◌<◌, ◌≤◌, ◌≡◌, List, Option, None, Some, MatchOption, slice_get}
+use Rattle.std.specs.Prelude.{ℕ, ◌+◌, ◌<◌, ◌≤◌, ◌≡◌, List, Option, None, Some, slice_get}
 use Rattle.typst_node.specs.Tree.{Tree}
 use Rattle.typst_node.specs.Labels.{number}
 use Rattle.typst_linked.specs.declared.floor.Floor.{Floor}

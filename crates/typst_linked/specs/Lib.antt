@@ -10,3 +10,6 @@ pub mod Part
 pub mod Ranges
 pub mod Finds
 pub mod Leaves
+pub mod LeafAt
+pub mod LeafLooks
+pub mod Modes

@@ -19,6 +19,16 @@ pub record IsFirstEnding (goal : ℕ) (ts : List Tree) (part : Part) : Type 0 wh
 abbrev pub EndsBefore : ℕ → List Tree → Type 0
 EndsBefore goal ts = 0 < length ts → begin_at ts (length ts) < goal
 
+-- the last tree, and no text stands before it
+pub record IsLastAtOnce (ts : List Tree) (part : Part) : Type 0 where
+  pub last : part.index + 1 ≡ length ts
+  pub begin_is : part.begin ≡ 0
+  pub nothing : begin_at ts part.index ≡ 0
+
+-- some text stands before the last tree
+abbrev pub IsLastLate : List Tree → Type 0
+IsLastLate ts = (i : ℕ) → i + 1 ≡ length ts → 0 < begin_at ts i
+
 -- no text stands at the node itself, if it has children
 abbrev pub HasNoOwnText : Tree → Type 0
 HasNoOwnText t = (i : ℕ) (c : Tree) → slice_get (trees t.children) i ≡ Some c → length (own_text t.label) ≡ 0

@@ -1,5 +1,5 @@
 -- The plain search by a range of bytes.
-use Rattle.std.specs.Prelude.{ℕ, ◌+◌, ◌<◌, ◌≤◌, ◌≡◌, List, [], ◌∷◌, ◌++◌, length, Option, None, Some, MatchOption, IsSomeAnd}
+use Rattle.std.specs.Prelude.{ℕ, ◌+◌, ◌<◌, ◌≤◌, ◌≡◌, List, [], ◌∷◌, length, Option, MatchOption, IsSomeAnd}
 use Rattle.typst_node.specs.Text.{text, offset}
 use Rattle.typst_linked.specs.Place.{Place, subtree, below, child_place}
 

@@ -2,7 +2,7 @@
 ghost use Rattle.std.specs.Prelude.{◌≡◌, ◌+◌, ◌<◌, ◌≤◌, ◌^◌, length, IfSome, MatchOption};
 ghost use Rattle.typst_linked.specs.Search.{binary_digits};
 ghost use Rattle.typst_node.specs.Tree.{trees};
-ghost use Rattle.typst_linked.specs.Part.{EndsBefore, IsFirstEnding, HasNoOwnText};
+ghost use Rattle.typst_linked.specs.Part.{EndsBefore, IsFirstEnding, IsLastAtOnce, IsLastLate, HasNoOwnText};
 ghost use Rattle.typst_linked.specs.Floor.{index_behind, IsFloorOf, NumbersRise, AreAbove};
 
 use crate::floor::{Floor, Part};
@@ -47,6 +47,7 @@ pub(crate) fn first_ending(node: &SyntaxNode, goal: usize, looks: &mut Looks) ->
     ensures cost { looks.new ≤ looks.old + binary_digits (length (trees node.now.children)) }
     ensures few { looks.new ≤ looks.old + length (trees node.now.children) }
     ensures grows { looks.old ≤ looks.new }
+    ensures least { IfSome result (λ _. looks.old < looks.new) }
 {
     let count = node.child_slice().len();
     let mut low = 0;
@@ -66,4 +67,22 @@ pub(crate) fn first_ending(node: &SyntaxNode, goal: usize, looks: &mut Looks) ->
         return None;
     }
     Some(Part { index: low, begin })
+}
+
+// The last child of a node that has children, if the children before it have no text.
+pub(crate) fn last_at_once(node: &SyntaxNode, looks: &mut Looks) -> Option<Part>
+    requires room { looks.old + 1 < 2 ^ 64 }
+    requires inner { 0 < length (trees node.now.children) }
+    ensures found { MatchOption result (IsLastLate (trees node.now.children)) (IsLastAtOnce (trees node.now.children)) }
+    ensures cost { looks.new ≤ looks.old + binary_digits (length (trees node.now.children)) }
+    ensures few { looks.new ≤ looks.old + length (trees node.now.children) }
+{
+    let last = node.child_slice().len() - 1;
+    if last > 0 && looks.end_of(node, last - 1) > 0 {
+        return None;
+    }
+    Some(Part {
+        index: last,
+        begin: 0,
+    })
 }

@@ -15,15 +15,18 @@
 #![tactic(auto)]
 
 pub use children::LinkedChildren;
+pub use cursor::Side;
 pub use looks::Looks;
 pub use node::LinkedNode;
 
 mod children;
+mod cursor;
 mod find;
 mod floor;
 mod halving;
 mod leaves;
 mod looks;
+mod modes;
 mod node;
 mod siblings;
 #[cfg(test)]

@@ -11,6 +11,7 @@ ghost use Rattle.typst_linked.specs.Children.{IsAllOf};
 use crate::children::LinkedChildren;
 use crate::floor::Part;
 use std::alloc::{AllocError, Global};
+use std::fmt::{self, Debug, Formatter, Write};
 use std::marker::Model;
 use std::ops::{Deref, Range};
 use std::rc::Rc;
@@ -222,5 +223,12 @@ impl<'a> Deref for LinkedNode<'a> {
 
     fn deref(&self) -> &SyntaxNode {
         self.node
+    }
+}
+
+impl<'a> Debug for LinkedNode<'a> {
+    /// That of the node.
+    fn fmt<W: Write>(&self, f: &mut Formatter<W>) -> fmt::Result {
+        self.node.fmt(f)
     }
 }

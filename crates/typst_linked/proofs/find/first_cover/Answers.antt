@@ -1,6 +1,6 @@
-use Rattle.std.proofs.Common.{◌≡◌, ℕ, ◌+◌, ◌-◌, ◌<◌, ◌≤◌, ◌∙◌, length, ap, sym, subst, arith, Some}
+use Rattle.std.proofs.Common.{◌≡◌, ◌-◌, length, ap, subst, arith}
 use Rattle.std.proofs.lemmas.Bool.Decides.{nat_tests}
-use Rattle.typst_node.specs.Tree.{Tree, trees}
+use Rattle.typst_node.specs.Tree.{trees}
 use Rattle.typst_linked.specs.Ranges.{begin_of}
 use Rattle.typst_linked.specs.Part.{EndsBefore, IsFirstEnding}
 use Rattle.typst_linked.proofs.Covers.{none_childless, none_ends, none_begins, first_covers, child_there}

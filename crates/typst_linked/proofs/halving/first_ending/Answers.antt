@@ -1,5 +1,4 @@
-use Rattle.std.proofs.Common.{◌≡◌, ℕ, ◌+◌, ◌-◌, ◌/◌, ◌<◌, ◌≤◌, length, arith}
-use Rattle.typst_node.specs.Tree.{trees}
+use Rattle.std.proofs.Common.{◌+◌, ◌-◌, ◌/◌, arith}
 use Rattle.typst_linked.proofs.Child.{no_own_text}
 use Rattle.typst_linked.proofs.Digits.{digits_half}
 use Rattle.typst_linked.proofs.halving.first_ending.Goals as goal
@@ -18,6 +17,7 @@ loop-low-preserved-then-end-goal c =
       cost = omega (arith, digits_half (high - (middle + 1)) (high - low) (omega arith) (omega arith));
       few = omega arith;
       grows = omega arith;
+      least = λ p. omega arith;
     }
 
 pub loop-low-preserved : goal.loop-low-preserved
@@ -34,6 +34,7 @@ loop-low-preserved c =
       cost = omega (arith, digits_half (middle - low) (high - low) (omega arith) (omega arith));
       few = omega arith;
       grows = omega arith;
+      least = λ p. omega arith;
     }
 
 pub returns-then-low-count-clause-no_text : goal.returns-then-low-count-clause-no_text

@@ -1,4 +1,4 @@
-use Rattle.std.proofs.Common.{◌-◌, ◌≡◌, ℕ, ◌+◌, ◌<◌, ◌≤◌, length}
+use Rattle.std.proofs.Common.{◌-◌, ◌≡◌, ◌+◌, ◌<◌, ◌≤◌, length}
 use Rattle.typst_node.specs.Tree.{trees}
 use Rattle.typst_linked.specs.Search.{binary_digits}
 use Rattle.typst_linked.specs.Part.{begin_at}
@@ -14,6 +14,7 @@ invariant-loop-low l = record {
   cost : l.looks + binary_digits (l.high - l.low) ≤ l.fn.looks + binary_digits (length (trees l.node.children));
   few : l.looks + (l.high - l.low) ≤ l.fn.looks + length (trees l.node.children);
   grows : l.fn.looks ≤ l.looks;
+  least : l.high < length (trees l.node.children) → l.fn.looks < l.looks;
 }
 
 abbrev pub decreases-loop-low : goal.decreases-loop-low

@@ -1,4 +1,4 @@
-use Rattle.std.proofs.Common.{◌≡◌, ℕ, ◌+◌, ◌<◌, ◌≤◌, length, ◌-◌, ◌/◌, arith, refl, sym}
+use Rattle.std.proofs.Common.{◌+◌, length, ◌-◌, ◌/◌, arith, refl, sym}
 use Rattle.std.proofs.lemmas.Option.{slice_get_read}
 use Rattle.typst_linked.proofs.Digits.{digits_half}
 use Rattle.typst_linked.proofs.Rising.{above_from}

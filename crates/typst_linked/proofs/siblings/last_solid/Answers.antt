@@ -1,4 +1,4 @@
-use Rattle.std.proofs.Common.{◌≡◌, ℕ, ◌+◌, ◌-◌, ◌<◌, length, ◌∙◌, ap, sym, arith, cond, false, Some}
+use Rattle.std.proofs.Common.{◌≡◌, ◌+◌, ◌-◌, ◌∙◌, ap, sym, arith, cond, false, Some}
 use Rattle.std.specs.Prelude.{not}
 use Rattle.typst_base.specs.KindClasses.{is_trivia_kind}
 use Rattle.typst_linked.specs.Siblings.{is_solid, solid_before}

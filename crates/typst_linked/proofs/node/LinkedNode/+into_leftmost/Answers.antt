@@ -1,4 +1,4 @@
-use Rattle.std.proofs.Common.{◌≡◌, ℕ, ◌+◌, ◌<◌, ◌≤◌, ◌∙◌, length, Some, None, ap, sym, subst, refl, arith, false, true}
+use Rattle.std.proofs.Common.{◌≡◌, ℕ, ◌<◌, ◌∙◌, length, Some, ap, sym, subst, refl, arith, false}
 use Rattle.std.specs.Prelude.{slice_get}
 use Rattle.typst_node.specs.Tree.{Tree, trees}
 use Rattle.typst_linked.specs.Place.{Place, subtree, child_place}

@@ -1,7 +1,7 @@
-use Rattle.std.proofs.Common.{◌≡◌, ℕ, ◌+◌, ◌<◌, ◌≤◌, ◌∙◌, ap, sym, subst, arith, Some, refl, true, false}
+use Rattle.std.proofs.Common.{◌≡◌, ℕ, ◌<◌, ◌∙◌, sym, subst, refl, true, false}
 use Rattle.std.proofs.lemmas.Result.{IfOk-weaker}
 use Rattle.typst_node.specs.Tree.{trees}
-use Rattle.typst_linked.specs.Place.{Place, subtree, child_place}
+use Rattle.typst_linked.specs.Place.{subtree}
 use Rattle.typst_linked.specs.Ranges.{HasRange, FindsRange}
 use Rattle.typst_linked.proofs.Covers.{range_there, range_none, range_step, child_there}
 use Rattle.typst_linked.proofs.Searching.{count_there, smaller_turn}

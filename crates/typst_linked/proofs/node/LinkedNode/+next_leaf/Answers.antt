@@ -1,6 +1,6 @@
-use Rattle.std.proofs.Common.{◌≡◌, ℕ, ◌+◌, ◌∙◌, Some, None, ap, sym}
+use Rattle.std.proofs.Common.{◌≡◌, ◌+◌, ◌∙◌, Some, None, ap, sym}
 use Rattle.std.proofs.lemmas.Result.{IfOk-weaker}
-use Rattle.typst_linked.specs.Place.{Place, subtree, child_place, last_step}
+use Rattle.typst_linked.specs.Place.{subtree, child_place, last_step}
 use Rattle.typst_linked.specs.Search.{found_below}
 use Rattle.typst_linked.specs.Leaves.{later_from, stop_behind, elsewhere}
 use Rattle.typst_linked.proofs.Stops.{next_hit, next_miss, root_stop, parent_there}

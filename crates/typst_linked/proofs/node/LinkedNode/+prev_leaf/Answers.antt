@@ -1,7 +1,7 @@
-use Rattle.std.proofs.Common.{◌≡◌, ℕ, ◌+◌, ◌∙◌, ◌≤◌, Some, None, ap, sym, arith}
+use Rattle.std.proofs.Common.{◌≡◌, ◌∙◌, Some, None, ap, sym, arith}
 use Rattle.typst_linked.proofs.Steps.{child_within}
 use Rattle.std.proofs.lemmas.Result.{IfOk-weaker}
-use Rattle.typst_linked.specs.Place.{Place, subtree, child_place, last_step}
+use Rattle.typst_linked.specs.Place.{subtree, child_place, last_step}
 use Rattle.typst_linked.specs.Search.{found_below}
 use Rattle.typst_linked.specs.Leaves.{earlier_up, stop_before, elsewhere}
 use Rattle.typst_linked.proofs.Stops.{parent_there}

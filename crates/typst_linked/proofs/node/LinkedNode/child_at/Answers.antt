@@ -1,4 +1,4 @@
-use Rattle.std.proofs.Common.{◌≡◌, ℕ, ◌+◌, ◌<◌, ◌∙◌, length, ap, sym, refl, arith, Some}
+use Rattle.std.proofs.Common.{◌≡◌, ◌∙◌, length, ap, sym, refl, arith, Some}
 use Rattle.std.specs.Prelude.{slice_get}
 use Rattle.std.proofs.lemmas.Option.{slice_get_read}
 use Rattle.typst_node.specs.Tree.{trees}
@@ -20,6 +20,6 @@ invariant_of-result c =
     let own = at_place _ _ _ _ (c.above.view_is ∙ c.deref-above.ensures) c.above.invariant.0 in
     let begin = c.requires.begin node own.node_is in
     let within = c.requires.child node own.node_is in
-    let s : slice_get (trees node.children) c.args.index ≡ Some c.index-children-index.result =
-    rw (← c.child_slice.ensures.children) (slice_get_read c.child_slice.result.now (length c.child_slice.result.now) c.args.index c.index-children-index.result refl (omega (arith, ap length c.child_slice.ensures.children, within)) c.index-children-index.is) in
+    let s : slice_get (trees node.children) c.args.index ≡ Some c.index-child_slice-index.result =
+    rw (← c.child_slice.ensures.children) (slice_get_read c.child_slice.result.now (length c.child_slice.result.now) c.args.index c.index-child_slice-index.result refl (omega (arith, ap length c.child_slice.ensures.children, within)) c.index-child_slice-index.is) in
     (child_is_at _ _ _ _ _ _ c.child_slice.result.now own s c.child_slice.ensures.children c.child_slice.ensures.inner_only (omega (arith, begin)), sym (last_step-push c.args.parent.value.path c.args.index))

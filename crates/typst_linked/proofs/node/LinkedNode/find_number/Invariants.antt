@@ -1,4 +1,4 @@
-use Rattle.std.proofs.Common.{◌≡◌, ◌≢◌, ℕ, Option, Some, None}
+use Rattle.std.proofs.Common.{◌≡◌, ◌≢◌, Some}
 use Rattle.typst_node.specs.Tree.{Tree}
 use Rattle.typst_node.specs.Labels.{number}
 use Rattle.typst_linked.specs.Place.{subtree}

@@ -1,9 +1,9 @@
-use Rattle.std.proofs.Common.{◌≡◌, ℕ, ◌+◌, ◌-◌, ◌<◌, ◌≤◌, ◌∙◌, length, Some, None, ap, sym, subst, refl, arith, false, true, inl, inr}
+use Rattle.std.proofs.Common.{◌≡◌, ◌+◌, ◌-◌, ◌∙◌, length, Some, ap, sym, refl, arith, false, true}
 use Rattle.std.specs.Prelude.{slice_get, not}
 use Rattle.std.proofs.lemmas.Option.{slice_get_read}
 use Rattle.typst_base.specs.KindClasses.{is_trivia_kind}
 use Rattle.typst_node.specs.Tree.{Tree, trees}
-use Rattle.typst_linked.specs.Place.{Place, subtree, child_place}
+use Rattle.typst_linked.specs.Place.{subtree}
 use Rattle.typst_linked.specs.Search.{last_path, found_below}
 use Rattle.typst_linked.specs.Siblings.{is_solid}
 use Rattle.typst_linked.specs.Leaves.{is_good, earlier_up}

@@ -1,14 +1,14 @@
-use Rattle.std.proofs.Common.{◌≡◌, ℕ, ◌+◌, ◌<◌, ◌≤◌, ◌∙◌, length, Some, None, ap, sym, subst, refl, arith, false, true, inl, inr}
+use Rattle.std.proofs.Common.{◌≡◌, ◌∙◌, length, Some, ap, sym, refl, arith, false, true}
 use Rattle.std.specs.Prelude.{slice_get, not}
 use Rattle.std.proofs.lemmas.Option.{slice_get_read}
 use Rattle.typst_base.specs.KindClasses.{is_trivia_kind}
 use Rattle.typst_node.specs.Tree.{Tree, trees}
-use Rattle.typst_linked.specs.Place.{Place, subtree, child_place}
+use Rattle.typst_linked.specs.Place.{subtree}
 use Rattle.typst_linked.specs.Search.{first_path, found_below}
 use Rattle.typst_linked.specs.Siblings.{is_solid}
-use Rattle.typst_linked.specs.Leaves.{is_good, later_from}
+use Rattle.typst_linked.specs.Leaves.{is_good}
 use Rattle.typst_linked.proofs.Steps.{same_node}
-use Rattle.typst_linked.proofs.Stops.{later_hit, later_miss, later_trivia, later_none}
+use Rattle.typst_linked.proofs.Stops.{later_hit, later_miss, later_trivia}
 use Rattle.typst_linked.proofs.node.LinkedNode.leaf_from.Goals as goal
 use Rattle.typst_linked.proofs.node.LinkedNode.leaf_from.Goals.{then-not-is_trivia+in_ok-child+in_ok-leaf+in_default, else-not-is_trivia}
 

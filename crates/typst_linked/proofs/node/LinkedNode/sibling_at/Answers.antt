@@ -1,6 +1,6 @@
-use Rattle.std.proofs.Common.{◌≡◌, ℕ, ◌<◌, ◌∙◌, length, ap, sym, subst, arith, Some}
+use Rattle.std.proofs.Common.{◌≡◌, ◌∙◌, length, ap, sym, arith, Some}
 use Rattle.std.specs.Option.{option_map}
-use Rattle.typst_node.specs.Tree.{Tree, trees}
+use Rattle.typst_node.specs.Tree.{trees}
 use Rattle.typst_linked.specs.Place.{Place, child_place, last_step}
 use Rattle.typst_linked.specs.Siblings.{siblings, parent_place}
 use Rattle.typst_linked.proofs.Nearest.{siblings-child, parent_of_child}

@@ -1,6 +1,5 @@
-use Rattle.std.proofs.Common.{◌≡◌, ℕ, ◌<◌, ◌≤◌, ◌∙◌, length, ap, sym, arith, Some}
-use Rattle.typst_node.specs.Tree.{trees}
-use Rattle.typst_linked.specs.Place.{Place, subtree, child_place, last_step}
+use Rattle.std.proofs.Common.{◌≡◌, ◌∙◌, length, ap, sym, arith}
+use Rattle.typst_linked.specs.Place.{Place, child_place, last_step}
 use Rattle.typst_linked.specs.Siblings.{siblings}
 use Rattle.typst_linked.proofs.Steps.{child_within, last_step-push}
 use Rattle.typst_linked.proofs.Child.{at_place, place_with}

@@ -1,0 +1,61 @@
+use Rattle.std.proofs.Common.{◌≡◌, ℕ, ◌-◌, ◌<◌, ◌∙◌, [], Some, ap, subst, sym, refl, arith}
+use Rattle.std.specs.Prelude.{IsSomeAnd, Option}
+use Rattle.typst_node.specs.Tree.{Tree, trees}
+use Rattle.typst_node.specs.Count.{count}
+use Rattle.typst_linked.specs.Place.{Place, subtree, child_place}
+use Rattle.typst_linked.specs.Part.{IsFirstEnding, EndsBefore}
+use Rattle.typst_linked.specs.Ranges.{begin_of}
+use Rattle.typst_linked.specs.LeafAt.{least_end, CoversCursor}
+use Rattle.typst_linked.proofs.Covers.{child_there}
+use Rattle.typst_linked.proofs.LeafWays.{part_covers, none_covers, covering_next, way_on}
+use Rattle.typst_linked.proofs.Ordered.{count_child, count_children}
+use Rattle.typst_linked.proofs.Searching.{count_there, smaller_turn, below-nothing}
+use Rattle.typst_linked.proofs.Steps.{at-push, same_node}
+use Rattle.typst_linked.proofs.node.LinkedNode.+into_covering.Goals as goal
+
+pub first_ending-requires : goal.first_ending-requires
+first_ending-requires t c = omega (arith, c.requires.room c.get.result.now c.get.ensures, count_children c.get.result.now)
+
+pub returns-in_default-clause-leaf : goal.returns-in_default-clause-leaf
+returns-in_default-clause-leaf t c =
+    let n = c.get.result.now in
+    let same : c.least_end.result - c.offset.result ≡ least_end c.args.side c.args.cursor - begin_of c.args.self = omega (arith, c.least_end.ensures, c.offset.ensures) in
+    let early = subst (λ k. EndsBefore k (trees n.children)) same c.in_default.ensures.found in
+    let bare = none_covers c.args.side c.args.cursor c.args.self n c.get.ensures c.in_default.ensures.no_text c.requires.covers early in
+    record {
+      path = [];
+      place_is = below-nothing c.args.self;
+      covers = c.requires.covers;
+      childless = subst (λ (o : Option Tree). IsSomeAnd o (λ u. trees u.children ≡ [])) (sym c.get.ensures) bare;
+    }
+
+pub into_covering-requires : goal.into_covering-requires
+into_covering-requires t c =
+    let n = c.get.result.now in
+    let same : c.least_end.result - c.offset.result ≡ least_end c.args.side c.args.cursor - begin_of c.args.self = omega (arith, c.least_end.ensures, c.offset.ensures) in
+    let i = c.in-Some.part.index in
+    let first = subst (λ k. IsFirstEnding k (trees n.children) c.in-Some.part) same c.in-Some.ensures.found in
+    let child = child_there (trees n.children) i first.within in
+    let there = at-push c.args.self.path i c.args.self.root n child.0 c.get.ensures child.1 in
+    let l = smaller_turn n child.0 c.args.self c.in_ok-child.child i (trees n.children) c.get.ensures refl child.1 c.in_ok-child.ensures in
+    let covers = part_covers c.args.side c.args.cursor c.args.self n child.0 c.in-Some.part c.get.ensures c.in-Some.ensures.no_text child.1 c.requires.covers first in (
+      subst (λ (k : ℕ). count_there (subtree c.in_ok-child.child) < k) c.decreases l,
+      (λ x h.
+          let is : subtree (child_place c.args.self i) ≡ Some x = ap subtree (sym c.in_ok-child.ensures) ∙ h in
+          let one = same_node child.0 x (child_place c.args.self i) there is in
+          let e : count child.0 ≡ count x = ap count one in
+          omega (arith, e, count_child n child.0 i child.1, c.requires.room n c.get.ensures, c.in-Some.ensures.few),
+      subst (λ (p : Place). CoversCursor c.args.side c.args.cursor p) (sym c.in_ok-child.ensures) covers),
+    )
+
+pub returns-clause-looks : goal.returns-clause-looks
+returns-clause-looks t c =
+    let n = c.get.result.now in
+    let same : c.least_end.result - c.offset.result ≡ least_end c.args.side c.args.cursor - begin_of c.args.self = omega (arith, c.least_end.ensures, c.offset.ensures) in
+    let i = c.in-Some.part.index in
+    let first = subst (λ k. IsFirstEnding k (trees n.children) c.in-Some.part) same c.in-Some.ensures.found in
+    let child = child_there (trees n.children) i first.within in
+    let there = at-push c.args.self.path i c.args.self.root n child.0 c.get.ensures child.1 in
+    let covers = part_covers c.args.side c.args.cursor c.args.self n child.0 c.in-Some.part c.get.ensures c.in-Some.ensures.no_text child.1 c.requires.covers first in
+    way_on c.args.side c.args.cursor c.args.looks.now c.first_ending.new.looks c.into_covering.new.looks i c.args.self c.in_ok-child.child n child.0 c.get.ensures child.1 (ap subtree c.in_ok-child.ensures ∙ there) c.in_ok-child.ensures
+    (covering_next c.args.side c.args.cursor c.args.self i covers) c.in-Some.ensures.cost c.into_covering.ensures.looks

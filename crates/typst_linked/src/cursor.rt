@@ -1,0 +1,158 @@
+// The leaf at a place in the text.
+ghost use Rattle.std.specs.Prelude.{◌≡◌, ◌+◌, ◌<◌, ◌≤◌, ◌^◌, length, IfOk};
+ghost use Rattle.std.specs.Option.{ForSome};
+ghost use Rattle.typst_node.specs.Count.{count};
+ghost use Rattle.typst_linked.specs.Place.{subtree};
+ghost use Rattle.typst_linked.specs.Search.{found_below};
+ghost use Rattle.typst_linked.specs.Ranges.{begin_of};
+ghost use Rattle.typst_linked.specs.LeafAt.{reaches_cursor, covers_cursor, begins_at_cursor, least_end, leaf_place, last_leaf, CoversCursor, IsCoveringBelow};
+ghost use Rattle.typst_linked.specs.LeafLooks.{HasWay, HasLookEachCover};
+ghost use Rattle.typst_linked.specs.declared.cursor.Side.TheVariants.{Before};
+
+use crate::halving::{first_ending, last_at_once};
+use crate::looks::Looks;
+use crate::node::LinkedNode;
+use std::alloc::{AllocError, Global};
+use std::ops::Range;
+
+/// On which side of a cursor a leaf is looked for.
+#[derive(Clone, Copy, Debug)]
+pub enum Side {
+    /// The leaf that has the byte before the cursor.
+    Before,
+    /// The leaf that has the byte behind the cursor.
+    After,
+}
+
+impl Side {
+    // Whether a text that ends here reaches the cursor.
+    fn reaches(self, cursor: usize, end: usize) -> bool
+        ensures { result ≡ reaches_cursor self cursor end }
+    {
+        match self {
+            Side::Before => cursor <= end,
+            Side::After => cursor < end,
+        }
+    }
+
+    // Whether a text with this range has the byte on this side of the cursor.
+    fn covers(self, cursor: usize, range: &Range<usize>) -> bool
+        ensures { result ≡ covers_cursor self cursor range.now.start range.now.end }
+    {
+        match self {
+            Side::Before => range.start < cursor && cursor <= range.end,
+            Side::After => range.start <= cursor && cursor < range.end,
+        }
+    }
+
+    // Whether a text that begins here may stand at the cursor without having that byte.
+    fn begins(self, cursor: usize, begin: usize) -> bool
+        ensures { result ≡ begins_at_cursor self cursor begin }
+    {
+        match self {
+            Side::Before => begin == cursor,
+            Side::After => false,
+        }
+    }
+
+    // Where a text that has that byte ends at the least.
+    fn least_end(self, cursor: usize) -> usize
+        requires { least_end self cursor < 2 ^ 64 }
+        ensures { result ≡ least_end self cursor }
+    {
+        match self {
+            Side::Before => cursor,
+            Side::After => cursor + 1,
+        }
+    }
+}
+
+/// # The leaf at a cursor
+impl<'a> LinkedNode<'a> {
+    /// The leaf at a cursor, in bytes from the beginning of the root's text: the node without children below this one
+    /// that has the byte before the cursor, or behind it.
+    ///
+    /// For [`Side::Before`] where there is no such byte in this node's text, it is the last node without children, if
+    /// that begins at the cursor. Trivia and errors aren't skipped. If this node has no children, it is asked alone, and
+    /// then only its end counts. Only want of memory is an error.
+    pub fn leaf_at(
+        &self,
+        alloc: Global,
+        cursor: usize,
+        side: Side,
+    ) -> Result<Option<Self>, AllocError>
+        ensures { IfOk result (λ r. r ≡ leaf_place side cursor self.now) }
+    {
+        self.leaf_at_counted(alloc, cursor, side, &mut Looks::new())
+    }
+
+    /// The same, and `looks` then holds how many ends of children this call read, also where memory was refused: at most
+    /// the binary digits of the numbers of children along the path from this node down to the last one reached.
+    pub fn leaf_at_counted(
+        &self,
+        alloc: Global,
+        cursor: usize,
+        side: Side,
+        looks: &mut Looks,
+    ) -> Result<Option<Self>, AllocError>
+        ensures found { IfOk result (λ r. r ≡ leaf_place side cursor self.now) }
+        ensures looks { HasWay side cursor self.now 0 looks.new }
+        ensures steps { IfOk result (HasLookEachCover side cursor self.now looks.new) }
+    {
+        *looks = Looks::new();
+        let _count = self.get().descendants();
+        let range = self.range();
+        if self.get().child_slice().is_empty() {
+            if side.reaches(cursor, range.end) {
+                return Ok(Some(self.clone()?));
+            }
+            return Ok(None);
+        }
+        if side.covers(cursor, &range) {
+            let leaf = self.clone()?.into_covering(alloc, cursor, side, looks)?;
+            return Ok(Some(leaf));
+        }
+        if side.begins(cursor, range.start) {
+            return self.clone()?.into_last(alloc, looks);
+        }
+        Ok(None)
+    }
+
+    // The node without children that covers the cursor, below one that does.
+    fn into_covering(
+        self,
+        alloc: Global,
+        cursor: usize,
+        side: Side,
+        looks: &mut Looks,
+    ) -> Result<Self, AllocError>
+        requires room { ForSome (subtree self) (λ t. looks.old + count t < 2 ^ 64) }
+        requires covers { CoversCursor side cursor self }
+        ensures leaf { IfOk result (IsCoveringBelow side cursor self.entry) }
+        ensures looks { HasWay side cursor self.entry looks.old looks.new }
+        ensures steps { IfOk result (λ found. looks.old + length found.path ≤ looks.new + length self.entry.path) }
+    {
+        let end = side.least_end(cursor) - self.offset();
+        let Some(part) = first_ending(self.get(), end, looks) else {
+            return Ok(self);
+        };
+        let child = self.into_part(alloc, part)?;
+        child.into_covering(alloc, cursor, side, looks)
+    }
+
+    // The last node without children, if it begins where this node does.
+    fn into_last(self, alloc: Global, looks: &mut Looks) -> Result<Option<Self>, AllocError>
+        requires { ForSome (subtree self) (λ t. looks.old + count t < 2 ^ 64) }
+        ensures leaf { let begin = begin_of self.entry in IfOk result (λ r. r ≡ found_below (last_leaf Before begin begin) self.entry) }
+        ensures looks { HasWay Before (begin_of self.entry) self.entry looks.old looks.new }
+    {
+        if self.get().child_slice().is_empty() {
+            return Ok(Some(self));
+        }
+        let Some(part) = last_at_once(self.get(), looks) else {
+            return Ok(None);
+        };
+        let child = self.into_part(alloc, part)?;
+        child.into_last(alloc, looks)
+    }
+}

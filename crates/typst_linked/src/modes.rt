@@ -1,0 +1,73 @@
+// The mode of the parser behind a node.
+ghost use Rattle.std.specs.Prelude.{◌≡◌, Option, unwrap_or};
+ghost use Rattle.typst_base.specs.declared.mode.SyntaxMode.{SyntaxMode};
+ghost use Rattle.typst_linked.specs.Siblings.{before_it, sibling_kind};
+ghost use Rattle.typst_linked.specs.Modes.{mode_behind, mode_behind_parent, mode_from};
+
+use crate::node::LinkedNode;
+use typst_base::{ModeAfter, SyntaxKind, SyntaxMode};
+
+/// # Modes
+///
+/// They take no memory.
+impl<'a> LinkedNode<'a> {
+    /// The mode in which the text directly behind this node is read, or `None` where none is known.
+    ///
+    /// It follows from the node's kind, as [`SyntaxKind::mode_after`] says. It takes at most one step for each ancestor.
+    pub fn mode_after(&self) -> Option<SyntaxMode>
+        ensures { result ≡ mode_behind self.now }
+    {
+        match self.own_mode() {
+            Some(mode) => mode,
+            None => match self.parent() {
+                Some(parent) => parent.mode_after(),
+                None => None,
+            },
+        }
+    }
+
+    /// The mode in which the text directly behind the parent is read, or `None` for a root.
+    pub fn parent_mode(&self) -> Option<SyntaxMode>
+        ensures { result ≡ mode_behind_parent self.now }
+    {
+        match self.parent() {
+            Some(parent) => parent.mode_after(),
+            None => None,
+        }
+    }
+
+    // The mode behind this node, where it isn't that behind its parent.
+    fn own_mode(&self) -> Option<Option<SyntaxMode>>
+        ensures { (outer : Option SyntaxMode) → unwrap_or result outer ≡ mode_from outer self.now }
+    {
+        match self.get().kind().mode_after() {
+            ModeAfter::Known(mode) => Some(Some(mode)),
+            ModeAfter::Parent => None,
+            ModeAfter::None => Some(None),
+            ModeAfter::Text if self.parent_kind() == Some(SyntaxKind::Raw) => Some(None),
+            ModeAfter::Text => Some(Some(SyntaxMode::Markup)),
+            ModeAfter::RawDelim if self.index() == 0 => Some(None),
+            ModeAfter::Dollar if self.index() == 0 => Some(Some(SyntaxMode::Math)),
+            ModeAfter::Space if self.parent_kind() == Some(SyntaxKind::Equation) => {
+                Some(Some(SyntaxMode::Math))
+            }
+            ModeAfter::Embeddable if self.kind_before() == Some(SyntaxKind::Hash) => {
+                Some(Some(SyntaxMode::Code))
+            }
+            ModeAfter::RawDelim | ModeAfter::Dollar | ModeAfter::Space | ModeAfter::Embeddable => {
+                None
+            }
+        }
+    }
+
+    // The kind of the sibling directly before this node, trivia or not.
+    fn kind_before(&self) -> Option<SyntaxKind>
+        ensures { result ≡ sibling_kind before_it self.now }
+    {
+        let siblings = self.siblings();
+        let Some(before) = self.index().checked_sub(1) else {
+            return None;
+        };
+        Some(siblings[before].kind())
+    }
+}
