@@ -1,4 +1,5 @@
-//! The syntax tree layer of Typst in one crate: kinds and spans, nodes, linked nodes, and runs of edits and searches.
+//! The syntax tree layer of Typst in one crate: kinds and spans, nodes, linked nodes, typed views in [`ast`], and runs of
+//! edits and searches.
 //!
 //! [`session::run`] serves any list of replacements and searches on a numbered tree. Its contract says what an
 //! incremental parser or an editor relies on: numbers stay in order after each step, the tree is the plainly edited
@@ -17,9 +18,13 @@ pub use typst_base::{
     DiagSpan, DiagSpanKind, FileId, MapperError, ModeAfter, RangeMapper, Span, SpanDetached,
     SpanKind, SpanNumber, Spanned, SubRange, SyntaxKind, SyntaxMode, SyntaxSet, named_sets,
 };
-pub use typst_linked::{LinkedChildren, LinkedNode, Looks};
-pub use typst_node::{Diagnosis, InnerError, Renumbered, ReplaceError, SyntaxNode, Unnumberable};
+pub use typst_linked::{LinkedChildren, LinkedNode, Looks, Side};
+pub use typst_node::{
+    Diagnosis, InnerError, Renumbered, ReplaceError, SyntaxDiagnostic, SyntaxNode, SynthesizeError,
+    Unnumberable,
+};
 
+pub mod ast;
 pub mod session;
 #[cfg(test)]
 mod tests;

@@ -55,7 +55,7 @@ fn reply(slots: &[Slot], index: usize) -> Option<&Reply> {
 }
 
 #[test]
-fn requests_are_served_in_order(rt: HostRuntime) -> Result<(), Fail> {
+fn every_kind_of_request_is_served_in_order(rt: HostRuntime) -> Result<(), Fail> {
     let alloc = rt.alloc();
     let mut tree = strong_and_text(alloc)?;
     let file = FileId::new(1).ok_or("no file")?;
@@ -69,6 +69,7 @@ fn requests_are_served_in_order(rt: HostRuntime) -> Result<(), Fail> {
     slots.push(replace(alloc, &[5], 0..0, Vec::new(alloc))?)?;
     slots.push(replace(alloc, &[1], 0..0, Vec::new(alloc))?)?;
     slots.push(Slot::Told(Reply::NoMemory))?;
+    slots.push(find(14)?)?;
     if !tree.is_numbered() {
         return Err("not numbered")?;
     }
@@ -89,6 +90,7 @@ fn requests_are_served_in_order(rt: HostRuntime) -> Result<(), Fail> {
     assert!(rt; reply(&slots, 3) == Some(&Reply::Misfit));
     assert!(rt; reply(&slots, 4) == Some(&Reply::Misfit));
     assert!(rt; reply(&slots, 5) == Some(&Reply::NoMemory));
+    assert!(rt; matches!(reply(&slots, 6), Some(Reply::NotFound { .. })));
     assert_eq!(rt; tree.full_text(alloc)?.as_str(), "*xy*c");
     assert_eq!(rt; tree.descendants(), 8);
     Ok(())
