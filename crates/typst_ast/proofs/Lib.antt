@@ -1,4 +1,7 @@
 pub mod Behind
+pub mod BoundNames
 pub mod Ends
 pub mod ExprLists
 pub mod ItemLists
+pub mod PathParts
+pub mod PlainReads

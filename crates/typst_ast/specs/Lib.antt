@@ -1,5 +1,8 @@
+pub mod Alike
 pub mod Arg
 pub mod ArrayItem
+pub mod BareNames
+pub mod Bindings
 pub mod Closures
 pub mod DestructuringItem
 pub mod DictItem
@@ -17,6 +20,7 @@ pub mod MathArgItem
 pub mod MathArgs
 pub mod Operators
 pub mod Param
+pub mod Paths
 pub mod Pattern
 pub mod Refs
 pub mod Roots

@@ -14,13 +14,15 @@
 //! // `sum.op()` is `BinOp::Add`, `sum.lhs()` an `Expr::Ident` and `sum.rhs()` an `Expr::Int`.
 //! ```
 //!
-//! Views are copied freely and live as long as the tree is borrowed. No call takes
-//! memory. What an accessor answers is stated over the plain list of the node's children: the first, last or all
-//! children whose kind lies in a class.
+//! Views are copied freely and live as long as the tree is borrowed. Only what answers a text or a list of its own takes
+//! memory: the bindings of patterns and the bare names of imports. What an accessor answers is stated over the plain
+//! list of the node's children: the first, last or all children whose kind lies in a class.
 #![tactic(auto)]
 
+pub use alike::is_alike;
 pub use arg::Arg;
 pub use array_item::ArrayItem;
+pub use bare_names::BareImportError;
 pub use destructuring_item::DestructuringItem;
 pub use dict_item::DictItem;
 pub use expr::Expr;
@@ -29,11 +31,15 @@ pub use imports::Imports;
 pub use lets::LetBindingKind;
 pub use math_args::{MathArg, MathArgItem, MathArgItems, MathArgList};
 pub use param::Param;
+pub use paths::file_stem;
 pub use pattern::Pattern;
 pub use view::View;
 
+pub mod alike;
 pub mod arg;
 pub mod array_item;
+pub mod bare_names;
+pub mod bindings;
 pub mod blocks;
 pub mod calls;
 pub mod collections;
@@ -52,6 +58,7 @@ pub mod modules;
 mod nodes;
 pub mod operations;
 pub mod param;
+pub mod paths;
 pub mod pattern;
 pub mod rules;
 pub mod view;

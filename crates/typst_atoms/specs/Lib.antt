@@ -2,6 +2,7 @@ pub mod BinaryOperators
 pub mod BlockComments
 pub mod Children
 pub mod CodePoints
+pub mod EqualViews
 pub mod Escapes
 pub mod HexValues
 pub mod ImportItem

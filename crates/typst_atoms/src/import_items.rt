@@ -24,7 +24,7 @@ impl<'a> ImportItems<'a> {
 }
 
 /// An item of an import: `a.b`, or `a.b as c`.
-#[derive(Clone, Copy)]
+#[derive(Clone, Copy, Debug, PartialEq, Eq, Hash)]
 pub enum ImportItem<'a> {
     /// An item under its own name.
     Simple(ImportItemPath<'a>),

@@ -13,7 +13,7 @@ use typst_base::{Span, SyntaxKind};
 use typst_node::{AstNode, SyntaxNode};
 
 /// What may be accessed in math: an identifier, or a field of what may be accessed.
-#[derive(Clone, Copy)]
+#[derive(Clone, Copy, Debug, PartialEq, Eq, Hash)]
 pub enum MathAccess<'a> {
     /// An identifier: `arrow`.
     MathIdent(of::MathIdent<'a>),

@@ -1,13 +1,13 @@
 -- What the kept segments of a mapper say of the positions.
-use Rattle.std.proofs.Common.{◌≡◌, ℕ, zero, suc, ◌+◌, ◌-◌, ◌<◌, ◌≤◌, true, false, List, [], ◌∷◌, ◌++◌, length, get_or, drop, refl, ap, sym, ◌∙◌, arith, subst, Some, inl, inr, length-append, leb, leb-true}
+use Rattle.std.proofs.Common.{◌≡◌, nat_lt, None, ℕ, zero, suc, ◌+◌, ◌-◌, ◌<◌, ◌≤◌, true, false, List, [], ◌∷◌, ◌++◌, length, get_or, drop, refl, ap, sym, ◌∙◌, arith, subst, Some, inl, inr, length-append, leb, leb-true}
 use Rattle.std.proofs.lemmas.Bool.Decides.{nat_tests, leb_tells}
 use Rattle.std.specs.List.Sorted.{IsNonDecreasingBy, IsPartitionPoint}
-use Rattle.std.proofs.lemmas.List.{append-nil, drop_all, get_or_append_left, get_or-append_right}
+use Rattle.std.proofs.lemmas.List.{drop_more, append-nil, drop_all, get_or_append_left, get_or-append_right}
 use Rattle.std.proofs.lemmas.List.FromFn.{length-range_with_len, get_or-range_with_len}
 use Rattle.std.proofs.lemmas.Option.{get_or_from_slice_get, slice_get_within}
 use Rattle.std.specs.List.{flat_map, slice_get}
 use Rattle.std.specs.declared.ops.Range.{Range}
-use Rattle.typst_base.specs.Mapping.{positions_of}
+use Rattle.typst_base.specs.Mapping.{positions_of, first_invalid}
 use Rattle.typst_base.specs.Segments.{ranges, running}
 use Rattle.typst_base.specs.declared.mapper.Segment.{Segment}
 
@@ -160,3 +160,29 @@ kept_ranges kept rs e = ap ranges e ∙ ranges-running 0 rs
 
 pub kept_runs : (kept : List Segment) (rs : List (Range ℕ)) → kept ≡ running 0 rs → kept ≡ running 0 (ranges kept)
 kept_runs kept rs e = e ∙ ap (running 0) (sym (kept_ranges kept rs e))
+
+-- ---- segments are valid behind a place, and so behind each place before it
+nat_lt-above : (a b : ℕ) → nat_lt a b ≡ false → b ≤ a
+nat_lt-above a b e = grind (arith, nat_tests)
+
+pub first_invalid_below : (low high : ℕ) (rs : List (Range ℕ)) → low ≤ high → first_invalid high rs ≡ None → first_invalid low rs ≡ None
+first_invalid_below low high [] le e = refl
+first_invalid_below low high (r ∷ rest) le e = grind (arith, nat_tests, e)
+
+-- behind a segment the others are valid behind as many bytes as were kept
+pub first_invalid_behind : (upto : ℕ) (r : Range ℕ) (rest : List (Range ℕ)) → first_invalid upto (r ∷ rest) ≡ None → first_invalid (upto + (r.end - r.start)) rest ≡ None
+first_invalid_behind upto r rest e =
+    elim (leb_tells (suc r.end) r.start) [
+      | inl back ↦ absurd (grind (arith, nat_tests, back, e))
+      | inr along ↦
+          elim (leb_tells (suc r.start) upto) [
+            | inl low ↦ absurd (grind (arith, nat_tests, along, low, e))
+            | inr high ↦
+                let valid : first_invalid r.end rest ≡ None = grind (arith, nat_tests, along, high, e) in
+                first_invalid_below (upto + (r.end - r.start)) r.end rest (omega (arith, along.1, high.1)) valid
+          ]
+    ]
+
+pub first_invalid_next : (upto index : ℕ) (rs : List (Range ℕ)) (d : Range ℕ) → index < length rs → first_invalid upto (drop index rs) ≡ None → first_invalid (upto + ((get_or rs index d).end - (get_or rs index d).start)) (drop (index + 1) rs) ≡ None
+first_invalid_next upto index rs d within e =
+    first_invalid_behind upto (get_or rs index d) (drop (index + 1) rs) (ap (first_invalid upto) (sym (drop_more rs index d within)) ∙ e)

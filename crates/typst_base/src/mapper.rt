@@ -66,6 +66,7 @@ impl RangeMapper {
     ///
     /// A segment that starts above its end, or below the end of the segment before it, is invalid:
     /// the first such segment is told.
+    #[tactic(auto, using(crate::proofs::MapperLemmas::first_invalid_next))]
     pub fn new(alloc: Global, segments: &[Range<usize>]) -> Result<RangeMapper, MapperError>
         ensures mapping { IfOk result (λ mapper. mapper ≡ mapping_of segments.now) }
         ensures invalid { (start end : ℕ)
@@ -82,10 +83,8 @@ impl RangeMapper {
         let Ok(mut kept) = Vec::with_capacity(alloc, segments.len()) else {
             return Err(MapperError::Memory);
         };
-        let mut last_end = 0;
         let mut upto = 0;
         for segment in segments {
-            last_end = segment.end;
             upto += segment.end - segment.start;
             let Ok(()) = kept.push(Segment {
                 start: segment.start,

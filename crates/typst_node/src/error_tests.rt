@@ -1,6 +1,7 @@
 use crate::diagnosis::Diagnosis;
 use crate::node::SyntaxNode;
 use crate::node::diagnostics::SyntaxDiagnostic;
+use crate::node::replace::ReplaceError;
 use std::alloc::Global;
 use std::test::Fail;
 use typst_base::{DiagSpanKind, FileId, Span, SpanNumber, SubRange, SyntaxKind};
@@ -269,5 +270,53 @@ fn synthesis_gives_one_span(rt: HostRuntime) -> Result<(), Fail> {
     let shown = format!(in alloc; "{tree:?}")?;
     let wanted = r#"Markup: 3 [Text: "ab", Warning: {message: "m", Text: "c"}]"#;
     assert_eq!(rt; shown.as_str(), wanted);
+    Ok(())
+}
+
+#[test]
+fn parts_tell_warnings_apart(rt: HostRuntime) -> Result<(), Fail> {
+    let alloc = rt.alloc();
+    let mut first = text(alloc, "ab")?;
+    let mut second = text(alloc, "ab")?;
+    assert!(rt; first.spanless_eq(&second));
+    assert!(rt; first.range_fits(0..1));
+    first.warn_at(alloc, 0..1, "m")?;
+    assert!(rt; second.range_fits(0..2));
+    second.warn_at(alloc, 0..2, "m")?;
+    assert!(rt; !first.spanless_eq(&second));
+    Ok(())
+}
+
+#[test]
+fn a_diagnostic_equals_its_clone(rt: HostRuntime) -> Result<(), Fail> {
+    let alloc = rt.alloc();
+    let mut node = SyntaxNode::error(alloc, "m", "#")?;
+    assert!(rt; node.can_hint());
+    node.hint(alloc, "h")?;
+    let (errors, _warnings) = node.errors_and_warnings(alloc)?;
+    let error = errors.first().ok_or("no error")?;
+    let copy = error.clone()?;
+    assert!(rt; copy == *error);
+    assert_eq!(rt; copy.message.as_str(), "m");
+    assert_eq!(rt; copy.hints.len(), 1);
+    Ok(())
+}
+
+#[test]
+fn a_detached_tree_takes_no_replacement(rt: HostRuntime) -> Result<(), Fail> {
+    let alloc = rt.alloc();
+    let children = vec![in alloc; text(alloc, "ab")?, text(alloc, "c")?]?;
+    let mut tree = SyntaxNode::inner(alloc, SyntaxKind::Markup, children)?;
+    let id = FileId::new(1).ok_or("no id")?;
+    tree.numberize(id, 2..14).ok().ok_or("refused")?;
+    tree.synthesize(Span::detached());
+    let before = tree.clone()?;
+    let other = vec![in alloc; text(alloc, "x")?]?;
+    assert!(rt; tree.is_inner() && tree.child_slice().len() == 2);
+    assert_eq!(rt;
+        tree.replace_children(alloc, 0..1, other),
+        Err(ReplaceError::Unnumberable)
+    );
+    assert!(rt; tree == before);
     Ok(())
 }

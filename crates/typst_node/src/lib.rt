@@ -27,6 +27,8 @@ pub mod diagnosis;
 #[cfg(test)]
 mod error_tests;
 mod exchange;
+#[cfg(test)]
+mod mapped_tests;
 pub mod node;
 #[cfg(test)]
 mod tests;

@@ -279,3 +279,28 @@ fn a_missing_import_item_is_simple(rt: HostRuntime) {
     assert!(rt; blank.original_name().to_untyped().is_none());
     assert!(rt; blank.bound_name().to_untyped().is_none());
 }
+
+#[test]
+fn views_without_accessors_have_their_kinds(rt: HostRuntime) {
+    assert!(rt; of::Space::placeholder().kind() == SyntaxKind::Space);
+    assert!(rt; of::Linebreak::placeholder().kind() == SyntaxKind::Linebreak);
+    assert!(rt; of::Parbreak::placeholder().kind() == SyntaxKind::Parbreak);
+    assert!(rt; of::RawDelim::placeholder().kind() == SyntaxKind::RawDelim);
+    assert!(rt; of::MathAlignPoint::placeholder().kind() == SyntaxKind::MathAlignPoint);
+    assert!(rt; of::Underscore::placeholder().kind() == SyntaxKind::Underscore);
+    assert!(rt; of::None::placeholder().kind() == SyntaxKind::None);
+    assert!(rt; of::Auto::placeholder().kind() == SyntaxKind::Auto);
+    assert!(rt; of::LoopBreak::placeholder().kind() == SyntaxKind::LoopBreak);
+    assert!(rt; of::LoopContinue::placeholder().kind() == SyntaxKind::LoopContinue);
+}
+
+#[test]
+fn an_import_item_without_children_has_placeholders(rt: HostRuntime) -> Result<(), Fail> {
+    let node = hollow(rt.alloc(), SyntaxKind::RenamedImportItem)?;
+    let item = cast::<ImportItem>(&node)?;
+    assert!(rt; item.to_untyped().is_some());
+    assert!(rt; item.path().to_untyped().is_none());
+    assert!(rt; item.original_name().to_untyped().is_none());
+    assert!(rt; item.bound_name().to_untyped().is_none());
+    Ok(())
+}

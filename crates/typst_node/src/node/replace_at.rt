@@ -136,10 +136,12 @@ impl SyntaxNode {
     {
         match path.split_first() {
             None => {
-                !self.is_inner() || range.start <= range.end && range.end <= self.child_slice().len()
+                !self.is_inner()
+                    || range.start <= range.end && range.end <= self.child_slice().len()
             }
             Some((index, rest)) => {
-                *index < self.child_slice().len() && self.child_slice()[*index].edit_fits(rest, range)
+                *index < self.child_slice().len()
+                    && self.child_slice()[*index].edit_fits(rest, range)
             }
         }
     }

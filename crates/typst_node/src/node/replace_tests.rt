@@ -312,3 +312,23 @@ fn a_refused_growth_changes_nothing(rt: HostRuntime) -> Result<(), Fail> {
     }
     Ok(())
 }
+
+#[test]
+fn a_replaced_error_is_reported_no_more(rt: HostRuntime) -> Result<(), Fail> {
+    let alloc = rt.alloc();
+    let error = SyntaxNode::error(alloc, "m", "#")?;
+    let strong = SyntaxNode::inner(alloc, SyntaxKind::Strong, vec![in alloc; error]?)?;
+    let last = SyntaxNode::leaf(alloc, SyntaxKind::Text, "c")?;
+    let mut tree = SyntaxNode::inner(alloc, SyntaxKind::Markup, vec![in alloc; strong, last]?)?;
+    number(&mut tree, 1, 2..18)?;
+    assert_eq!(rt; numbers(alloc, &tree)?.as_slice(), [3, 4, 5, 9].as_slice());
+    assert!(rt; tree.diagnosis().errors);
+    let answer = replace_at(alloc, &mut tree, &[0], 0..1, texts(alloc, &["b"])?)?;
+    assert_eq!(rt; answer, done(0..1, 1));
+    assert_eq!(rt; numbers(alloc, &tree)?.as_slice(), [3, 4, 5, 9].as_slice());
+    assert!(rt; !tree.diagnosis().errors && !tree.diagnosis().warnings);
+    assert_eq!(rt; tree.upper(), 18);
+    let strong = tree.child_slice().first().ok_or("no child")?;
+    assert_eq!(rt; strong.upper(), 8);
+    Ok(())
+}

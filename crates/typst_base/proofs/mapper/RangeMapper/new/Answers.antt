@@ -1,6 +1,7 @@
-use Rattle.std.proofs.Common.{ap}
+use Rattle.std.proofs.Common.{ap, arith}
+use Rattle.std.proofs.lemmas.Grind.{common_steps}
 use Rattle.typst_base.specs.Mapping.{mapping_of}
-use Rattle.typst_base.proofs.MapperLemmas.{kept_all, kept_ranges, kept_runs}
+use Rattle.typst_base.proofs.MapperLemmas.{first_invalid_next, kept_all, kept_ranges, kept_runs}
 use Rattle.typst_base.proofs.mapper.RangeMapper.new.Goals as goal
 
 pub invariant_of-result : goal.invariant_of-result
@@ -12,3 +13,10 @@ pub returns-clause-mapping : goal.returns-clause-mapping
 returns-clause-mapping c =
     let all = kept_all c.loop-segment.kept.items c.loop-segment.upto c.loop-segment.segment-index c.args.segments.now c.loop-segment-test.false c.loop-segment.invariant.kept in
     ap mapping_of (kept_ranges c.loop-segment.kept.items c.args.segments.now all)
+
+pub loop-segment-preserved : goal.loop-segment-preserved
+loop-segment-preserved c =
+    record {
+      kept = grind (arith, common_steps);
+      valid = first_invalid_next c.loop-segment.upto c.loop-segment.segment-index c.args.segments.now _ (omega arith) c.loop-segment.invariant.valid;
+    }

@@ -1,5 +1,6 @@
--- The segments kept so far, with those that are still to come, are all segments; none of those is invalid.
-use Rattle.std.proofs.Common.{◌≡◌, ◌≤◌, ◌++◌, drop, None}
+-- The segments kept so far, with those that are still to come, are all segments; none of those is invalid behind as
+-- many bytes as were kept.
+use Rattle.std.proofs.Common.{◌≡◌, ◌++◌, drop, None}
 use Rattle.typst_base.specs.Mapping.{first_invalid}
 use Rattle.typst_base.specs.Segments.{running}
 use Rattle.typst_base.proofs.mapper.RangeMapper.new.Given as goal
@@ -7,6 +8,5 @@ use Rattle.typst_base.proofs.mapper.RangeMapper.new.Given as goal
 abbrev pub invariant-loop-segment : goal.invariant-loop-segment
 invariant-loop-segment l = record {
   kept : l.kept.items ++ running l.upto (drop l.segment-index l.segments) ≡ running 0 l.segments;
-  valid : first_invalid l.last_end (drop l.segment-index l.segments) ≡ None;
-  fits : l.upto ≤ l.last_end;
+  valid : first_invalid l.upto (drop l.segment-index l.segments) ≡ None;
 }

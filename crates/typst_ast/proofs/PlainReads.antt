@@ -1,0 +1,204 @@
+-- What typed views read of a node, they read of its plain tree: each definition commutes with taking spans and bounds away.
+use Rattle.std.proofs.Common.{◌≡◌, ℕ, zero, suc, Bool, true, false, not, ◌&&◌, ◌||◌, cond, unwrap_or, List, [], ◌∷◌, ◌++◌, map, Option, Some, None, option_map, refl, sym, ap, ◌∙◌}
+use Rattle.std.proofs.lemmas.List.{map-append}
+use Rattle.std.specs.List.{flat_map, last_or, list_any}
+use Rattle.std.specs.Option.{option_to_list}
+use Rattle.typst_ast.specs.Alike.{IsAlike, ReadsAlike}
+use Rattle.typst_ast.specs.Bindings.{count_in, names_bound, names_of_item, names_of_pattern, names_within}
+use Rattle.typst_ast.specs.Exprs.{exprs_in, is_expr_or_space_kind, kept, markup_exprs}
+use Rattle.typst_ast.specs.Kinds.{is_arg_kind, is_destructuring_item_kind, is_pattern_kind}
+use Rattle.typst_ast.specs.Lists.{before_last}
+use Rattle.typst_ast.specs.MathArgs.{content_items, is_behind_hash, is_item, item_alone, items_in}
+use Rattle.typst_ast.specs.Operators.{binary_operator_at, binary_operator_in, unary_operator_in}
+use Rattle.typst_atoms.specs.Children.{all_children, all_in, behind_first, children_in, first_child, first_of, last_child, last_of}
+use Rattle.typst_atoms.specs.Kinds.{is_kind}
+use Rattle.typst_atoms.specs.Texts.{text_in}
+use Rattle.typst_atoms.specs.UnaryOperators.{unary_operator_of}
+use Rattle.typst_base.specs.KindClasses.{is_stmt_kind}
+use Rattle.typst_base.specs.declared.kind.SyntaxKind.{SyntaxKind}
+use Rattle.typst_base.specs.declared.kind.SyntaxKind.TheVariants as kinds
+use Rattle.typst_node.proofs.Plain.{count_plain, text_unbounded}
+use Rattle.typst_node.specs.Plain.{plain, plain_forest, plain_label, unbounded}
+use Rattle.typst_node.specs.Tree.{AsError, AsInner, AsLeaf, Content, Forest, none, tree, Tree, kind_of, trees}
+use Rattle.typst_node.specs.Views.{Class, kind_or, node_kind}
+
+kind_unbounded : (c : Content) → kind_of (unbounded c) ≡ kind_of c
+kind_unbounded (AsLeaf kind text) = refl
+kind_unbounded (AsError text message hints) = refl
+kind_unbounded (AsInner kind bound) = refl
+
+kind_plain : (t : Tree) → node_kind (plain t) ≡ node_kind t
+kind_plain t = kind_unbounded t.label.content
+
+trees_plain : (f : Forest) → trees (plain_forest f) ≡ map plain (trees f)
+trees_plain none = refl
+trees_plain (tree l c r) = ap (λ (ts : List Tree). record { label = plain_label l; children = plain_forest c } ∷ ts) (trees_plain r)
+
+children_plain : (o : Option Tree) → children_in (option_map plain o) ≡ map plain (children_in o)
+children_plain None = refl
+children_plain (Some t) = trees_plain t.children
+
+kind_or_plain : (blank : SyntaxKind) (o : Option Tree) → kind_or blank (option_map plain o) ≡ kind_or blank o
+kind_or_plain blank None = refl
+kind_or_plain blank (Some t) = kind_plain t
+
+text_in_plain : (o : Option Tree) → text_in (option_map plain o) ≡ text_in o
+text_in_plain None = refl
+text_in_plain (Some t) = text_unbounded t.label.content
+
+-- choices between lists
+cond_lists : (v : Bool) (ts us : List Tree) → cond v (map plain ts) (map plain us) ≡ map plain (cond v ts us)
+cond_lists true ts us = refl
+cond_lists false ts us = refl
+
+-- parts of lists
+first_of_plain : (ts : List Tree) → first_of (map plain ts) ≡ option_map plain (first_of ts)
+first_of_plain [] = refl
+first_of_plain (t ∷ ts) = refl
+
+last_or_plain : (o : Option Tree) (ts : List Tree) → last_or (option_map plain o) (map plain ts) ≡ option_map plain (last_or o ts)
+last_or_plain o [] = refl
+last_or_plain o (t ∷ ts) = last_or_plain (Some t) ts
+
+last_of_plain : (ts : List Tree) → last_of (map plain ts) ≡ option_map plain (last_of ts)
+last_of_plain ts = last_or_plain None ts
+
+option_list_plain : (o : Option Tree) → option_to_list (option_map plain o) ≡ map plain (option_to_list o)
+option_list_plain None = refl
+option_list_plain (Some t) = refl
+
+all_in_plain : (c : Class) (ts : List Tree) → all_in c (map plain ts) ≡ map plain (all_in c ts)
+all_in_plain c [] = refl
+all_in_plain c (t ∷ ts) =
+    ap (λ (k : SyntaxKind). cond (c k) (plain t ∷ all_in c (map plain ts)) (all_in c (map plain ts))) (kind_plain t)
+    ∙ ap (λ (us : List Tree). cond (c (node_kind t)) (plain t ∷ us) us) (all_in_plain c ts)
+    ∙ cond_lists (c (node_kind t)) (t ∷ all_in c ts) (all_in c ts)
+
+behind_first_plain : (c : Class) (ts : List Tree) → behind_first c (map plain ts) ≡ map plain (behind_first c ts)
+behind_first_plain c [] = refl
+behind_first_plain c (t ∷ ts) =
+    ap (λ (k : SyntaxKind). cond (c k) (map plain ts) (behind_first c (map plain ts))) (kind_plain t)
+    ∙ ap (λ (us : List Tree). cond (c (node_kind t)) (map plain ts) us) (behind_first_plain c ts)
+    ∙ cond_lists (c (node_kind t)) ts (behind_first c ts)
+
+any_plain : (c : Class) (ts : List Tree) → list_any (λ s. c (node_kind s)) (map plain ts) ≡ list_any (λ s. c (node_kind s)) ts
+any_plain c [] = refl
+any_plain c (t ∷ ts) = λ i. c (kind_plain t i) || any_plain c ts i
+
+before_last_plain : (c : Class) (ts : List Tree) → before_last c (map plain ts) ≡ map plain (before_last c ts)
+before_last_plain c [] = refl
+before_last_plain c (t ∷ ts) =
+    (λ i. cond (any_plain c ts i) (plain t ∷ before_last_plain c ts i) [])
+    ∙ cond_lists (list_any (λ s. c (node_kind s)) ts) (t ∷ before_last c ts) []
+
+-- the children of a class
+all_plain : (c : Class) (o : Option Tree) → all_children c (option_map plain o) ≡ map plain (all_children c o)
+all_plain c o = ap (all_in c) (children_plain o) ∙ all_in_plain c (children_in o)
+
+first_plain : (c : Class) (o : Option Tree) → first_child c (option_map plain o) ≡ option_map plain (first_child c o)
+first_plain c o = ap first_of (all_plain c o) ∙ first_of_plain (all_children c o)
+
+last_plain : (c : Class) (o : Option Tree) → last_child c (option_map plain o) ≡ option_map plain (last_child c o)
+last_plain c o = ap last_of (all_plain c o) ∙ last_of_plain (all_children c o)
+
+-- the expressions of markup, and the items of arguments in math
+kept_plain : (b : Bool) (t : Tree) → kept b (plain t) ≡ map plain (kept b t)
+kept_plain b t =
+    ap (λ (k : SyntaxKind). cond (is_expr_or_space_kind k && not (b && is_kind kinds.Space k)) (plain t ∷ []) []) (kind_plain t)
+    ∙ cond_lists (is_expr_or_space_kind (node_kind t) && not (b && is_kind kinds.Space (node_kind t))) (t ∷ []) []
+
+exprs_plain : (d b : Bool) (ts : List Tree) → exprs_in d b (map plain ts) ≡ map plain (exprs_in d b ts)
+exprs_plain d b [] = refl
+exprs_plain d b (t ∷ ts) =
+    (λ i. kept_plain b t i ++ exprs_in d (d && is_stmt_kind (kind_plain t i)) (map plain ts))
+    ∙ ap (λ (us : List Tree). map plain (kept b t) ++ us) (exprs_plain d (d && is_stmt_kind (node_kind t)) ts)
+    ∙ sym (map-append plain (kept b t) (exprs_in d (d && is_stmt_kind (node_kind t)) ts))
+
+item_alone_plain : (b : Bool) (t : Tree) → item_alone b (plain t) ≡ map plain (item_alone b t)
+item_alone_plain b t =
+    ap (λ (k : SyntaxKind). cond (is_item b k) (plain t ∷ []) []) (kind_plain t) ∙ cond_lists (is_item b (node_kind t)) (t ∷ []) []
+
+items_plain : (b : Bool) (ts : List Tree) → items_in b (map plain ts) ≡ map plain (items_in b ts)
+items_plain b [] = refl
+items_plain b (t ∷ ts) =
+    (λ i. item_alone_plain b t i ++ items_in (cond (is_arg_kind (kind_plain t i)) b (is_kind kinds.Hash (kind_plain t i))) (map plain ts))
+    ∙ ap (λ (us : List Tree). map plain (item_alone b t) ++ us) (items_plain (is_behind_hash b t) ts)
+    ∙ sym (map-append plain (item_alone b t) (items_in (is_behind_hash b t) ts))
+
+-- the operators
+unary_plain : (ts : List Tree) → unary_operator_in (map plain ts) ≡ unary_operator_in ts
+unary_plain [] = refl
+unary_plain (t ∷ ts) = λ i. unwrap_or (unary_operator_of (kind_plain t i)) (unary_plain ts i)
+
+binary_plain : (b : Bool) (ts : List Tree) → binary_operator_in b (map plain ts) ≡ binary_operator_in b ts
+binary_plain b [] = refl
+binary_plain b (t ∷ ts) =
+    (λ i. unwrap_or (binary_operator_at b (kind_plain t i)) (binary_operator_in (b || is_kind kinds.Not (kind_plain t i)) (map plain ts)))
+    ∙ ap (unwrap_or (binary_operator_at b (node_kind t))) (binary_plain (b || is_kind kinds.Not (node_kind t)) ts)
+
+-- the names that patterns bind
+module _ (f : Option Tree → List Tree) (same : (o : Option Tree) → f (option_map plain o) ≡ map plain (f o)) where
+  item_plain : (t : Tree) → names_of_item f (plain t) ≡ map plain (names_of_item f t)
+  item_plain t =
+      (λ i. cond (is_kind kinds.Named (kind_plain t i)) (f (last_plain is_pattern_kind (Some t) i))
+      (cond (is_kind kinds.Spread (kind_plain t i)) (option_to_list (first_plain (is_kind kinds.Ident) (Some t) i)) (same (Some t) i)))
+      ∙ (λ i. cond (is_kind kinds.Named (node_kind t)) (same (last_child is_pattern_kind (Some t)) i)
+      (cond (is_kind kinds.Spread (node_kind t)) (option_list_plain (first_child (is_kind kinds.Ident) (Some t)) i) (map plain (f (Some t)))))
+      ∙ ap (λ (us : List Tree). cond (is_kind kinds.Named (node_kind t)) (map plain (f (last_child is_pattern_kind (Some t)))) us)
+      (cond_lists (is_kind kinds.Spread (node_kind t)) (option_to_list (first_child (is_kind kinds.Ident) (Some t))) (f (Some t)))
+      ∙ cond_lists (is_kind kinds.Named (node_kind t)) (f (last_child is_pattern_kind (Some t)))
+      (cond (is_kind kinds.Spread (node_kind t)) (option_to_list (first_child (is_kind kinds.Ident) (Some t))) (f (Some t)))
+
+  parts_plain : (ts : List Tree) → flat_map (names_of_item f) (map plain ts) ≡ map plain (flat_map (names_of_item f) ts)
+  parts_plain [] = refl
+  parts_plain (t ∷ ts) = (λ i. item_plain t i ++ parts_plain ts i) ∙ sym (map-append plain (names_of_item f t) (flat_map (names_of_item f) ts))
+
+  pattern_plain : (o : Option Tree) → names_of_pattern f (option_map plain o) ≡ map plain (names_of_pattern f o)
+  pattern_plain None = refl
+  pattern_plain (Some t) =
+      let parts = flat_map (names_of_item f) (all_children is_destructuring_item_kind (Some t)) in
+      let group = f (first_child is_pattern_kind (Some t)) in
+      (λ i. cond (is_kind kinds.Ident (kind_plain t i)) (plain t ∷ [])
+      (cond (is_kind kinds.Parenthesized (kind_plain t i)) (f (first_plain is_pattern_kind (Some t) i))
+      (cond (is_kind kinds.Destructuring (kind_plain t i)) (flat_map (names_of_item f) (all_plain is_destructuring_item_kind (Some t) i)) [])))
+      ∙ (λ i. cond (is_kind kinds.Ident (node_kind t)) (plain t ∷ [])
+      (cond (is_kind kinds.Parenthesized (node_kind t)) (same (first_child is_pattern_kind (Some t)) i)
+      (cond (is_kind kinds.Destructuring (node_kind t)) (parts_plain (all_children is_destructuring_item_kind (Some t)) i) [])))
+      ∙ ap (λ (us : List Tree). cond (is_kind kinds.Ident (node_kind t)) (plain t ∷ []) (cond (is_kind kinds.Parenthesized (node_kind t)) (map plain group) us))
+      (cond_lists (is_kind kinds.Destructuring (node_kind t)) parts [])
+      ∙ ap (λ (us : List Tree). cond (is_kind kinds.Ident (node_kind t)) (plain t ∷ []) us)
+      (cond_lists (is_kind kinds.Parenthesized (node_kind t)) group (cond (is_kind kinds.Destructuring (node_kind t)) parts []))
+      ∙ cond_lists (is_kind kinds.Ident (node_kind t)) (t ∷ [])
+      (cond (is_kind kinds.Parenthesized (node_kind t)) group (cond (is_kind kinds.Destructuring (node_kind t)) parts []))
+
+within_plain : (d : ℕ) (o : Option Tree) → names_within d (option_map plain o) ≡ map plain (names_within d o)
+within_plain zero o = refl
+within_plain (suc d) o = pattern_plain (names_within d) (within_plain d) o
+
+count_in_plain : (o : Option Tree) → count_in (option_map plain o) ≡ count_in o
+count_in_plain None = refl
+count_in_plain (Some t) = count_plain t
+
+names_plain : (o : Option Tree) → names_bound (option_map plain o) ≡ map plain (names_bound o)
+unfolding names_bound
+names_plain o = ap (λ (d : ℕ). names_within d (option_map plain o)) (count_in_plain o) ∙ within_plain (count_in o) o
+
+-- so of nodes that are alike they read what is alike
+pub reads_alike : (a b : Option Tree) → IsAlike a b → ReadsAlike a b
+reads_alike a b e =
+    let children : map plain (children_in a) ≡ map plain (children_in b) = sym (children_plain a) ∙ ap children_in e ∙ children_plain b in
+    record {
+      text = sym (text_in_plain a) ∙ ap text_in e ∙ text_in_plain b;
+      kind = λ blank. sym (kind_or_plain blank a) ∙ ap (kind_or blank) e ∙ kind_or_plain blank b;
+      children = children;
+      first = λ c. sym (first_plain c a) ∙ ap (first_child c) e ∙ first_plain c b;
+      last = λ c. sym (last_plain c a) ∙ ap (last_child c) e ∙ last_plain c b;
+      all = λ c. sym (all_plain c a) ∙ ap (all_children c) e ∙ all_plain c b;
+      behind = λ c. sym (behind_first_plain c (children_in a)) ∙ ap (behind_first c) children ∙ behind_first_plain c (children_in b);
+      before = λ c. sym (before_last_plain c (children_in a)) ∙ ap (before_last c) children ∙ before_last_plain c (children_in b);
+      exprs = sym (exprs_plain true false (children_in a)) ∙ ap markup_exprs children ∙ exprs_plain true false (children_in b);
+      items = sym (items_plain false (children_in a)) ∙ ap content_items children ∙ items_plain false (children_in b);
+      unary = sym (unary_plain (children_in a)) ∙ ap unary_operator_in children ∙ unary_plain (children_in b);
+      binary = sym (binary_plain false (children_in a)) ∙ ap (binary_operator_in false) children ∙ binary_plain false (children_in b);
+      names = sym (names_plain a) ∙ ap names_bound e ∙ names_plain b;
+    }

@@ -1,0 +1,53 @@
+//! The file stems of paths.
+ghost use Rattle.std.specs.Prelude.{◌≡◌, cond, Some};
+ghost use Rattle.std.specs.Option.{option_copied};
+ghost use Rattle.typst_ast.specs.Paths.{is_part, last_part, IsFileStemOf, IsStemOf};
+
+// The part, if it counts, else the one that counted before it.
+fn part_or<'a>(part: &'a str, earlier: Option<&'a str>) -> Option<&'a str>
+    ensures { option_copied result ≡ cond (is_part part.now) (Some part.now) (option_copied earlier.entry) }
+{
+    if part.is_empty() || part == "." {
+        earlier
+    } else {
+        Some(part)
+    }
+}
+
+// The last part of the path that counts.
+fn last_part(path: &str) -> Option<&str>
+    ensures { option_copied result ≡ last_part path.now }
+{
+    let mut last = None;
+    let mut rest = path;
+    while let Some((part, more)) = rest.split_once('/') {
+        last = part_or(part, last);
+        rest = more;
+    }
+    part_or(rest, last)
+}
+
+// The part without what its last dot begins.
+fn stem_of(part: &str) -> &str
+    ensures { IsStemOf part.now result.now }
+{
+    match part.rsplit_once('.') {
+        Some((stem, _)) => { if stem.is_empty() { part } else { stem } }
+        None => part,
+    }
+}
+
+/// The file stem of a path whose parts are separated by slashes: `b` of `a/b.typ`.
+///
+/// Empty parts and parts `.` don't count. There is no stem where no part is left or the last one is `..`. Of several
+/// dots the last one ends the stem, as `a.tar` of `a.tar.gz`, but a dot at the front doesn't, as `.x` of `.x`.
+pub fn file_stem(path: &str) -> Option<&str>
+    ensures { IsFileStemOf path.now (option_copied result) }
+{
+    let part = last_part(path)?;
+    if part == ".." {
+        None
+    } else {
+        Some(stem_of(part))
+    }
+}
