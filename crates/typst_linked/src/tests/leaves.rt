@@ -1,4 +1,5 @@
 // Walks from leaf to leaf.
+use crate::cursor::Side;
 use crate::node::LinkedNode;
 use crate::tests::{inner, leaf, text_around_space};
 use std::test::Fail;
@@ -40,6 +41,8 @@ fn a_sibling_of_trivia_kind_is_passed_over_whole(rt: HostRuntime) -> Result<(), 
         space.leftmost_leaf(alloc)?.ok_or("no leaf")?.leaf_text(),
         "b"
     );
+    let below = root.leaf_at(alloc, 1, Side::After)?.ok_or("no leaf")?;
+    assert_eq!(rt; below.leaf_text(), "b");
     Ok(())
 }
 
