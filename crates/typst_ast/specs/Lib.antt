@@ -7,6 +7,7 @@ pub mod Closures
 pub mod DestructuringItem
 pub mod DictItem
 pub mod EnumNumbers
+pub mod EqualViews
 pub mod Equations
 pub mod Expr
 pub mod Exprs

@@ -7,7 +7,7 @@ use typst_base::{Span, SyntaxKind};
 use typst_node::{AstNode, SyntaxNode, span_of};
 
 /// An argument of a function call.
-#[derive(Clone, Copy)]
+#[derive(Clone, Copy, Debug, PartialEq, Eq, Hash)]
 pub enum Arg<'a> {
     /// A positional argument: `12`.
     Pos(Expr<'a>),

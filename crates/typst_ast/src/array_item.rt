@@ -7,7 +7,7 @@ use typst_base::{Span, SyntaxKind};
 use typst_node::{AstNode, SyntaxNode, span_of};
 
 /// An item of an array.
-#[derive(Clone, Copy)]
+#[derive(Clone, Copy, Debug, PartialEq, Eq, Hash)]
 pub enum ArrayItem<'a> {
     /// A bare expression: `12`.
     Pos(Expr<'a>),

@@ -7,7 +7,7 @@ use typst_base::{Span, SyntaxKind};
 use typst_node::{AstNode, SyntaxNode, span_of};
 
 /// An item of a destructuring pattern.
-#[derive(Clone, Copy)]
+#[derive(Clone, Copy, Debug, PartialEq, Eq, Hash)]
 pub enum DestructuringItem<'a> {
     /// A sub-pattern: `x`.
     Pattern(Pattern<'a>),

@@ -6,7 +6,7 @@ use typst_base::{Span, SyntaxKind};
 use typst_node::{AstNode, SyntaxNode, span_of};
 
 /// An item of a dictionary.
-#[derive(Clone, Copy)]
+#[derive(Clone, Copy, Debug, PartialEq, Eq, Hash)]
 pub enum DictItem<'a> {
     /// A named pair: `thickness: 3pt`.
     Named(Named<'a>),

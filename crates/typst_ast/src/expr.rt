@@ -9,7 +9,7 @@ use typst_node::{AstNode, SyntaxNode, span_of};
 /// An expression in markup, math or code.
 ///
 /// Each variant holds the view of the kind of its own name.
-#[derive(Clone, Copy)]
+#[derive(Clone, Copy, Debug, PartialEq, Eq, Hash)]
 pub enum Expr<'a> {
     /// Plain text without markup.
     Text(of::Text<'a>),

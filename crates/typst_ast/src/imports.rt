@@ -2,7 +2,7 @@
 use crate::views::ImportItems;
 
 /// What an import brings in besides the module.
-#[derive(Clone, Copy)]
+#[derive(Clone, Copy, Debug, PartialEq, Eq, Hash)]
 pub enum Imports<'a> {
     /// Everything: `*`.
     Wildcard,

@@ -16,7 +16,7 @@ use typst_base::SyntaxKind;
 use typst_node::AstNode;
 
 /// What a let binding binds.
-#[derive(Clone, Copy)]
+#[derive(Clone, Copy, Debug, PartialEq, Eq, Hash)]
 pub enum LetBindingKind<'a> {
     /// The names of a pattern: `let x = 1`, `let (x, y) = z`.
     Normal(Pattern<'a>),

@@ -19,7 +19,7 @@ use typst_base::SyntaxKind;
 use typst_node::{AstNode, SyntaxNode};
 
 /// A part of the arguments of a function call in math.
-#[derive(Clone, Copy)]
+#[derive(Clone, Copy, Debug, PartialEq, Eq, Hash)]
 pub enum MathArgItem<'a> {
     /// An argument.
     Arg(Arg<'a>),
@@ -36,7 +36,7 @@ pub enum MathArgItem<'a> {
 }
 
 /// An argument of a function call in math.
-#[derive(Clone, Copy)]
+#[derive(Clone, Copy, Debug, PartialEq, Eq, Hash)]
 pub struct MathArg<'a> {
     /// The argument.
     pub arg: Arg<'a>,

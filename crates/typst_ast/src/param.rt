@@ -7,7 +7,7 @@ use typst_base::{Span, SyntaxKind};
 use typst_node::{AstNode, SyntaxNode, span_of};
 
 /// A parameter of a closure.
-#[derive(Clone, Copy)]
+#[derive(Clone, Copy, Debug, PartialEq, Eq, Hash)]
 pub enum Param<'a> {
     /// A positional parameter: `x`.
     Pos(Pattern<'a>),

@@ -7,7 +7,7 @@ use typst_base::{Span, SyntaxKind};
 use typst_node::{AstNode, SyntaxNode, span_of};
 
 /// What a binding binds: a single name, or parts of a value.
-#[derive(Clone, Copy)]
+#[derive(Clone, Copy, Debug, PartialEq, Eq, Hash)]
 pub enum Pattern<'a> {
     /// A single expression: `x`.
     Normal(Expr<'a>),

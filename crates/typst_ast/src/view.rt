@@ -1,5 +1,5 @@
 //! The generic view of nodes of one kind.
-ghost use Rattle.std.specs.Prelude.{◌≡◌, true, false, IsTrue, Some, refl};
+ghost use Rattle.std.specs.Prelude.{◌≡◌, true, false, IsTrue, Some, refl, ⊤};
 ghost use Rattle.std.specs.Option.{option_copied};
 ghost use Rattle.typst_atoms.specs.Kinds.{is_kind};
 ghost use Rattle.typst_atoms.specs.OfKind.{is_missing_or_of_kind, kind_from_test};
@@ -14,14 +14,20 @@ use typst_base::{Span, SyntaxKind};
 use typst_node::{AstNode, SyntaxNode, span_of};
 
 /// A view of a node of the marker's kind, or the kind's placeholder.
+///
+/// Views are equal where their nodes are, spans and bounds included; placeholders of one type are equal.
+#[derive_where(PartialEq, Eq, Hash, Debug)]
 pub struct View<'a, M: Kind> {
     node: Option<&'a SyntaxNode>,
+    #[derive_where(skip)]
     kind: PhantomData<M>,
     ghost of_kind: { IsTrue (is_missing_or_of_kind M.KIND node) },
 }
 
 impl<'a, M: Kind> Clone for View<'a, M> {
     ghost is_clone = { λ view copy. copy ≡ view };
+
+    ghost is_infallible = { λ _. ⊤ };
 
     fn clone(&self) -> Result<Self, AllocError> {
         Ok(*self)
