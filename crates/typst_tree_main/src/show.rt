@@ -18,7 +18,7 @@ fn show_below<W: Write>(out: &mut W, node: &SyntaxNode, level: u64) -> Result<()
     ensures { IfErr result IsWriteFault }
 {
     show_line(out, node, level)?;
-    for child in node.children() {
+    for child in node.child_slice() {
         show_below(out, child, level.saturating_add(1))?;
     }
     Ok(())
