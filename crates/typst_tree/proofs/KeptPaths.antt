@@ -1,8 +1,7 @@
 -- What a run keeps at the paths that go on.
-use Rattle.std.proofs.Common.{◌≡◌, ℕ, List, [], ◌∷◌, refl, sym, ◌∙◌, ap, subst}
+use Rattle.std.proofs.Common.{◌≡◌, ℕ, List, [], ◌∷◌, ◌∙◌, ap}
 use Rattle.typst_node.specs.Tree.{Tree}
 use Rattle.typst_node.specs.Paths.{IsPath, tree_at}
-use Rattle.typst_node.specs.Outside.{place_before}
 use Rattle.typst_tree.specs.declared.session.Request.{Request}
 use Rattle.typst_tree.specs.declared.session.Request.TheVariants.{Replace, Find}
 use Rattle.typst_tree.specs.declared.session.Reply.{Reply}

@@ -4,8 +4,8 @@ use Rattle.std.specs.List.{splice, take-map}
 use Rattle.std.proofs.lemmas.List.{map-append}
 use Rattle.std.proofs.Math.ListN.{get_or-map}
 use Rattle.typst_node.specs.Tree.{Label, Tree, trees, forest}
-use Rattle.typst_node.specs.Plain.{plain, plain_label, plain_forest}
-use Rattle.typst_node.specs.Paths.{no_tree, tree_at, with_children}
+use Rattle.typst_node.specs.Plain.{plain, plain_label}
+use Rattle.typst_node.specs.Paths.{no_tree}
 use Rattle.typst_node.specs.PlainEdit.{edited_at}
 use Rattle.typst_node.proofs.Plain.{forest_plain}
 use Rattle.typst_node.proofs.PathsAt.{kids_plain}

@@ -1,6 +1,6 @@
 -- Why a replacement in a numbered tree is refused.
-use Rattle.std.proofs.Common.{◌≡◌, ℕ, zero, suc, ◌-◌, ◌<◌, ◌≤◌, ◌^◌, ◌⊎◌, inl, inr, List, [], ◌∷◌, length, get_or, refl, arith}
-use Rattle.std.specs.Prelude.{◌↔◌, Result, Ok, Err}
+use Rattle.std.proofs.Common.{◌≡◌, ℕ, ◌-◌, ◌<◌, ◌≤◌, ◌^◌, ◌⊎◌, inl, inr, List, [], ◌∷◌, length, get_or, refl, arith}
+use Rattle.std.specs.Prelude.{◌↔◌, Result, Err}
 use Rattle.std.proofs.lemmas.Bool.{cases_lt}
 use Rattle.typst_node.specs.Tree.{Tree, trees, IsInner}
 use Rattle.typst_node.specs.Text.{text}

@@ -1,4 +1,3 @@
-use Rattle.std.proofs.Common.{◌≡◌}
 use Rattle.typst_node.specs.Paths.{tree_at}
 use Rattle.typst_tree.proofs.KeptPaths.{kept_same}
 use Rattle.typst_tree.proofs.OneNumber.{found_by_label, still_numbered}
