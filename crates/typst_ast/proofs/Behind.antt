@@ -1,5 +1,5 @@
 -- The second and the third of a class, by what stands behind the first.
-use Rattle.std.proofs.Common.{◌≡◌, Bool, true, false, cond, List, [], ◌∷◌, refl, sym, ap, ◌∙◌}
+use Rattle.std.proofs.Common.{◌≡◌, true, false, cond, List, [], ◌∷◌, refl}
 use Rattle.typst_ast.specs.Lists.{third_of}
 use Rattle.typst_atoms.specs.Children.{all_in, behind_first, first_of, second_of}
 use Rattle.typst_node.specs.Tree.{Tree}

@@ -1,18 +1,17 @@
 -- What a pattern binds is told by the rule for patterns: as many levels as there are nodes are enough.
-use Rattle.std.proofs.Common.{◌≡◌, ◌≤◌, ◌<◌, ℕ, zero, suc, Bool, true, false, cond, List, [], ◌∷◌, ◌++◌, length, map, filter, Option, Some, None, refl, sym, ap, ◌∙◌, arith, length-append, append-nil, append_assoc}
+use Rattle.std.proofs.Common.{◌≡◌, ◌≤◌, ◌<◌, ℕ, zero, suc, Bool, true, false, cond, List, [], ◌∷◌, ◌++◌, map, filter, Option, Some, None, refl, sym, ap, ◌∙◌, arith, append_assoc}
 use Rattle.std.proofs.lemmas.List.{map-append}
 use Rattle.std.specs.List.{flat_map, last_or}
-use Rattle.std.specs.Option.{option_to_list}
 use Rattle.typst_ast.specs.Bindings.{names_of_item, names_of_items, names_of_pattern, names_within, count_in, names_bound}
 use Rattle.typst_ast.specs.Kinds.{is_destructuring_item_kind, is_pattern_kind}
-use Rattle.typst_atoms.specs.Children.{all_in, all_children, children_in, first_child, first_of, last_child, last_of}
+use Rattle.typst_atoms.specs.Children.{all_in, all_children, children_in, first_child, first_of, last_child}
 use Rattle.typst_atoms.specs.Kinds.{is_kind}
 use Rattle.typst_base.specs.contracts.kind.SyntaxKind.{the_type}
 use Rattle.typst_base.specs.declared.kind.SyntaxKind.{SyntaxKind}
 use Rattle.typst_base.specs.declared.kind.SyntaxKind.TheVariants as kinds
 use Rattle.typst_node.proofs.Trees.{count_of_all-cons, count_of_trees}
 use Rattle.typst_node.specs.Count.{count, count_of_all}
-use Rattle.typst_node.specs.Tree.{Tree, trees}
+use Rattle.typst_node.specs.Tree.{Tree}
 use Rattle.typst_node.specs.Views.{Class, node_kind}
 use denote.Enum.Bare.{false_same}
 

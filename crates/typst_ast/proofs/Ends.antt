@@ -1,5 +1,5 @@
 -- A list with one element more at its end.
-use Rattle.std.proofs.Common.{◌≡◌, Bool, true, false, not, ◌||◌, cond, List, [], ◌∷◌, ◌++◌, filter, Option, Some, refl, sym, ap, ◌∙◌, append-nil}
+use Rattle.std.proofs.Common.{◌≡◌, Bool, true, false, not, ◌||◌, cond, List, [], ◌∷◌, ◌++◌, Option, Some, refl, sym, ap, ◌∙◌, append-nil}
 use Rattle.std.specs.List.{last_or, list_any}
 use Rattle.typst_ast.specs.Lists.{all_but_last, before_last, last_significant}
 use Rattle.typst_atoms.specs.Children.{all_in, last_of}

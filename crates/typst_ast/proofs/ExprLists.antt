@@ -1,5 +1,5 @@
 -- The expressions of a list of nodes that is read from its end.
-use Rattle.std.proofs.Common.{◌≡◌, ◌<◌, Bool, true, false, not, ◌&&◌, ◌||◌, cond, map, Option, List, [], ◌∷◌, ◌++◌, length, filter, refl, sym, ap, ◌∙◌, append-nil, append_assoc, length-append, arith}
+use Rattle.std.proofs.Common.{◌≡◌, ◌<◌, Bool, true, false, ◌&&◌, cond, map, Option, List, [], ◌∷◌, ◌++◌, length, refl, sym, ap, ◌∙◌, append-nil, append_assoc, length-append, arith}
 use Rattle.std.proofs.lemmas.List.{map-append, length-map}
 use Rattle.typst_ast.specs.Exprs.{kept, exprs_in, is_expr_or_space_kind}
 use Rattle.typst_ast.specs.StmtEnds.{ends_in_stmt}

@@ -1,5 +1,5 @@
 -- What a clause sees of an `Arg`.
-use Rattle.std.specs.Prelude.{Option, IfSome, Bool, true, ◌≡◌}
+use Rattle.std.specs.Prelude.{Option, IfSome, true, ◌≡◌}
 use Rattle.typst_ast.specs.Expr.{expr_node, expr_kind, expr_kind_is_node_kind}
 use Rattle.typst_ast.specs.View.{node_of}
 use Rattle.typst_ast.specs.declared.arg.Arg.{Arg}
@@ -8,7 +8,7 @@ use Rattle.typst_atoms.specs.OfKind.{kind_from_test}
 use Rattle.typst_base.specs.declared.kind.SyntaxKind.{SyntaxKind}
 use Rattle.typst_base.specs.declared.kind.SyntaxKind.TheVariants as kinds
 use Rattle.typst_node.specs.Tree.{Tree}
-use Rattle.typst_node.specs.Views.{node_kind, IsViewOf, IsOptionalViewOf}
+use Rattle.typst_node.specs.Views.{node_kind, IsViewOf}
 
 -- the node that it views; none for a placeholder
 abbrev pub arg_node : Arg → Option Tree

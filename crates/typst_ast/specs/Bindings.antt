@@ -2,7 +2,6 @@
 use Rattle.std.specs.Prelude.{ℕ, zero, suc, cond, map, List, [], ◌∷◌, Option, Some, None}
 use Rattle.std.specs.List.{flat_map}
 use Rattle.std.specs.Option.{option_to_list}
-use Rattle.typst_ast.specs.Expr.{expr_node}
 use Rattle.typst_ast.specs.Kinds.{is_destructuring_item_kind, is_pattern_kind}
 use Rattle.typst_ast.specs.View.{node_of}
 use Rattle.typst_ast.specs.declared.expr.Expr.{Expr}

@@ -1,5 +1,5 @@
 -- What a clause sees of an `Expr`.
-use Rattle.std.specs.Prelude.{Option, IfSome, Bool, true, ◌≡◌}
+use Rattle.std.specs.Prelude.{Option, IfSome, true, ◌≡◌}
 use Rattle.typst_ast.specs.View.{node_of}
 use Rattle.typst_ast.specs.declared.expr.Expr.{Expr}
 use Rattle.typst_ast.specs.declared.expr.Expr.TheVariants.{Text, Space, Linebreak, Parbreak, Escape, Shorthand, SmartQuote, Strong, Emph, Raw, Link, Label, Ref, Heading, ListItem, EnumItem, TermItem, Equation, Math, MathText, MathIdent, MathFieldAccess, MathShorthand, MathAlignPoint, MathCall, MathDelimited, MathAttach, MathPrimes, MathFrac, MathRoot, Ident, None as NoneKind, Auto, Bool as BoolKind, Int, Float, Numeric, Str, CodeBlock, ContentBlock, Parenthesized, Array, Dict, Unary, Binary, FieldAccess, FuncCall, Closure, LetBinding, DestructAssignment, SetRule, ShowRule, Contextual, Conditional, WhileLoop, ForLoop, ModuleImport, ModuleInclude, LoopBreak, LoopContinue, FuncReturn}

@@ -1,5 +1,5 @@
 -- What a clause sees of a `MathArgItem` and of a `MathArg`.
-use Rattle.std.specs.Prelude.{ℕ, Bool, true, ◌==◌, Option, Some}
+use Rattle.std.specs.Prelude.{Bool, true, ◌==◌, Option, Some}
 use Rattle.typst_ast.specs.Arg.{arg_node, arg_kind}
 use Rattle.typst_ast.specs.Kinds.{is_arg_kind}
 use Rattle.typst_ast.specs.declared.math_args.MathArg.{MathArg}

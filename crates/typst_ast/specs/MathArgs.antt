@@ -1,5 +1,5 @@
 -- The items and the arguments of a function call in math.
-use Rattle.std.specs.Prelude.{Bool, true, false, not, cond, map, Option, Some, List, [], ◌∷◌, ◌++◌, ◌||◌}
+use Rattle.std.specs.Prelude.{Bool, false, not, cond, map, Option, Some, List, [], ◌∷◌, ◌++◌, ◌||◌}
 use Rattle.typst_ast.specs.Kinds.{is_arg_kind}
 use Rattle.typst_ast.specs.declared.math_args.MathArgItems.{MathArgItems}
 use Rattle.typst_ast.specs.declared.math_args.MathArgList.{MathArgList}

@@ -10,7 +10,7 @@ use Rattle.typst_atoms.specs.View.{node_of as atom_node}
 use Rattle.typst_base.specs.declared.kind.SyntaxKind.{SyntaxKind}
 use Rattle.typst_base.specs.declared.kind.SyntaxKind.TheVariants as kinds
 use Rattle.typst_node.specs.Tree.{Tree}
-use Rattle.typst_node.specs.Views.{node_kind, IsViewOf, IsOptionalViewOf}
+use Rattle.typst_node.specs.Views.{node_kind, IsViewOf}
 
 -- the node that it views; none for a placeholder
 abbrev pub pattern_node : Pattern → Option Tree

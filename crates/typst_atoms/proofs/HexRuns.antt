@@ -1,7 +1,6 @@
 -- Values of hexadecimal digits that are cut at a limit while they are read.
-use Rattle.std.proofs.Common.{◌≡◌, ℕ, ◌+◌, ◌*◌, min, Bool, true, false, cond, List, [], ◌∷◌, arith, sym, ap, ◌∙◌}
+use Rattle.std.proofs.Common.{◌≡◌, ℕ, ◌+◌, ◌*◌, min, true, false, cond, List, [], ◌∷◌, arith, ap, ◌∙◌}
 use Rattle.std.specs.Char.{is_digit, digit_value}
-use Rattle.std.specs.List.{take_while}
 use Rattle.std.specs.Str.Parse.{digits_value, digits_value_after}
 use Rattle.std.proofs.lemmas.List.Sums.{take_while-cons}
 use Rattle.typst_atoms.specs.CodePoints.{hex_run}

@@ -1,9 +1,9 @@
 -- The last of a list of nodes, from what an iterator over their views tells from the back.
-use Rattle.std.proofs.Common.{◌≡◌, ◌≢◌, List, [], ◌∷◌, ◌++◌, map, Bool, true, Option, Some, None, MatchOption, refl, sym, ap, subst, ◌∙◌}
+use Rattle.std.proofs.Common.{◌≡◌, ◌≢◌, List, [], ◌∷◌, ◌++◌, map, Bool, true, Option, Some, None, MatchOption, refl, sym, ap, subst}
 use Rattle.std.specs.List.{last_or}
 use Rattle.typst_base.specs.declared.kind.SyntaxKind.{SyntaxKind}
 use Rattle.typst_node.specs.Tree.{Tree}
-use Rattle.typst_node.specs.Views.{kind_or, told, told_of, IsViewOf, IsOptionalViewOf}
+use Rattle.typst_node.specs.Views.{kind_or, told, told_of, IsOptionalViewOf}
 use Rattle.typst_atoms.specs.Children.{last_of}
 
 -- what is told is that of the node

@@ -1,5 +1,5 @@
 -- Texts without the bytes at their end that pass a test, as trimming gives them.
-use Rattle.std.proofs.Common.{◌≡◌, ℕ, suc, ◌+◌, ◌-◌, ◌≤◌, ◌<◌, Bool, true, false, cond, List, [], ◌∷◌, ◌++◌, length, take, drop, reverse, Option, Some, None, arith, rules, eqb, eq-eqb, sym, ap, subst, ◌∙◌, refl, length-append, IfSome}
+use Rattle.std.proofs.Common.{◌≡◌, ℕ, ◌+◌, ◌-◌, ◌≤◌, ◌<◌, Bool, true, false, cond, List, [], ◌∷◌, ◌++◌, length, take, drop, reverse, Option, Some, None, arith, rules, eqb, eq-eqb, sym, ap, subst, ◌∙◌, refl, length-append, IfSome}
 use Rattle.std.specs.List.{prefix_len, suffix_len}
 use Rattle.std.specs.Str.Pattern.{CutsPrefixes, CutsSuffixes, FindsCharPrefix, FindsCharSuffix, FindsSuffixBy, IsFullyTrimmed, IsTrimStartMatches, IsTrimEndMatches}
 use Rattle.std.proofs.lemmas.List.{reverse-append, reverse-reverse, take-append-le, take-append-drop, take_all, drop_all, length-take, length-take-le}

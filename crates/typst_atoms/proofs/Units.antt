@@ -1,5 +1,5 @@
 -- What a unit may be written with.
-use Rattle.std.proofs.Common.{◌≡◌, ℕ, ◌<◌, true, arith, rules}
+use Rattle.std.proofs.Common.{◌≡◌, ℕ, ◌<◌, true, arith}
 use Rattle.std.proofs.lemmas.Bool.Decides.{nat_tests}
 use Rattle.typst_atoms.specs.Numerics.{is_unit_byte}
 

@@ -1,5 +1,5 @@
 -- Equality of views.
-use Rattle.std.specs.Prelude.{Option, Some, None, Bool, true, ◌≡◌, ◌↔◌, refl}
+use Rattle.std.specs.Prelude.{Option, Some, None, true, ◌≡◌, ◌↔◌, refl}
 use Rattle.std.specs.Option.{option_copied, option_eq}
 use Rattle.std.proofs.Common.{ap}
 use Rattle.typst_atoms.specs.ImportItem.{import_item_node, import_item_kind}

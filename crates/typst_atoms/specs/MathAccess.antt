@@ -1,5 +1,5 @@
 -- What a clause sees of a `MathAccess`.
-use Rattle.std.specs.Prelude.{Bool, true, Option, IfSome, ◌≡◌}
+use Rattle.std.specs.Prelude.{true, Option, IfSome, ◌≡◌}
 use Rattle.typst_atoms.specs.OfKind.{kind_from_test}
 use Rattle.typst_atoms.specs.View.{node_of}
 use Rattle.typst_atoms.specs.declared.math_access.MathAccess.{MathAccess}

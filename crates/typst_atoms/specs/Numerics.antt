@@ -1,5 +1,5 @@
 -- A number and its unit.
-use Rattle.std.specs.Prelude.{ℕ, Bool, nat_le, ◌&&◌, ◌||◌, ◌==◌, List, codes, ◌≡◌, ◌≢◌}
+use Rattle.std.specs.Prelude.{ℕ, Bool, ◌||◌, ◌==◌, List, codes, ◌≡◌, ◌≢◌}
 use Rattle.std.specs.Char.{is_ascii_lowercase}
 use Rattle.typst_atoms.specs.Trims.{without_trailing, ending}
 use Rattle.typst_atoms.specs.declared.numeric.Unit.{Unit}

@@ -1,5 +1,5 @@
 -- Raw texts.
-use Rattle.std.specs.Prelude.{ℕ, Bool, false, nat_le, cond, List, [], ◌∷◌, ◌++◌, length, Option, Some, None, ◌⊎◌}
+use Rattle.std.specs.Prelude.{ℕ, Bool, false, nat_le, cond, List, [], ◌∷◌, ◌++◌, length, Option, None, ◌⊎◌}
 use Rattle.std.specs.Option.{option_map_or}
 use Rattle.std.specs.Str.{chars}
 use Rattle.typst_atoms.specs.Children.{children_in, first_child}

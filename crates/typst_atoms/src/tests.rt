@@ -1,4 +1,5 @@
 mod accessors;
+mod children;
 mod comparing;
 mod missing;
 mod readings;

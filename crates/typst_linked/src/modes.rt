@@ -17,23 +17,18 @@ impl<'a> LinkedNode<'a> {
     pub fn mode_after(&self) -> Option<SyntaxMode>
         ensures { result ≡ mode_behind self.now }
     {
-        match self.own_mode() {
-            Some(mode) => mode,
-            None => match self.parent() {
-                Some(parent) => parent.mode_after(),
-                None => None,
-            },
+        if let Some(mode) = self.own_mode() {
+            return mode;
         }
+        self.parent()?.mode_after()
     }
 
     /// The mode in which the text directly behind the parent is read, or `None` for a root.
     pub fn parent_mode(&self) -> Option<SyntaxMode>
         ensures { result ≡ mode_behind_parent self.now }
     {
-        match self.parent() {
-            Some(parent) => parent.mode_after(),
-            None => None,
-        }
+        let parent = self.parent()?;
+        parent.mode_after()
     }
 
     // The mode behind this node, where it isn't that behind its parent.

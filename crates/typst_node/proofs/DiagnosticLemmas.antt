@@ -1,11 +1,11 @@
 -- What is reported, and what is diagnosed.
-use Rattle.std.proofs.Common.{◌≡◌, ◌≢◌, ◌↔◌, ℕ, Bool, true, false, ◌||◌, List, [], ◌∷◌, ◌++◌, length, map, refl, sym, ap, ◌∙◌, IsTrue, arith, length-append}
+use Rattle.std.proofs.Common.{◌≡◌, ◌≢◌, ◌↔◌, Bool, true, false, ◌||◌, List, [], ◌∷◌, ◌++◌, map, refl, sym, ◌∙◌, IsTrue}
 use Rattle.std.specs.List.{flat_map, list_any}
 use Rattle.typst_base.specs.Span.{SpanParts}
 use Rattle.typst_node.specs.Tree.{WarningText, Content, AsLeaf, AsError, AsInner, Label, Tree, forest}
-use Rattle.typst_node.specs.Preorder.{preorder, nodes}
-use Rattle.typst_node.specs.Diagnosis.{is_error_content, is_error, has_some, is_warned, has_error, has_warning}
-use Rattle.typst_node.specs.Diagnostics.{Report, error_reports, errors_at, warning_report, warnings_at, errors_of, warnings_of}
+use Rattle.typst_node.specs.Preorder.{preorder}
+use Rattle.typst_node.specs.Diagnosis.{is_error_content, is_error, has_some, is_warned}
+use Rattle.typst_node.specs.Diagnostics.{Report, error_reports, errors_at, warning_report, warnings_at}
 
 -- the reports of trees
 abbrev pub errors_of_all : List Tree → List Report

@@ -1,9 +1,9 @@
 -- How hints are added.
-use Rattle.std.proofs.Common.{◌≡◌, ℕ, zero, suc, ◌<◌, List, [], ◌∷◌, ◌++◌, length, map, reverse, get_or, refl, sym, ap, ◌∙◌, arith, append_assoc, length-append, string_bytes, Vec, Global}
+use Rattle.std.proofs.Common.{◌≡◌, ℕ, zero, suc, ◌<◌, List, [], ◌∷◌, ◌++◌, length, map, get_or, refl, sym, ap, ◌∙◌, arith, append_assoc, length-append, string_bytes, Vec, Global}
 use Rattle.std.proofs.Math.ListN.{set}
 use Rattle.std.proofs.lemmas.List.{map-append, reverse-append}
 use Rattle.typst_base.specs.Span.{SpanParts}
-use Rattle.typst_node.specs.Tree.{HintText, WarningText, Content, AsLeaf, AsError, AsInner, Label, Forest, Tree}
+use Rattle.typst_node.specs.Tree.{HintText, WarningText, Content, AsLeaf, AsError, AsInner, Forest, Tree}
 use Rattle.typst_node.specs.Hints.{hint_one, hint_outermost, hinted, CanHint}
 use Rattle.typst_node.specs.View.{hint_text, warning_text, shown_warnings}
 use Rattle.typst_node.specs.declared.node.Hint.{Hint}

@@ -1,7 +1,6 @@
 -- Trees before and after their nodes get the places of mapped bytes.
 use Rattle.std.proofs.Common.{◌≡◌, ℕ, zero, suc, ◌+◌, ◌-◌, ◌^◌, ◌<◌, ◌≤◌, List, [], ◌∷◌, ◌++◌, length, map, take, drop, get_or, Option, Some, None, refl, sym, ap, ◌∙◌, arith, add-one, Box, Global}
 use Rattle.std.proofs.Math.ListN.{set}
-use Rattle.std.specs.Box.{with_value}
 use Rattle.std.specs.declared.ops.Range.{Range}
 use Rattle.std.proofs.lemmas.Bool.Decides.{nat_tests}
 use Rattle.typst_base.specs.Mapping.{Mapping}

@@ -1,11 +1,11 @@
 -- What is measured does not turn on labels, apart from texts, errors and whether there are warnings.
-use Rattle.std.proofs.Common.{◌≡◌, ℕ, suc, ◌+◌, Bool, true, false, ◌||◌, List, [], ◌∷◌, ◌++◌, length, map, refl, sym, ap, ◌∙◌, length-append, append_assoc}
+use Rattle.std.proofs.Common.{◌≡◌, ℕ, suc, ◌+◌, ◌||◌, List, [], ◌∷◌, ◌++◌, length, map, refl, sym, ap, ◌∙◌}
 use Rattle.std.specs.List.{list_any}
 use Rattle.std.proofs.lemmas.List.{map-append}
 use Rattle.typst_node.specs.Tree.{Label, Forest, none, tree, Tree, forest}
-use Rattle.typst_node.specs.Preorder.{preorder, nodes}
+use Rattle.typst_node.specs.Preorder.{preorder}
 use Rattle.typst_node.specs.Text.{own_text, joined, text, text_of_all}
-use Rattle.typst_node.specs.Count.{count, count_of_all}
+use Rattle.typst_node.specs.Count.{count_of_all}
 use Rattle.typst_node.specs.Diagnosis.{is_error, is_warned}
 use Rattle.typst_node.specs.View.{ends_from, IsMeasured}
 use Rattle.typst_node.specs.declared.node.InnerNode.{InnerNode}

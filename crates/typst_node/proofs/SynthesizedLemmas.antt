@@ -1,6 +1,5 @@
 -- Trees before and after synthesis.
 use Rattle.std.proofs.Common.{◌≡◌, ℕ, List, [], ◌∷◌, map, refl, sym, ap, ◌∙◌, Box, Global}
-use Rattle.std.specs.Box.{with_value}
 use Rattle.typst_base.specs.Span.{SpanParts, detached}
 use Rattle.typst_node.specs.Tree.{HintText, WarningText, Content, AsLeaf, AsError, AsInner, Label, Forest, none, tree, Tree, forest}
 use Rattle.typst_node.specs.Text.{content_text}
@@ -8,7 +7,6 @@ use Rattle.typst_node.specs.Diagnosis.{is_error_content, has_some}
 use Rattle.typst_node.specs.Synthesized.{whole_hint, whole_warning, synthesized_content, synthesized_label, synthesized_forest, synthesized}
 use Rattle.typst_node.specs.View.{tree_of, shown_warnings}
 use Rattle.typst_node.specs.declared.node.InnerNode.{InnerNode}
-use Rattle.typst_node.specs.declared.node.Warning.{Warning}
 use Rattle.typst_node.specs.declared.node.Node.TheVariants.{Inner}
 use Rattle.typst_node.specs.declared.node.SyntaxNode.TheInside.{Inside}
 use Rattle.typst_node.proofs.Relabelled.{relabelled, relabelled_forest, KeepsMeasures}

@@ -1,5 +1,5 @@
 -- Hints of errors and warnings.
-use Rattle.std.specs.Prelude.{ℕ, ◌||◌, Bool, List, [], ◌∷◌, ◌++◌, map, Option, None, IsTrue}
+use Rattle.std.specs.Prelude.{ℕ, ◌||◌, List, [], ◌∷◌, ◌++◌, map, Option, None, IsTrue}
 use Rattle.std.specs.declared.ops.Range.{Range}
 use Rattle.typst_base.specs.Span.{detached}
 use Rattle.typst_node.specs.Tree.{HintText, WarningText, Content, AsLeaf, AsError, AsInner, Label, none, Tree}

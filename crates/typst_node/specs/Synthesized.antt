@@ -1,5 +1,5 @@
 -- Trees whose nodes all have one span.
-use Rattle.std.specs.Prelude.{ℕ, List, map, None}
+use Rattle.std.specs.Prelude.{ℕ, map, None}
 use Rattle.typst_base.specs.Span.{SpanParts}
 use Rattle.typst_node.specs.Tree.{HintText, WarningText, Content, AsLeaf, AsError, AsInner, Label, Forest, none, tree, Tree}
 

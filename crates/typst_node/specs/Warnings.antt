@@ -1,5 +1,5 @@
 -- Warnings round a node.
-use Rattle.std.specs.Prelude.{ℕ, ◌+◌, ◌-◌, ◌^◌, ◌<◌, ◌≤◌, List, [], ◌∷◌, length, Option, Some}
+use Rattle.std.specs.Prelude.{ℕ, ◌-◌, ◌^◌, ◌<◌, ◌≤◌, List, [], ◌∷◌, length, Option, Some}
 use Rattle.std.specs.declared.ops.Range.{Range}
 use Rattle.typst_base.specs.SubRange.{interval, cut_sub_end}
 use Rattle.typst_node.specs.Tree.{WarningText, Tree}

@@ -1,4 +1,4 @@
-use Rattle.std.proofs.Common.{◌≡◌, ◌≤◌, ◌+◌, length}
+use Rattle.std.proofs.Common.{◌≡◌, ◌+◌, length}
 use Rattle.typst_atoms.specs.Strings.{hex_len}
 use Rattle.typst_atoms.proofs.hex.hex_len.Given as goal
 

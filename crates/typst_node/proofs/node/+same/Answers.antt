@@ -1,7 +1,7 @@
-use Rattle.std.proofs.Common.{◌≡◌, arith, ap, sym, ◌∙◌, rules, map, length, get_or}
+use Rattle.std.proofs.Common.{◌≡◌, arith, ap, sym, ◌∙◌, rules, map, length}
 use Rattle.typst_node.specs.Tree.{Tree}
 use Rattle.typst_node.specs.Count.{count}
-use Rattle.typst_node.specs.View.{warning_text, tree_of, content, below}
+use Rattle.typst_node.specs.View.{warning_text, tree_of}
 use Rattle.typst_node.proofs.Same.{whole_same, same_warning_texts, same_below, equal_more, equal_at}
 use Rattle.typst_node.proofs.Trees.{count_at}
 use Rattle.typst_node.proofs.node.+same.Goals as goal

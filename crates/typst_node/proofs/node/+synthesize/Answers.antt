@@ -1,7 +1,6 @@
-use Rattle.std.proofs.Common.{◌≡◌, map, get_or, refl, ap, sym, ◌∙◌, arith, List}
+use Rattle.std.proofs.Common.{◌≡◌, map, get_or, refl, ap, sym, ◌∙◌, arith}
 use Rattle.std.proofs.Math.Seq.{map-set_same}
 use Rattle.std.proofs.lemmas.List.{with_items_is}
-use Rattle.typst_node.specs.Tree.{Tree}
 use Rattle.typst_node.specs.Count.{count_of_all}
 use Rattle.typst_node.specs.Synthesized.{synthesized}
 use Rattle.typst_node.proofs.Each.{each_next, each_all, map_same}

@@ -1,4 +1,3 @@
-use Rattle.std.proofs.Common.{rules}
 use Rattle.typst_atoms.proofs.Trims.{trimmed_boundary}
 use Rattle.typst_atoms.proofs.numeric.Numeric.get.Goals as goal
 use Rattle.typst_atoms.specs.Numerics.{is_unit_byte}

@@ -40,12 +40,14 @@ into_covering-requires t c =
     let l = smaller_turn n child.0 c.args.self c.in_ok-child.child i (trees n.children) c.get.ensures refl child.1 c.in_ok-child.ensures in
     let covers = part_covers c.args.side c.args.cursor c.args.self n child.0 c.in-Some.part c.get.ensures c.in-Some.ensures.no_text child.1 c.requires.covers first in (
       subst (λ (k : ℕ). count_there (subtree c.in_ok-child.child) < k) c.decreases l,
-      (λ x h.
-          let is : subtree (child_place c.args.self i) ≡ Some x = ap subtree (sym c.in_ok-child.ensures) ∙ h in
-          let one = same_node child.0 x (child_place c.args.self i) there is in
-          let e : count child.0 ≡ count x = ap count one in
-          omega (arith, e, count_child n child.0 i child.1, c.requires.room n c.get.ensures, c.in-Some.ensures.few),
-      subst (λ (p : Place). CoversCursor c.args.side c.args.cursor p) (sym c.in_ok-child.ensures) covers),
+      (
+        λ x h.
+            let is : subtree (child_place c.args.self i) ≡ Some x = ap subtree (sym c.in_ok-child.ensures) ∙ h in
+            let one = same_node child.0 x (child_place c.args.self i) there is in
+            let e : count child.0 ≡ count x = ap count one in
+            omega (arith, e, count_child n child.0 i child.1, c.requires.room n c.get.ensures, c.in-Some.ensures.few),
+        subst (λ (p : Place). CoversCursor c.args.side c.args.cursor p) (sym c.in_ok-child.ensures) covers,
+      ),
     )
 
 pub returns-clause-looks : goal.returns-clause-looks

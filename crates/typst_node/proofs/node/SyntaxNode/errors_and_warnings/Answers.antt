@@ -1,4 +1,4 @@
-use Rattle.std.proofs.Common.{◌≡◌, ◌++◌, map, ap, ◌∙◌}
+use Rattle.std.proofs.Common.{◌++◌, map, ap, ◌∙◌}
 use Rattle.typst_node.specs.Preorder.{nodes}
 use Rattle.typst_node.specs.Diagnosis.{is_error, is_warned, has_error, has_warning}
 use Rattle.typst_node.specs.Diagnostics.{errors_at, warnings_at, errors_of, warnings_of}

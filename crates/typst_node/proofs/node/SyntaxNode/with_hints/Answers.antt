@@ -1,8 +1,7 @@
-use Rattle.std.proofs.Common.{◌≡◌, [], ◌∷◌, ap, ◌∙◌, sym, subst, map, string_bytes}
+use Rattle.std.proofs.Common.{[], ◌∷◌, ap, ◌∙◌, sym, subst, map, string_bytes}
 use Rattle.std.proofs.lemmas.List.{map-append}
 use Rattle.typst_node.specs.Tree.{Tree}
 use Rattle.typst_node.specs.Hints.{hinted, plain_hints, CanHint}
-use Rattle.typst_node.specs.View.{hint_text}
 use Rattle.typst_node.proofs.HintLemmas.{hinted_append, can_hint_again}
 use Rattle.typst_node.proofs.node.SyntaxNode.with_hints.Goals as goal
 

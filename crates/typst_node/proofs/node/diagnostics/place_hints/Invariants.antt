@@ -1,4 +1,4 @@
-use Rattle.std.proofs.Common.{◌≡◌, ◌++◌, map, take, drop}
+use Rattle.std.proofs.Common.{◌≡◌, ◌++◌, map, drop}
 use Rattle.typst_node.specs.Diagnostics.{placed}
 use Rattle.typst_node.specs.Reported.{placed_hint}
 use Rattle.typst_node.specs.View.{hint_text}

@@ -1,4 +1,4 @@
-use Rattle.std.proofs.Common.{◌≡◌, map, reverse, ap, sym, ◌∙◌, arith}
+use Rattle.std.proofs.Common.{map, reverse, ap, sym, ◌∙◌, arith}
 use Rattle.std.proofs.lemmas.List.{with_items_is}
 use Rattle.typst_base.specs.SubRange.{interval}
 use Rattle.typst_node.specs.Mapped.{mapped_warning}
