@@ -61,5 +61,7 @@ pub mod param;
 pub mod paths;
 pub mod pattern;
 pub mod rules;
+#[cfg(test)]
+mod tests;
 pub mod view;
 pub mod views;

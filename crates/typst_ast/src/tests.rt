@@ -1,0 +1,11 @@
+mod alike;
+mod bindings;
+mod code;
+mod exprs;
+mod imports;
+mod markup;
+mod math;
+mod missing_code;
+mod missing_markup;
+mod support;
+mod walk;
