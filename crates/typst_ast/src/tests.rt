@@ -8,4 +8,5 @@ mod math;
 mod missing_code;
 mod missing_markup;
 mod support;
+mod variants;
 mod walk;
