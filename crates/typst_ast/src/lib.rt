@@ -61,7 +61,5 @@ pub mod param;
 pub mod paths;
 pub mod pattern;
 pub mod rules;
-#[cfg(test)]
-mod tests;
 pub mod view;
 pub mod views;

@@ -48,8 +48,6 @@ pub mod raw;
 pub mod renamed_items;
 pub mod shorthands;
 pub mod strings;
-#[cfg(test)]
-mod tests;
 pub mod text;
 pub mod view;
 pub mod views;

@@ -29,5 +29,3 @@ mod looks;
 mod modes;
 mod node;
 mod siblings;
-#[cfg(test)]
-mod tests;

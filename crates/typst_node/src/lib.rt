@@ -24,11 +24,5 @@ pub use node::replace::{Renumbered, ReplaceError};
 
 pub mod ast_node;
 pub mod diagnosis;
-#[cfg(test)]
-mod error_tests;
 mod exchange;
-#[cfg(test)]
-mod mapped_tests;
 pub mod node;
-#[cfg(test)]
-mod tests;

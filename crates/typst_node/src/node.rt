@@ -25,8 +25,6 @@ pub mod number;
 mod renumber;
 pub mod replace;
 pub mod replace_at;
-#[cfg(test)]
-mod replace_tests;
 mod settle;
 pub mod spanless;
 pub mod synthesize;

@@ -1,0 +1,97 @@
+use crate::trees::{cast, inner, leaf, text};
+use std::alloc::Global;
+use std::test::Fail;
+use typst_ast::{Expr, views as of};
+use typst_base::SyntaxKind;
+use typst_node::{AstNode, SyntaxNode};
+
+// ` `, `let`, ` ` and `a`.
+fn spaced(alloc: Global, kind: SyntaxKind) -> Result<SyntaxNode, Fail> {
+    let first = leaf(alloc, SyntaxKind::Space, " ")?;
+    let keyword = leaf(alloc, SyntaxKind::Let, "let")?;
+    let binding = inner(alloc, SyntaxKind::LetBinding, vec![in alloc; keyword]?)?;
+    let second = leaf(alloc, SyntaxKind::Space, "  ")?;
+    let a = leaf(alloc, SyntaxKind::Text, "a")?;
+    let children = vec![in alloc; first, binding, second, a]?;
+    if kind == SyntaxKind::Math {
+        inner(alloc, SyntaxKind::Math, children)
+    } else {
+        inner(alloc, SyntaxKind::Markup, children)
+    }
+}
+
+#[test]
+fn markup_leaves_out_the_space_behind_a_statement(rt: HostRuntime) -> Result<(), Fail> {
+    let tree = spaced(rt.alloc(), SyntaxKind::Markup)?;
+    let mut exprs = cast::<of::Markup>(&tree)?.exprs();
+    let first = exprs.next().ok_or("no space")?;
+    assert!(rt; matches!(first, Expr::Space(_)) && text(first) == " ");
+    let second = exprs.next().ok_or("no binding")?;
+    assert!(rt; matches!(second, Expr::LetBinding(_)));
+    let third = exprs.next().ok_or("no text")?;
+    assert!(rt; matches!(third, Expr::Text(_)) && text(third) == "a");
+    assert!(rt; exprs.next().is_none());
+    Ok(())
+}
+
+#[test]
+fn markup_gives_the_same_from_the_back(rt: HostRuntime) -> Result<(), Fail> {
+    let tree = spaced(rt.alloc(), SyntaxKind::Markup)?;
+    let mut exprs = cast::<of::Markup>(&tree)?.exprs();
+    let last = exprs.next_back().ok_or("no text")?;
+    assert!(rt; matches!(last, Expr::Text(_)));
+    let middle = exprs.next_back().ok_or("no binding")?;
+    assert!(rt; matches!(middle, Expr::LetBinding(_)));
+    let first = exprs.next_back().ok_or("no space")?;
+    assert!(rt; matches!(first, Expr::Space(_)) && text(first) == " ");
+    assert!(rt; exprs.next_back().is_none());
+    Ok(())
+}
+
+#[test]
+fn markup_is_read_from_both_ends(rt: HostRuntime) -> Result<(), Fail> {
+    let tree = spaced(rt.alloc(), SyntaxKind::Markup)?;
+    let mut exprs = cast::<of::Markup>(&tree)?.exprs();
+    let last = exprs.next_back().ok_or("no text")?;
+    assert!(rt; matches!(last, Expr::Text(_)));
+    let first = exprs.next().ok_or("no space")?;
+    assert!(rt; matches!(first, Expr::Space(_)));
+    let middle = exprs.next_back().ok_or("no binding")?;
+    assert!(rt; matches!(middle, Expr::LetBinding(_)));
+    assert!(rt; exprs.next().is_none());
+    assert!(rt; exprs.next_back().is_none());
+    Ok(())
+}
+
+#[test]
+fn math_keeps_all_spaces(rt: HostRuntime) -> Result<(), Fail> {
+    let tree = spaced(rt.alloc(), SyntaxKind::Math)?;
+    let mut exprs = cast::<of::Math>(&tree)?.exprs();
+    let first = exprs.next().ok_or("no space")?;
+    assert!(rt; matches!(first, Expr::Space(_)));
+    let last = exprs.next_back().ok_or("no text")?;
+    assert!(rt; matches!(last, Expr::Text(_)));
+    let space = exprs.next_back().ok_or("no second space")?;
+    assert!(rt; matches!(space, Expr::Space(_)) && text(space) == "  ");
+    let binding = exprs.next().ok_or("no binding")?;
+    assert!(rt; matches!(binding, Expr::LetBinding(_)));
+    assert!(rt; exprs.next().is_none());
+    Ok(())
+}
+
+#[test]
+fn a_placeholder_of_an_expression_is_none(rt: HostRuntime) {
+    let blank = Expr::placeholder();
+    assert!(rt; matches!(blank, Expr::None(_)));
+    assert!(rt; blank.kind() == SyntaxKind::None);
+    assert!(rt; blank.to_untyped().is_none());
+    assert!(rt; blank.span().is_detached());
+    assert!(rt; blank.is_literal() && blank.hash());
+}
+
+#[test]
+fn a_space_is_no_expression_by_itself(rt: HostRuntime) -> Result<(), Fail> {
+    let space = leaf(rt.alloc(), SyntaxKind::Space, " ")?;
+    assert!(rt; space.cast::<Expr>().is_none() && !space.is::<Expr>());
+    Ok(())
+}

@@ -1,0 +1,44 @@
+use crate::trees::{cast, inner, leaf};
+use std::alloc::Global;
+use std::test::Fail;
+use typst_ast::Expr;
+use typst_ast::views::Markup;
+use typst_base::SyntaxKind;
+use typst_node::{AstNode, SyntaxNode};
+
+// `= Hi` and ` *there*`.
+fn document(alloc: Global) -> Result<SyntaxNode, Fail> {
+    let marker = leaf(alloc, SyntaxKind::HeadingMarker, "=")?;
+    let hi = leaf(alloc, SyntaxKind::Text, "Hi")?;
+    let body = inner(alloc, SyntaxKind::Markup, vec![in alloc; hi]?)?;
+    let heading = inner(alloc, SyntaxKind::Heading, vec![in alloc; marker, body]?)?;
+    let there = leaf(alloc, SyntaxKind::Text, "there")?;
+    let body = inner(alloc, SyntaxKind::Markup, vec![in alloc; there]?)?;
+    let strong = inner(alloc, SyntaxKind::Strong, vec![in alloc; body]?)?;
+    let space = leaf(alloc, SyntaxKind::Space, " ")?;
+    inner(
+        alloc,
+        SyntaxKind::Markup,
+        vec![in alloc; heading, space, strong]?,
+    )
+}
+
+// A short walk over a tree by typed views: the texts of headings and of strong content.
+#[test]
+fn a_short_walk_over_a_tree_by_typed_views(rt: HostRuntime) -> Result<(), Fail> {
+    let tree = document(rt.alloc())?;
+    let mut found = String::new(rt.alloc());
+    for expr in cast::<Markup>(&tree)?.exprs() {
+        let body = match expr {
+            Expr::Heading(heading) => heading.body(),
+            Expr::Strong(strong) => strong.body(),
+            _ => Markup::placeholder(),
+        };
+        if let Some(Expr::Text(text)) = body.exprs().next() {
+            found.push_str(text.get())?;
+            found.push('\n')?;
+        }
+    }
+    assert_eq!(rt; found.as_str(), "Hi\nthere\n");
+    Ok(())
+}

@@ -1,5 +1,0 @@
-mod accessors;
-mod children;
-mod comparing;
-mod missing;
-mod readings;
