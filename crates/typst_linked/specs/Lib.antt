@@ -9,6 +9,7 @@ pub mod Floor
 pub mod Part
 pub mod Ranges
 pub mod Finds
+pub mod Own
 pub mod Leaves
 pub mod LeafAt
 pub mod LeafLooks
