@@ -20,3 +20,4 @@ pub mod LastLeaves
 pub mod OuterModes
 pub mod OneNumber
 pub mod OwnSpan
+pub mod Onwards

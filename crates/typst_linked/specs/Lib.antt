@@ -10,6 +10,9 @@ pub mod Part
 pub mod Ranges
 pub mod Finds
 pub mod Own
+pub mod Preorder
+pub mod Onwards
+pub mod Walk
 pub mod Leaves
 pub mod LeafAt
 pub mod LeafLooks
