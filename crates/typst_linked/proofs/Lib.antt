@@ -18,3 +18,6 @@ pub mod LeafCovers
 pub mod LeafWays
 pub mod LastLeaves
 pub mod OuterModes
+pub mod OneNumber
+pub mod OwnSpan
+pub mod Onwards

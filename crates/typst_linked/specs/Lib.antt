@@ -9,6 +9,10 @@ pub mod Floor
 pub mod Part
 pub mod Ranges
 pub mod Finds
+pub mod Own
+pub mod Preorder
+pub mod Onwards
+pub mod Walk
 pub mod Leaves
 pub mod LeafAt
 pub mod LeafLooks

@@ -6,6 +6,7 @@ ghost use Rattle.typst_node.specs.Text.{text};
 ghost use Rattle.typst_linked.specs.Place.{Place, subtree, child_place};
 ghost use Rattle.typst_linked.specs.Part.{IsPart};
 ghost use Rattle.typst_linked.specs.Ranges.{begin_of, Covers, IsFirstCover, FindsRange};
+ghost use Rattle.typst_linked.specs.Own.{FindsOwn};
 ghost use Rattle.typst_linked.specs.Finds.{FindsNumber, FindsSpan, HasNumberBelow, AreLooksFor, AreLooksForSpan, HasLookEachStep, HasLookEachStepFor};
 
 use crate::floor::Part;
@@ -25,7 +26,8 @@ impl<'a> LinkedNode<'a> {
     /// tree that isn't numbered an answer has the number, but a node that has it may be missed. A range is looked for as
     /// by [`LinkedNode::find_range`]. Only want of memory is an error.
     pub fn find(&self, alloc: Global, span: Span) -> Result<Option<Self>, AllocError>
-        ensures { IfOk result (FindsSpan (span_kind_of span) self.now) }
+        ensures found { IfOk result (FindsSpan (span_kind_of span) self.now) }
+        ensures own { IfOk result (FindsOwn span self.now) }
     {
         self.find_counted(alloc, span, &mut Looks::new())
     }
@@ -39,6 +41,7 @@ impl<'a> LinkedNode<'a> {
         looks: &mut Looks,
     ) -> Result<Option<Self>, AllocError>
         ensures found { IfOk result (FindsSpan (span_kind_of span) self.now) }
+        ensures own { IfOk result (FindsOwn span self.now) }
         ensures looks { AreLooksForSpan (span_kind_of span) self.now looks.new }
         ensures steps { IfOk result (HasLookEachStepFor (span_kind_of span) self.now looks.new) }
     {

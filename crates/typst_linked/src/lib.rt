@@ -18,6 +18,7 @@ pub use children::LinkedChildren;
 pub use cursor::Side;
 pub use looks::Looks;
 pub use node::LinkedNode;
+pub use preorder::LinkedPreorder;
 
 mod children;
 mod cursor;
@@ -28,4 +29,5 @@ mod leaves;
 mod looks;
 mod modes;
 mod node;
+mod preorder;
 mod siblings;

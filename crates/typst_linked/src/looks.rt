@@ -34,7 +34,8 @@ impl Looks {
     pub fn count(&self) -> u64
         ensures { result ≡ self.now }
     {
-        self.count
+        let Looks { count } = self;
+        *count
     }
 
     // Reads a node's number and counts it.

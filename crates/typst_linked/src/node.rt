@@ -95,7 +95,8 @@ impl<'a> LinkedNode<'a> {
         ensures start { result.start ≡ offset self.now.path self.now.root }
         ensures end { (t : Tree) → subtree self.now ≡ Some t → result.end ≡ result.start + length (text t) }
     {
-        self.offset..self.offset + self.node.len()
+        let start = self.offset;
+        start..start + self.node.len()
     }
 
     /// The parent, or `None` for the root.
@@ -222,13 +223,13 @@ impl<'a> Deref for LinkedNode<'a> {
     ghost deref_gives = { λ l n. subtree l ≡ Some n };
 
     fn deref(&self) -> &SyntaxNode {
-        self.node
+        self.get()
     }
 }
 
 impl<'a> Debug for LinkedNode<'a> {
     /// That of the node.
     fn fmt<W: Write>(&self, f: &mut Formatter<W>) -> fmt::Result {
-        self.node.fmt(f)
+        self.get().fmt(f)
     }
 }

@@ -1,5 +1,5 @@
 // Searches by spans.
-use crate::trees::{file, inner, leaf, text_around_nothing, two_texts};
+use crate::trees::{file, inner, leaf, strong_text, text_around_nothing, two_texts};
 use std::alloc::Global;
 use std::num::NonZeroU64;
 use std::test::Fail;
@@ -139,21 +139,6 @@ fn a_number_below_all_is_not_found(rt: HostRuntime) -> Result<(), Fail> {
     assert!(rt; root.find_counted(alloc, span, &mut looks)?.is_none());
     assert_eq!(rt; looks.count(), 1);
     Ok(())
-}
-
-/// Markup of a Strong of `*`, Markup of the text `b` and `*`, and of the text `c`.
-fn strong_text(alloc: Global) -> Result<SyntaxNode, Fail> {
-    let b = leaf(alloc, SyntaxKind::Text, "b")?;
-    let body = inner(alloc, SyntaxKind::Markup, vec![in alloc; b]?)?;
-    let open = leaf(alloc, SyntaxKind::Star, "*")?;
-    let close = leaf(alloc, SyntaxKind::Star, "*")?;
-    let strong = inner(
-        alloc,
-        SyntaxKind::Strong,
-        vec![in alloc; open, body, close]?,
-    )?;
-    let c = leaf(alloc, SyntaxKind::Text, "c")?;
-    inner(alloc, SyntaxKind::Markup, vec![in alloc; strong, c]?)
 }
 
 /// Whether each child of a node is found from the root by its own span.

@@ -64,3 +64,18 @@ pub(crate) fn text_around_space(alloc: Global) -> Result<SyntaxNode, Fail> {
         vec![in alloc; first, space, second]?,
     )
 }
+
+/// Markup of a Strong of `*`, Markup of the text `b` and `*`, and of the text `c`.
+pub(crate) fn strong_text(alloc: Global) -> Result<SyntaxNode, Fail> {
+    let b = leaf(alloc, SyntaxKind::Text, "b")?;
+    let body = inner(alloc, SyntaxKind::Markup, vec![in alloc; b]?)?;
+    let open = leaf(alloc, SyntaxKind::Star, "*")?;
+    let close = leaf(alloc, SyntaxKind::Star, "*")?;
+    let strong = inner(
+        alloc,
+        SyntaxKind::Strong,
+        vec![in alloc; open, body, close]?,
+    )?;
+    let c = leaf(alloc, SyntaxKind::Text, "c")?;
+    inner(alloc, SyntaxKind::Markup, vec![in alloc; strong, c]?)
+}

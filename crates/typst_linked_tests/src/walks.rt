@@ -1,5 +1,5 @@
-// Children and siblings.
-use crate::trees::{text_around_space, two_texts};
+// Children, siblings and preorder.
+use crate::trees::{strong_text, text_around_space, two_texts};
 use std::test::Fail;
 use typst_base::SyntaxKind;
 use typst_linked::LinkedNode;
@@ -68,5 +68,30 @@ fn a_linked_node_is_shown_as_its_node(rt: HostRuntime) -> Result<(), Fail> {
     assert_eq!(rt; shown.as_str(), "Text: \"c\"");
     let shown = format!(in alloc; "{root:?}")?;
     assert_eq!(rt; shown.as_str(), "Markup: 3 [Text: \"ab\", Text: \"c\"]");
+    Ok(())
+}
+
+#[test]
+fn preorder_ends_with_the_subtree(rt: HostRuntime) -> Result<(), Fail> {
+    let alloc = rt.alloc();
+    let tree = strong_text(alloc)?;
+    let root = LinkedNode::new(&tree);
+    let mut ranges = Vec::new(alloc);
+    for node in root.preorder(alloc)? {
+        ranges.push(node?.range())?;
+    }
+    assert_eq!(rt;
+        ranges.as_slice(),
+        [0..4, 0..3, 0..1, 1..2, 1..2, 2..3, 3..4].as_slice()
+    );
+    let strong = root.children(alloc)?.next().ok_or("no child")??;
+    let mut left = strong.preorder(alloc)?;
+    assert_eq!(rt; left.next().ok_or("no node")??.kind(), SyntaxKind::Strong);
+    assert_eq!(rt; left.next().ok_or("no node")??.kind(), SyntaxKind::Star);
+    assert_eq!(rt; left.next().ok_or("no node")??.kind(), SyntaxKind::Markup);
+    let text = left.next().ok_or("no node")??;
+    assert_eq!(rt; text.parent().ok_or("no parent")?.index(), 1);
+    assert_eq!(rt; left.next().ok_or("no node")??.range(), 2..3);
+    assert!(rt; left.next().is_none() && left.next().is_none());
     Ok(())
 }

@@ -2,4 +2,3 @@ pub mod Refusals
 pub mod PlainRuns
 pub mod Runs
 pub mod KeptPaths
-pub mod OneNumber

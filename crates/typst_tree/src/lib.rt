@@ -18,7 +18,7 @@ pub use typst_base::{
     DiagSpan, DiagSpanKind, FileId, MapperError, ModeAfter, RangeMapper, Span, SpanDetached,
     SpanKind, SpanNumber, Spanned, SubRange, SyntaxKind, SyntaxMode, SyntaxSet, named_sets,
 };
-pub use typst_linked::{LinkedChildren, LinkedNode, Looks, Side};
+pub use typst_linked::{LinkedChildren, LinkedNode, LinkedPreorder, Looks, Side};
 pub use typst_node::{
     Diagnosis, InnerError, Renumbered, ReplaceError, SyntaxDiagnostic, SyntaxNode, SynthesizeError,
     Unnumberable,

@@ -1,6 +1,6 @@
 use Rattle.typst_node.specs.Paths.{tree_at}
 use Rattle.typst_tree.proofs.KeptPaths.{kept_same}
-use Rattle.typst_tree.proofs.OneNumber.{found_by_label, still_numbered}
+use Rattle.typst_linked.proofs.OneNumber.{found_by_label, still_numbered}
 use Rattle.typst_tree.proofs.Runs.{run_more, rest_more, answer_numbered, plain_more}
 use Rattle.typst_tree.proofs.session.run.Goals as goal
 

@@ -55,12 +55,15 @@ one_path file (i ∷ p) (j ∷ q) t m k order leads other same =
     ]
 
 -- the plain search for the number of a node of a numbered tree answers the node's path
-pub own_number : (t : Tree) (path : List ℕ) → IsNumbered t → IsPath path t → with_number (number (tree_at path t).label) t ≡ Some path
-own_number t path numbered there =
+pub own_path : (t node : Tree) (path : List ℕ) → IsNumbered t → at path t ≡ Some node → with_number (number node.label) t ≡ Some path
+own_path t node path numbered leads =
     let order = numbered_order t numbered in
-    let n = number (tree_at path t).label in
-    first_path_only (has_number n) t (tree_at path t) path (at-path path t there) (eq-eqb n n refl)
-    (λ p k leads same. one_path order.0 p path t k (tree_at path t) order.1 leads (at-path path t there) (eqb-true (number k.label) n same))
+    let n = number node.label in
+    first_path_only (has_number n) t node path leads (eq-eqb n n refl)
+    (λ p k other same. one_path order.0 p path t k node order.1 other leads (eqb-true (number k.label) n same))
+
+pub own_number : (t : Tree) (path : List ℕ) → IsNumbered t → IsPath path t → with_number (number (tree_at path t).label) t ≡ Some path
+own_number t path numbered there = own_path t (tree_at path t) path numbered (at-path path t there)
 
 -- where a node of a numbered tree has a label, the plain search for that label's number answers its path
 pub found_by_label : (t : Tree) (path : List ℕ) (label : Label) → IsNumbered t → IsPath path t → (tree_at path t).label ≡ label → with_number (number label) t ≡ Some path

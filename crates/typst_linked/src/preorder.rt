@@ -1,0 +1,95 @@
+// The nodes of a linked subtree, in preorder.
+ghost use Rattle.std.specs.Prelude.{◌≡◌, ◌∷◌, IfOk, MatchOption, length, []};
+ghost use Rattle.std.specs.Iterator.{at_most};
+ghost use Rattle.typst_linked.specs.Preorder.{places_below, GivesHead};
+ghost use Rattle.typst_linked.specs.Onwards.{places_behind, places_from};
+
+use crate::node::LinkedNode;
+use std::alloc::{AllocError, Global};
+use std::marker::Model;
+
+/// The nodes of a linked subtree in preorder: each node before its children, children from left to right.
+///
+/// Where memory is refused, the item is an error, and it is the last one.
+#[derive(Drop)]
+pub struct LinkedPreorder<'a> {
+    alloc: Global,
+    next: Option<LinkedNode<'a>>,
+    // How many nodes are left, the next one among them.
+    left: usize,
+}
+
+impl<'a> Model for LinkedPreorder<'a> {
+    ghost use Rattle.std.specs.Prelude.{List};
+    ghost use Rattle.std.specs.Coded.{coded_list};
+    ghost use Rattle.typst_linked.specs.Place.{Place, place_code};
+
+    ghost Value = { List Place };
+
+    ghost coded = { coded_list place_code };
+
+    ghost use Rattle.typst_linked.specs.Walk.{left_of, IsWalk};
+
+    ghost view = { left_of };
+
+    ghost invariant = { IsWalk };
+}
+
+/// # Preorder
+impl<'a> LinkedNode<'a> {
+    /// The nodes of this node's subtree, itself first, in preorder. Only want of memory is an error.
+    pub fn preorder(&self, alloc: Global) -> Result<LinkedPreorder<'a>, AllocError>
+        ensures { IfOk result (λ left. left ≡ places_below self.now) }
+    {
+        Ok(LinkedPreorder {
+            alloc,
+            next: Some(self.clone()?),
+            left: self.get().descendants(),
+        })
+    }
+
+    // The node that comes behind this one in the preorder of the root.
+    fn following(&self, alloc: Global) -> Result<Option<Self>, AllocError>
+        ensures { IfOk result (λ next. MatchOption next (places_from self.now ≡ self.now ∷ []) (λ place. places_from self.now ≡ self.now ∷ places_from place)) }
+    {
+        if self.get().child_slice().is_empty() {
+            return self.beyond();
+        }
+        Ok(Some(self.clone()?.into_child(alloc, 0)?))
+    }
+
+    // The first node behind this node's whole subtree.
+    fn beyond(&self) -> Result<Option<Self>, AllocError>
+        ensures { IfOk result (λ next. MatchOption next (places_behind self.now ≡ []) (λ place. places_behind self.now ≡ places_from place)) }
+    {
+        let _siblings = self.siblings();
+        let Some(parent) = self.shared_parent() else {
+            return Ok(None);
+        };
+        let index = self.index() + 1;
+        if index < parent.get().child_slice().len() {
+            return Ok(Some(LinkedNode::nth_child(parent, index)?));
+        }
+        parent.beyond()
+    }
+}
+
+impl<'a> Iterator for LinkedPreorder<'a> {
+    type Item = Result<LinkedNode<'a>, AllocError>;
+
+    ghost next_gives = { GivesHead };
+
+    ghost remaining = { λ left. at_most (length left) };
+
+    fn next(&mut self) -> Option<Self::Item> {
+        let here = self.next.take()?;
+        self.left -= 1;
+        if self.left > 0 {
+            match here.following(self.alloc) {
+                Ok(next) => self.next = next,
+                Err(error) => return Some(Err(error)),
+            }
+        }
+        Some(Ok(here))
+    }
+}
