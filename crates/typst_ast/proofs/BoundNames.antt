@@ -63,7 +63,7 @@ module _ (f g : Option Tree → List Tree) (n : ℕ) (same : (o : Option Tree) �
       let there = items_same ts (omega arith) in
       cc
 
-  pattern_same : (o : Option Tree) → count_in o ≤ suc n → names_of_pattern f o ≡ names_of_pattern g o
+  pub pattern_same : (o : Option Tree) → count_in o ≤ suc n → names_of_pattern f o ≡ names_of_pattern g o
   pattern_same None h = refl
   pattern_same (Some t) h =
       let group : f (first_child is_pattern_kind (Some t)) ≡ g (first_child is_pattern_kind (Some t)) = same _ (omega (arith, count_first_child is_pattern_kind t)) in

@@ -57,16 +57,28 @@ abbrev pub expr_names : Expr → List (Option Tree)
 expr_names (Ident v) = atom_node v ∷ []
 expr_names _ = []
 
+-- What a view binds, where `names` says what a node binds as a pattern.
+module _ (names : Option Tree → List Tree) where
+  abbrev pub destructuring_names_by : Option Tree → List (Option Tree)
+  destructuring_names_by parts = map Some (names_of_items names parts)
+
+  abbrev pub pattern_names_by : Pattern → List (Option Tree)
+  pattern_names_by (Normal v) = expr_names v
+  pattern_names_by (Placeholder v) = []
+  pattern_names_by (Parenthesized v) = map Some (names (first_child is_pattern_kind (node_of v)))
+  pattern_names_by (Destructuring v) = destructuring_names_by (node_of v)
+
+  -- a let binding binds what its pattern binds, or the name of its closure
+  abbrev pub let_names_by : LetBindingKind → List (Option Tree)
+  let_names_by (NormalKind pattern) = pattern_names_by pattern
+  let_names_by (Closure name) = atom_node name ∷ []
+
+-- the same by the names down to as many levels as there are nodes
 abbrev pub destructuring_names : Option Tree → List (Option Tree)
-destructuring_names parts = map Some (names_of_items names_bound parts)
+destructuring_names = destructuring_names_by names_bound
 
 abbrev pub pattern_names : Pattern → List (Option Tree)
-pattern_names (Normal v) = expr_names v
-pattern_names (Placeholder v) = []
-pattern_names (Parenthesized v) = map Some (names_bound (first_child is_pattern_kind (node_of v)))
-pattern_names (Destructuring v) = destructuring_names (node_of v)
+pattern_names = pattern_names_by names_bound
 
--- a let binding binds what its pattern binds, or the name of its closure
 abbrev pub let_names : LetBindingKind → List (Option Tree)
-let_names (NormalKind pattern) = pattern_names pattern
-let_names (Closure name) = atom_node name ∷ []
+let_names = let_names_by names_bound

@@ -2,6 +2,7 @@ pub mod Alike
 pub mod Arg
 pub mod ArrayItem
 pub mod BareNames
+pub mod BindingRule
 pub mod Bindings
 pub mod Closures
 pub mod DestructuringItem

@@ -2,7 +2,8 @@
 ghost use Rattle.std.specs.Prelude.{◌≡◌, ◌++◌, map, option_to_list, IfOk, Some};
 ghost use Rattle.std.specs.List.{flat_map};
 ghost use Rattle.std.specs.Option.{option_copied};
-ghost use Rattle.typst_ast.specs.Bindings.{destructuring_names, expr_names, let_names, names_bound, names_of_item, pattern_names};
+ghost use Rattle.typst_ast.specs.BindingRule.{ByRule};
+ghost use Rattle.typst_ast.specs.Bindings.{destructuring_names, destructuring_names_by, expr_names, let_names, let_names_by, names_bound, names_of_item, pattern_names, pattern_names_by};
 ghost use Rattle.typst_ast.specs.Kinds.{is_destructuring_item_kind, is_pattern_kind};
 ghost use Rattle.typst_ast.specs.View.{node_of};
 ghost use Rattle.typst_atoms.specs.Children.{all_in, first_child, last_child};
@@ -106,8 +107,10 @@ impl<'a> Pattern<'a> {
     /// destructuring bind what they hold, and any other pattern binds nothing.
     ///
     /// It takes time in proportion to the nodes below, and memory for the names.
+    #[tactic(auto, using(crate::proofs::NamesByRule::pattern_by_rule))]
     pub fn bindings(self, alloc: Global) -> Result<Vec<Ident<'a>>, AllocError>
-        ensures { IfOk result (λ names. map atom_node names.items ≡ pattern_names self.entry) }
+        ensures names { IfOk result (λ names. map atom_node names.items ≡ pattern_names self.entry) }
+        ensures rule { IfOk result (λ bound. ByRule (λ names. map atom_node bound.items ≡ pattern_names_by names self.entry)) }
     {
         let mut names = Vec::new(alloc);
         match self {
@@ -124,8 +127,10 @@ impl<'a> Destructuring<'a> {
     /// The names that the items bind, in order: those of their patterns, and the names of sinks.
     ///
     /// It takes time in proportion to the nodes below, and memory for the names.
+    #[tactic(auto, using(crate::proofs::NamesByRule::parts_by_rule))]
     pub fn bindings(self, alloc: Global) -> Result<Vec<Ident<'a>>, AllocError>
-        ensures { IfOk result (λ names. map atom_node names.items ≡ destructuring_names (node_of self.entry)) }
+        ensures names { IfOk result (λ names. map atom_node names.items ≡ destructuring_names (node_of self.entry)) }
+        ensures rule { IfOk result (λ bound. ByRule (λ names. map atom_node bound.items ≡ destructuring_names_by names (node_of self.entry))) }
     {
         let mut names = Vec::new(alloc);
         push_items(&mut names, children(self.node()))?;
@@ -137,8 +142,10 @@ impl<'a> LetBindingKind<'a> {
     /// The names that the binding binds, in order: those of its pattern, or the name of its closure.
     ///
     /// It takes time in proportion to the nodes below, and memory for the names.
+    #[tactic(auto, using(crate::proofs::NamesByRule::let_by_rule))]
     pub fn bindings(self, alloc: Global) -> Result<Vec<Ident<'a>>, AllocError>
-        ensures { IfOk result (λ names. map atom_node names.items ≡ let_names self.entry) }
+        ensures names { IfOk result (λ names. map atom_node names.items ≡ let_names self.entry) }
+        ensures rule { IfOk result (λ bound. ByRule (λ names. map atom_node bound.items ≡ let_names_by names self.entry)) }
     {
         match self {
             LetBindingKind::Normal(pattern) => pattern.bindings(alloc),

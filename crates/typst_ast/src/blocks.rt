@@ -28,7 +28,7 @@ impl<'a> CodeBlock<'a> {
     pub fn body(self) -> Code<'a>
         ensures { node_of result ≡ first_child (is_kind kinds.Code) (node_of self.entry) }
     {
-        cast_first(self.node())
+        cast_first::<Code>(self.node())
     }
 }
 
@@ -37,14 +37,14 @@ impl<'a> Parenthesized<'a> {
     pub fn expr(self) -> Expr<'a>
         ensures { IsExprOf (first_child is_expr_kind (node_of self.entry)) result }
     {
-        cast_first(self.node())
+        cast_first::<Expr>(self.node())
     }
 
     /// The pattern in the parens, where they stand as a pattern.
     pub fn pattern(self) -> Pattern<'a>
         ensures { IsPatternOf (first_child is_pattern_kind (node_of self.entry)) result }
     {
-        cast_first(self.node())
+        cast_first::<Pattern>(self.node())
     }
 }
 
@@ -53,6 +53,7 @@ impl<'a> Contextual<'a> {
     pub fn body(self) -> Expr<'a>
         ensures { IsExprOf (first_child is_expr_kind (node_of self.entry)) result }
     {
-        cast_first(self.node())
+        let context = self.node();
+        cast_first(context)
     }
 }

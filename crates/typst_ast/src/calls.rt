@@ -24,14 +24,14 @@ impl<'a> FuncCall<'a> {
     pub fn callee(self) -> Expr<'a>
         ensures { IsExprOf (first_child is_expr_kind (node_of self.entry)) result }
     {
-        cast_first(self.node())
+        cast_first::<Expr>(self.node())
     }
 
     /// The arguments of the call.
     pub fn args(self) -> Args<'a>
         ensures { node_of result ≡ last_child (is_kind kinds.Args) (node_of self.entry) }
     {
-        cast_last(self.node())
+        cast_last::<Args>(self.node())
     }
 }
 
@@ -40,7 +40,7 @@ impl<'a> Args<'a> {
     pub fn items(self) -> Items<'a, Arg<'a>>
         ensures { nodes_left is_arg_kind result ≡ all_children is_arg_kind (node_of self.entry) }
     {
-        cast_all(self.node())
+        cast_all::<Arg>(self.node())
     }
 
     /// Whether a comma stands behind the last argument: before the last child, trivia aside, a comma is last.
@@ -65,14 +65,14 @@ impl<'a> Closure<'a> {
     pub fn params(self) -> Params<'a>
         ensures { node_of result ≡ first_child (is_kind kinds.Params) (node_of self.entry) }
     {
-        cast_first(self.node())
+        cast_first::<Params>(self.node())
     }
 
     /// The closure's body.
     pub fn body(self) -> Expr<'a>
         ensures { IsExprOf (last_child is_expr_kind (node_of self.entry)) result }
     {
-        cast_last(self.node())
+        cast_last::<Expr>(self.node())
     }
 }
 
@@ -81,6 +81,6 @@ impl<'a> Params<'a> {
     pub fn children(self) -> Items<'a, Param<'a>>
         ensures { nodes_left is_param_kind result ≡ all_children is_param_kind (node_of self.entry) }
     {
-        cast_all(self.node())
+        cast_all::<Param>(self.node())
     }
 }

@@ -23,7 +23,7 @@ impl<'a> Array<'a> {
     pub fn items(self) -> Items<'a, ArrayItem<'a>>
         ensures { nodes_left is_array_item_kind result ≡ all_children is_array_item_kind (node_of self.entry) }
     {
-        cast_all(self.node())
+        cast_all::<ArrayItem>(self.node())
     }
 }
 
@@ -32,7 +32,7 @@ impl<'a> Dict<'a> {
     pub fn items(self) -> Items<'a, DictItem<'a>>
         ensures { nodes_left is_dict_item_kind result ≡ all_children is_dict_item_kind (node_of self.entry) }
     {
-        cast_all(self.node())
+        cast_all::<DictItem>(self.node())
     }
 }
 
@@ -41,7 +41,7 @@ impl<'a> Destructuring<'a> {
     pub fn items(self) -> Items<'a, DestructuringItem<'a>>
         ensures { nodes_left is_destructuring_item_kind result ≡ all_children is_destructuring_item_kind (node_of self.entry) }
     {
-        cast_all(self.node())
+        cast_all::<DestructuringItem>(self.node())
     }
 }
 
@@ -50,21 +50,21 @@ impl<'a> Named<'a> {
     pub fn name(self) -> Ident<'a>
         ensures { atom_node result ≡ first_child (is_kind kinds.Ident) (node_of self.entry) }
     {
-        cast_first(self.node())
+        cast_first::<Ident>(self.node())
     }
 
     /// The expression behind the name. Where the pair stands in a pattern, use [`Self::pattern`].
     pub fn expr(self) -> Expr<'a>
         ensures { IsExprOf (last_child is_expr_kind (node_of self.entry)) result }
     {
-        cast_last(self.node())
+        cast_last::<Expr>(self.node())
     }
 
     /// The pattern behind the name, where the pair stands in a pattern.
     pub fn pattern(self) -> Pattern<'a>
         ensures { IsPatternOf (last_child is_pattern_kind (node_of self.entry)) result }
     {
-        cast_last(self.node())
+        cast_last::<Pattern>(self.node())
     }
 }
 
@@ -73,14 +73,16 @@ impl<'a> Keyed<'a> {
     pub fn key(self) -> Expr<'a>
         ensures { IsExprOf (first_child is_expr_kind (node_of self.entry)) result }
     {
-        cast_first(self.node())
+        let pair = self.node();
+        cast_first(pair)
     }
 
     /// The expression behind the key.
     pub fn expr(self) -> Expr<'a>
         ensures { IsExprOf (last_child is_expr_kind (node_of self.entry)) result }
     {
-        cast_last(self.node())
+        let pair = self.node();
+        cast_last(pair)
     }
 }
 
@@ -90,20 +92,20 @@ impl<'a> Spread<'a> {
     pub fn expr(self) -> Expr<'a>
         ensures { IsExprOf (first_child is_expr_kind (node_of self.entry)) result }
     {
-        cast_first(self.node())
+        cast_first::<Expr>(self.node())
     }
 
     /// The name of the sink, if it has one and the spread stands in a pattern or among parameters.
     pub fn sink_ident(self) -> Option<Ident<'a>>
         ensures { IsOptionalAtom kinds.Ident (first_child (is_kind kinds.Ident) (node_of self.entry)) result }
     {
-        try_cast_first(self.node())
+        try_cast_first::<Ident>(self.node())
     }
 
     /// The expression of the sink, if it has one and the spread stands in a pattern.
     pub fn sink_expr(self) -> Option<Expr<'a>>
         ensures { IsOptionalExprOf (first_child is_expr_kind (node_of self.entry)) result }
     {
-        try_cast_first(self.node())
+        try_cast_first::<Expr>(self.node())
     }
 }

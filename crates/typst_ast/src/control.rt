@@ -24,7 +24,8 @@ impl<'a> Conditional<'a> {
     pub fn condition(self) -> Expr<'a>
         ensures { IsExprOf (first_child is_expr_kind (node_of self.entry)) result }
     {
-        cast_first(self.node())
+        let conditional = self.node();
+        cast_first(conditional)
     }
 
     /// What is evaluated where the condition holds: the second expression.
@@ -50,14 +51,16 @@ impl<'a> WhileLoop<'a> {
     pub fn condition(self) -> Expr<'a>
         ensures { IsExprOf (first_child is_expr_kind (node_of self.entry)) result }
     {
-        cast_first(self.node())
+        let while_loop = self.node();
+        cast_first(while_loop)
     }
 
     /// The loop's body.
     pub fn body(self) -> Expr<'a>
         ensures { IsExprOf (last_child is_expr_kind (node_of self.entry)) result }
     {
-        cast_last(self.node())
+        let while_loop = self.node();
+        cast_last(while_loop)
     }
 }
 
@@ -66,7 +69,8 @@ impl<'a> ForLoop<'a> {
     pub fn pattern(self) -> Pattern<'a>
         ensures { IsPatternOf (first_child is_pattern_kind (node_of self.entry)) result }
     {
-        cast_first(self.node())
+        let for_loop = self.node();
+        cast_first(for_loop)
     }
 
     /// What is gone over: the first expression behind the first `in`.
@@ -86,7 +90,8 @@ impl<'a> ForLoop<'a> {
     pub fn body(self) -> Expr<'a>
         ensures { IsExprOf (last_child is_expr_kind (node_of self.entry)) result }
     {
-        cast_last(self.node())
+        let for_loop = self.node();
+        cast_last(for_loop)
     }
 }
 

@@ -19,7 +19,8 @@ impl<'a> Strong<'a> {
     pub fn body(self) -> Markup<'a>
         ensures { node_of result ≡ first_child (is_kind kinds.Markup) (node_of self.entry) }
     {
-        cast_first(self.node())
+        let strong = self.node();
+        cast_first(strong)
     }
 }
 
@@ -28,7 +29,8 @@ impl<'a> Emph<'a> {
     pub fn body(self) -> Markup<'a>
         ensures { node_of result ≡ first_child (is_kind kinds.Markup) (node_of self.entry) }
     {
-        cast_first(self.node())
+        let emph = self.node();
+        cast_first(emph)
     }
 }
 
@@ -37,7 +39,8 @@ impl<'a> ContentBlock<'a> {
     pub fn body(self) -> Markup<'a>
         ensures { node_of result ≡ first_child (is_kind kinds.Markup) (node_of self.entry) }
     {
-        cast_first(self.node())
+        let block = self.node();
+        cast_first(block)
     }
 }
 
@@ -46,7 +49,8 @@ impl<'a> ListItem<'a> {
     pub fn body(self) -> Markup<'a>
         ensures { node_of result ≡ first_child (is_kind kinds.Markup) (node_of self.entry) }
     {
-        cast_first(self.node())
+        let list_item = self.node();
+        cast_first(list_item)
     }
 }
 
@@ -55,14 +59,16 @@ impl<'a> TermItem<'a> {
     pub fn term(self) -> Markup<'a>
         ensures { node_of result ≡ first_child (is_kind kinds.Markup) (node_of self.entry) }
     {
-        cast_first(self.node())
+        let term_item = self.node();
+        cast_first(term_item)
     }
 
     /// The description of the term.
     pub fn description(self) -> Markup<'a>
         ensures { node_of result ≡ last_child (is_kind kinds.Markup) (node_of self.entry) }
     {
-        cast_last(self.node())
+        let term_item = self.node();
+        cast_last(term_item)
     }
 }
 
@@ -71,7 +77,8 @@ impl<'a> Heading<'a> {
     pub fn body(self) -> Markup<'a>
         ensures { node_of result ≡ first_child (is_kind kinds.Markup) (node_of self.entry) }
     {
-        cast_first(self.node())
+        let heading = self.node();
+        cast_first(heading)
     }
 
     /// The section depth: the bytes of the marker, 1 where the marker is empty or missing.

@@ -28,7 +28,8 @@ impl<'a> Equation<'a> {
     pub fn body(self) -> Math<'a>
         ensures { node_of result ≡ first_child (is_kind kinds.Math) (node_of self.entry) }
     {
-        cast_first(self.node())
+        let equation = self.node();
+        cast_first(equation)
     }
 
     /// Whether it is a block of its own: its second and its last but one child are spaces.
@@ -62,14 +63,14 @@ impl<'a> MathCall<'a> {
     pub fn callee(self) -> MathAccess<'a>
         ensures { IsMathAccessOf (first_child is_math_access_kind (node_of self.entry)) result }
     {
-        cast_first(self.node())
+        cast_first::<MathAccess>(self.node())
     }
 
     /// The arguments of the call.
     pub fn args(self) -> MathArgs<'a>
         ensures { node_of result ≡ last_child (is_kind kinds.MathArgs) (node_of self.entry) }
     {
-        cast_last(self.node())
+        cast_last::<MathArgs>(self.node())
     }
 }
 
@@ -78,21 +79,21 @@ impl<'a> MathDelimited<'a> {
     pub fn open(self) -> Expr<'a>
         ensures { IsExprOf (first_child is_expr_kind (node_of self.entry)) result }
     {
-        cast_first(self.node())
+        cast_first::<Expr>(self.node())
     }
 
     /// The contents, the delimiters not included.
     pub fn body(self) -> Math<'a>
         ensures { node_of result ≡ first_child (is_kind kinds.Math) (node_of self.entry) }
     {
-        cast_first(self.node())
+        cast_first::<Math>(self.node())
     }
 
     /// The closing delimiter.
     pub fn close(self) -> Expr<'a>
         ensures { IsExprOf (last_child is_expr_kind (node_of self.entry)) result }
     {
-        cast_last(self.node())
+        cast_last::<Expr>(self.node())
     }
 }
 
@@ -112,7 +113,8 @@ impl<'a> MathAttach<'a> {
     pub fn base(self) -> Expr<'a>
         ensures { IsExprOf (first_child is_expr_kind (node_of self.entry)) result }
     {
-        cast_first(self.node())
+        let attach = self.node();
+        cast_first(attach)
     }
 
     /// The bottom attachment: the first expression behind the first underscore.
@@ -151,14 +153,16 @@ impl<'a> MathFrac<'a> {
     pub fn num(self) -> Expr<'a>
         ensures { IsExprOf (first_child is_expr_kind (node_of self.entry)) result }
     {
-        cast_first(self.node())
+        let fraction = self.node();
+        cast_first(fraction)
     }
 
     /// The denominator.
     pub fn denom(self) -> Expr<'a>
         ensures { IsExprOf (last_child is_expr_kind (node_of self.entry)) result }
     {
-        cast_last(self.node())
+        let fraction = self.node();
+        cast_last(fraction)
     }
 }
 
@@ -181,6 +185,7 @@ impl<'a> MathRoot<'a> {
     pub fn radicand(self) -> Expr<'a>
         ensures { IsExprOf (first_child is_expr_kind (node_of self.entry)) result }
     {
-        cast_first(self.node())
+        let root = self.node();
+        cast_first(root)
     }
 }

@@ -114,6 +114,18 @@ pub struct MathArgItems<'a> {
     behind_hash: bool,
 }
 
+impl<'a> MathArgItems<'a> {
+    // The items of these nodes.
+    fn over(nodes: &'a [SyntaxNode]) -> Self
+        ensures { items_left result ≡ content_items nodes.now }
+    {
+        MathArgItems {
+            rest: nodes,
+            behind_hash: false,
+        }
+    }
+}
+
 impl<'a> Iterator for MathArgItems<'a> {
     type Item = MathArgItem<'a>;
 
@@ -154,6 +166,18 @@ pub struct MathArgList<'a> {
     rest: &'a [SyntaxNode],
     // Whether the nearest node before the rest that is no argument is a hash.
     behind_hash: bool,
+}
+
+impl<'a> MathArgList<'a> {
+    // The arguments among these nodes.
+    fn over(nodes: &'a [SyntaxNode]) -> Self
+        ensures { args_left result ≡ args_in (content_items nodes.now) }
+    {
+        MathArgList {
+            rest: nodes,
+            behind_hash: false,
+        }
+    }
 }
 
 // Whether the node is a hash.
@@ -232,19 +256,13 @@ impl<'a> of::MathArgs<'a> {
     pub fn content_items(self) -> MathArgItems<'a>
         ensures { items_left result ≡ content_items (children_in (node_of self.entry)) }
     {
-        MathArgItems {
-            rest: children(self.node()),
-            behind_hash: false,
-        }
+        MathArgItems::over(children(self.node()))
     }
 
     /// The arguments in order, from the front, each with whether a semicolon ends it.
     pub fn arg_items(self) -> MathArgList<'a>
         ensures { args_left result ≡ args_in (content_items (children_in (node_of self.entry))) }
     {
-        MathArgList {
-            rest: children(self.node()),
-            behind_hash: false,
-        }
+        MathArgList::over(children(self.node()))
     }
 }

@@ -34,7 +34,8 @@ impl<'a> Unary<'a> {
     pub fn expr(self) -> Expr<'a>
         ensures { IsExprOf (last_child is_expr_kind (node_of self.entry)) result }
     {
-        cast_last(self.node())
+        let unary = self.node();
+        cast_last(unary)
     }
 }
 
@@ -63,14 +64,16 @@ impl<'a> Binary<'a> {
     pub fn lhs(self) -> Expr<'a>
         ensures { IsExprOf (first_child is_expr_kind (node_of self.entry)) result }
     {
-        cast_first(self.node())
+        let binary = self.node();
+        cast_first(binary)
     }
 
     /// The right operand.
     pub fn rhs(self) -> Expr<'a>
         ensures { IsExprOf (last_child is_expr_kind (node_of self.entry)) result }
     {
-        cast_last(self.node())
+        let binary = self.node();
+        cast_last(binary)
     }
 }
 
@@ -79,13 +82,15 @@ impl<'a> FieldAccess<'a> {
     pub fn target(self) -> Expr<'a>
         ensures { IsExprOf (first_child is_expr_kind (node_of self.entry)) result }
     {
-        cast_first(self.node())
+        let access = self.node();
+        cast_first(access)
     }
 
     /// The field's name.
     pub fn field(self) -> Ident<'a>
         ensures { atom_node result ≡ last_child (is_kind kinds.Ident) (node_of self.entry) }
     {
-        cast_last(self.node())
+        let access = self.node();
+        cast_last(access)
     }
 }

@@ -28,7 +28,7 @@ impl<'a> SetRule<'a> {
     pub fn args(self) -> Args<'a>
         ensures { node_of result ≡ last_child (is_kind kinds.Args) (node_of self.entry) }
     {
-        cast_last(self.node())
+        cast_last::<Args>(self.node())
     }
 
     /// The condition under which the rule holds: the first expression behind the first `if`.
@@ -57,6 +57,6 @@ impl<'a> ShowRule<'a> {
     pub fn transform(self) -> Expr<'a>
         ensures { IsExprOf (last_child is_expr_kind (node_of self.entry)) result }
     {
-        cast_last(self.node())
+        cast_last::<Expr>(self.node())
     }
 }

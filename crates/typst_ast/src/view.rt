@@ -51,10 +51,7 @@ impl<'a, M: Kind> AstNode<'a> for View<'a, M> {
 
     fn from_untyped(node: &'a SyntaxNode) -> Option<Self> {
         if node.kind() == M::KIND {
-            Some(View {
-                node: Some(node),
-                kind: PhantomData,
-            })
+            Some(View::of_kind(node))
         } else {
             None
         }
@@ -98,6 +95,6 @@ impl<'a, M: Kind> View<'a, M> {
     pub(crate) fn node(self) -> Option<&'a SyntaxNode>
         ensures { option_copied result ≡ node_of self.entry }
     {
-        self.node
+        self.to_untyped()
     }
 }
