@@ -1,7 +1,7 @@
 use crate::trees::{cast, inner, leaf};
 use std::alloc::Global;
 use std::test::Fail;
-use typst_ast::{is_alike, views as of};
+use typst_ast::{is_alike, is_equal, views as of};
 use typst_base::{FileId, SyntaxKind};
 use typst_node::{AstNode, SyntaxNode};
 
@@ -38,5 +38,18 @@ fn views_of_other_texts_are_not_alike(rt: HostRuntime) -> Result<(), Fail> {
     assert!(rt; !is_alike(view, cast::<of::Strong>(&b)?));
     assert!(rt; !is_alike(view, of::Strong::placeholder()));
     assert!(rt; is_alike(of::Strong::placeholder(), of::Strong::placeholder()));
+    Ok(())
+}
+
+#[test]
+fn equal_views_have_equal_nodes(rt: HostRuntime) -> Result<(), Fail> {
+    let a = strong(rt.alloc(), "a")?;
+    let again = strong(rt.alloc(), "a")?;
+    let b = strong(rt.alloc(), "b")?;
+    let view = cast::<of::Strong>(&a)?;
+    assert!(rt; is_equal(view, cast::<of::Strong>(&again)?));
+    assert!(rt; !is_equal(view, cast::<of::Strong>(&b)?));
+    assert!(rt; !is_equal(view, of::Strong::placeholder()));
+    assert!(rt; is_equal(of::Strong::placeholder(), of::Strong::placeholder()));
     Ok(())
 }
