@@ -1,0 +1,119 @@
+#!/usr/bin/env python3
+"""Tries a crate's wrong bodies many at once, one a function, and says which functions the prover still accepts.
+
+    bench/bodies.py CRATE [FOLDER]
+
+A check of typst_ast takes over a minute whatever was edited, so the gate tries a few wrong bodies of that crate one by
+one (crates/typst_ast/must-fail), and this the others (crates/typst_ast/wrong-bodies, the FOLDER by default). It applies a
+batch to the crate, runs `rt check` there, restores the files and reads the line of each edited function, which must be
+`not proved`. Run it on a checkout in which nothing else is edited or checked.
+"""
+import re
+import subprocess
+import sys
+from pathlib import Path
+
+FUNCTION = re.compile(r"^ *(?:pub(?:\([^)]*\))? )?fn (\w+)", re.M)
+IMPL = re.compile(r"^impl(?:<[^{]*?>)? (?:(?:(\w+)(?:<[^>]*>)?) for )?(?:of::)?(\w+)", re.M)
+PROVED = re.compile(r"^fn (\S+): (proved|not proved|no proof|could not tell)", re.M)
+
+
+def pairs(text):
+    """The edit's changes: file, old line and new line."""
+    found, path, old = [], None, None
+    for line in text.split("\n"):
+        if line.startswith("file: "):
+            path = line[len("file: ") :].strip()
+        elif line.startswith("old: "):
+            old = line[len("old: ") :]
+        elif line.startswith("new:"):
+            found.append((path, old, line[len("new:") :].removeprefix(" ")))
+    return found
+
+
+def last_before(pattern, text, at):
+    return next((it for it in reversed([*pattern.finditer(text)]) if it.start() <= at), None)
+
+
+def place(crate, changes):
+    """The function whose body the edit changes: its module, the words of its impl block and its name."""
+    for path, old, _ in changes:
+        text = (crate / path).read_text()
+        if text.count(old) != 1:
+            raise ValueError(f"an old line stands {text.count(old)} times in {path}")
+        at = text.index(old) + len(old)
+        function, impl = last_before(FUNCTION, text, at), last_before(IMPL, text, at)
+        if old.startswith("use ") or not function:
+            continue
+        words = impl.groups() if impl and "\n}\n" not in text[impl.start() : function.start()] else ()
+        return Path(path).stem, tuple(it for it in words if it), function[1]
+    raise ValueError("it changes no function")
+
+
+def batches(edits):
+    """The edits in as few batches as will do: in each, one of a function, and no two of the same line of a file."""
+    made = []
+    for name, changes, at in edits:
+        lines = {(path, old) for path, old, _ in changes}
+        batch = next((it for it in made if at not in it["places"] and not lines & it["lines"]), None)
+        if batch is None:
+            batch = {"edits": [], "places": set(), "lines": set()}
+            made.append(batch)
+        batch["edits"].append((name, changes, at))
+        batch["places"].add(at)
+        batch["lines"] |= lines
+    return [it["edits"] for it in made]
+
+
+def checked(crate, edits):
+    """Checks the crate with these edits, restores it, and returns what was said of each function."""
+    files = {crate / path for _, changes, _ in edits for path, _, _ in changes}
+    kept = {it: it.read_text() for it in files}
+    try:
+        for _, changes, _ in edits:
+            for path, old, new in changes:
+                file = crate / path
+                file.write_text(file.read_text().replace(old, new))
+        ran = subprocess.run(["rt", "check"], cwd=crate, capture_output=True, text=True)
+        return ran.stdout + ran.stderr
+    finally:
+        for file, text in kept.items():
+            file.write_text(text)
+
+
+def is_refused(said, at):
+    """Whether the function was found and not proved."""
+    module, words, name = at
+    for path, verdict in said:
+        parts = path.split("::")
+        if parts[-1].split("+")[0] != name or module not in parts:
+            continue
+        if not words or any(word in parts[-2] for word in words):
+            if verdict != "proved":
+                return True
+    return False
+
+
+def main(name, folder="wrong-bodies"):
+    crate = Path(__file__).resolve().parent.parent / "crates" / name
+    edits, bad = [], []
+    for file in sorted((crate / folder).glob("*.edit")):
+        changes = pairs(file.read_text())
+        try:
+            edits.append((file.stem, changes, place(crate, changes)))
+        except ValueError as error:
+            bad.append(f"{file.stem}: cannot be applied: {error}")
+    for batch in batches(edits):
+        text = checked(crate, batch)
+        said = PROVED.findall(text)
+        if "logic=not-proved" not in text:
+            bad.append(f"a batch of {len(batch)} did not reach the prover: {text.strip()[-300:]}")
+            continue
+        bad += [f"{edit}: not refused at {at}" for edit, _, at in batch if not is_refused(said, at)]
+        print(f"{len(batch)} wrong bodies tried", flush=True)
+    print("\n".join([*bad, f"{len(edits)} wrong bodies, {len(bad)} not refused"]))
+    return 1 if bad else 0
+
+
+if __name__ == "__main__":
+    sys.exit(main(*sys.argv[1:]))
