@@ -5,12 +5,14 @@
 
 A check of typst_ast takes over a minute whatever was edited, so the gate tries a few wrong bodies of that crate one by
 one (crates/typst_ast/must-fail), and this the others (crates/typst_ast/wrong-bodies, the FOLDER by default). It applies a
-batch to the crate, runs `rt check` there, restores the files and reads the line of each edited function, which must be
-`not proved`. Run it on a checkout in which nothing else is edited or checked.
+batch to the crate, runs `rt check` there, puts the files and the kept work back and reads the line of each edited
+function, which must be `not proved`. Run it on a checkout where the crate is proved and nothing else is edited or checked.
 """
 import re
+import shutil
 import subprocess
 import sys
+import tempfile
 from pathlib import Path
 
 FUNCTION = re.compile(r"^ *(?:pub(?:\([^)]*\))? )?fn (\w+)", re.M)
@@ -69,6 +71,8 @@ def checked(crate, edits):
     """Checks the crate with these edits, restores it, and returns what was said of each function."""
     files = {crate / path for _, changes, _ in edits for path, _, _ in changes}
     kept = {it: it.read_text() for it in files}
+    room = tempfile.mkdtemp(prefix="bodies-")
+    shutil.copytree(crate / "out", f"{room}/out")
     try:
         for _, changes, _ in edits:
             for path, old, new in changes:
@@ -79,6 +83,9 @@ def checked(crate, edits):
     finally:
         for file, text in kept.items():
             file.write_text(text)
+        shutil.rmtree(crate / "out")
+        shutil.move(f"{room}/out", crate / "out")
+        shutil.rmtree(room)
 
 
 def is_refused(said, at):
@@ -109,8 +116,9 @@ def main(name, folder="wrong-bodies"):
         if "logic=not-proved" not in text:
             bad.append(f"a batch of {len(batch)} did not reach the prover: {text.strip()[-300:]}")
             continue
-        bad += [f"{edit}: not refused at {at}" for edit, _, at in batch if not is_refused(said, at)]
-        print(f"{len(batch)} wrong bodies tried", flush=True)
+        here = [f"{edit}: not refused at {at}" for edit, _, at in batch if not is_refused(said, at)]
+        bad += here
+        print("\n".join([*here, f"{len(batch)} wrong bodies tried, {len(here)} not refused"]), flush=True)
     print("\n".join([*bad, f"{len(edits)} wrong bodies, {len(bad)} not refused"]))
     return 1 if bad else 0
 
