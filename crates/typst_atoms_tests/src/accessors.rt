@@ -72,16 +72,31 @@ fn plain_texts_read_as_they_stand(rt: HostRuntime) -> Result<(), Fail> {
     assert_eq!(rt; cast::<of::RawLang>(&lang)?.get(), "rust");
     let link = SyntaxNode::leaf(rt.alloc(), SyntaxKind::Link, "https://typst.org")?;
     assert_eq!(rt; cast::<of::Link>(&link)?.get(), "https://typst.org");
+    Ok(())
+}
+
+#[test]
+fn names_floats_and_primes_read_as_they_stand(rt: HostRuntime) -> Result<(), Fail> {
     let pi = SyntaxNode::leaf(rt.alloc(), SyntaxKind::MathIdent, "pi")?;
     assert_eq!(rt; cast::<of::MathIdent>(&pi)?.as_str(), "pi");
     let float = SyntaxNode::leaf(rt.alloc(), SyntaxKind::Float, "1.2e3")?;
     assert_eq!(rt; cast::<of::Float>(&float)?.get(), "1.2e3");
     let primes = SyntaxNode::leaf(rt.alloc(), SyntaxKind::MathPrimes, "'''")?;
     assert_eq!(rt; cast::<of::MathPrimes>(&primes)?.count(), 3);
+    Ok(())
+}
+
+#[test]
+fn one_double_quote_is_double(rt: HostRuntime) -> Result<(), Fail> {
     for (text, double) in [("\"", true), ("'", false), ("\"\"", false)] {
         let quote = SyntaxNode::leaf(rt.alloc(), SyntaxKind::SmartQuote, text)?;
         assert_eq!(rt; cast::<of::SmartQuote>(&quote)?.double(), double);
     }
+    Ok(())
+}
+
+#[test]
+fn the_word_true_is_true(rt: HostRuntime) -> Result<(), Fail> {
     for (text, value) in [("true", true), ("false", false), ("True", false)] {
         let boolean = SyntaxNode::leaf(rt.alloc(), SyntaxKind::Bool, text)?;
         assert_eq!(rt; cast::<of::Bool>(&boolean)?.get(), value);

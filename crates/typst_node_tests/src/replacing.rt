@@ -237,34 +237,70 @@ fn equal_neighbours_of_a_change_stay_as_they_are(rt: HostRuntime) -> Result<(), 
 }
 
 #[test]
-fn replacing_below_corrects_what_is_above(rt: HostRuntime) -> Result<(), Fail> {
-    let alloc = rt.alloc();
-    let mut tree = strong(alloc)?;
-    let before = tree.clone()?;
-    let all = [3, 4, 5, 6, 7, 8, 15];
-    assert_eq!(rt; numbers(alloc, &tree)?.as_slice(), all.as_slice());
+fn edits_fit_where_their_path_leads_and_their_range_ends(rt: HostRuntime) -> Result<(), Fail> {
+    let tree = strong(rt.alloc())?;
     assert!(rt; tree.edit_fits(&[0, 1], 0..1));
     assert!(rt; !tree.edit_fits(&[0, 1], 0..2));
     assert!(rt; !tree.edit_fits(&[0, 1], 1..0));
     assert!(rt; !tree.edit_fits(&[5], 0..0));
     assert!(rt; tree.edit_fits(&[1], 7..3));
-    // Two in the place of one have no room in the innermost node.
+    Ok(())
+}
+
+#[test]
+fn two_nodes_have_no_room_in_the_innermost_one(rt: HostRuntime) -> Result<(), Fail> {
+    let alloc = rt.alloc();
+    let mut tree = strong(alloc)?;
+    let before = tree.clone()?;
     let answer = replace_at(alloc, &mut tree, &[0, 1], 0..1, texts(alloc, &["x", "y"])?)?;
     assert_eq!(rt; answer, Err(ReplaceError::Unnumberable));
     assert!(rt; tree == before);
-    // One node further out they have.
+    Ok(())
+}
+
+/// The same tree with Markup of the texts `x` and `y` in the place of that of the text `b`.
+fn widened(alloc: Global) -> Result<SyntaxNode, Fail> {
+    let mut tree = strong(alloc)?;
     let inside = SyntaxNode::inner(alloc, SyntaxKind::Markup, texts(alloc, &["x", "y"])?)?;
     let answer = replace_at(alloc, &mut tree, &[0], 1..2, vec![in alloc; inside]?)?;
-    assert_eq!(rt; answer, done(0..3, 2));
-    let all = [3, 4, 5, 6, 7, 8, 9, 15];
-    assert_eq!(rt; numbers(alloc, &tree)?.as_slice(), all.as_slice());
+    if answer != done(0..3, 2) {
+        return Err("another window")?;
+    }
+    Ok(tree)
+}
+
+#[test]
+fn replacing_below_renumbers_the_node_around(rt: HostRuntime) -> Result<(), Fail> {
+    let alloc = rt.alloc();
+    let before = [3, 4, 5, 6, 7, 8, 15];
+    assert_eq!(rt;
+        numbers(alloc, &strong(alloc)?)?.as_slice(),
+        before.as_slice()
+    );
+    let tree = widened(alloc)?;
+    let after = [3, 4, 5, 6, 7, 8, 9, 15];
+    assert_eq!(rt; numbers(alloc, &tree)?.as_slice(), after.as_slice());
+    assert!(rt; tree.is_numbered());
+    Ok(())
+}
+
+#[test]
+fn replacing_below_corrects_what_is_above(rt: HostRuntime) -> Result<(), Fail> {
+    let alloc = rt.alloc();
+    let tree = widened(alloc)?;
     assert_eq!(rt; tree.full_text(alloc)?.as_str(), "*xy*c");
     assert_eq!(rt; tree.len(), 5);
     assert_eq!(rt; tree.descendants(), 8);
     assert_eq!(rt; tree.upper(), 30);
     assert!(rt; tree.child_slice().len() == 2);
     assert_eq!(rt; (tree.child_end(0), tree.child_end(1)), (4, 5));
-    let strong = &tree.child_slice()[0];
+    Ok(())
+}
+
+#[test]
+fn replacing_below_corrects_the_edited_node(rt: HostRuntime) -> Result<(), Fail> {
+    let tree = widened(rt.alloc())?;
+    let strong = tree.child_slice().first().ok_or("no child")?;
     assert!(rt; strong.child_slice().len() == 3);
     assert_eq!(rt; strong.upper(), 14);
     assert_eq!(rt; strong.descendants(), 6);
@@ -275,7 +311,6 @@ fn replacing_below_corrects_what_is_above(rt: HostRuntime) -> Result<(), Fail> {
     );
     assert_eq!(rt; ends, (1, 3, 4));
     assert_eq!(rt; strong.child_slice()[1].upper(), 9);
-    assert!(rt; tree.is_numbered());
     Ok(())
 }
 
