@@ -1,7 +1,7 @@
 use crate::trees::{cast, hollow};
 use std::alloc::Global;
 use std::test::Fail;
-use typst_ast::{Expr, views as of};
+use typst_ast::{Expr, Pattern, views as of};
 use typst_base::SyntaxKind;
 use typst_node::AstNode;
 
@@ -39,5 +39,14 @@ fn views_are_equal_by_their_nodes(rt: HostRuntime) -> Result<(), Fail> {
     assert!(rt; cast::<of::Strong>(&strong)? == cast::<of::Strong>(&same)?);
     assert!(rt; of::Strong::placeholder() == of::Strong::placeholder());
     assert!(rt; cast::<of::Strong>(&strong)? != of::Strong::placeholder());
+    Ok(())
+}
+
+#[test]
+fn parts_are_a_pattern_and_bind_nothing_where_there_are_none(rt: HostRuntime) -> Result<(), Fail> {
+    let node = hollow(rt.alloc(), SyntaxKind::Destructuring)?;
+    let pattern = cast::<Pattern>(&node)?;
+    assert!(rt; matches!(pattern, Pattern::Destructuring(_)));
+    assert!(rt; pattern.bindings(rt.alloc())?.is_empty());
     Ok(())
 }
