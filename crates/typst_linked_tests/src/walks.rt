@@ -1,5 +1,7 @@
 // Children, siblings and preorder.
 use crate::trees::{strong_text, text_around_space, two_texts};
+use std::alloc::Global;
+use std::ops::Range;
 use std::test::Fail;
 use typst_base::SyntaxKind;
 use typst_linked::LinkedNode;
@@ -71,27 +73,32 @@ fn a_linked_node_is_shown_as_its_node(rt: HostRuntime) -> Result<(), Fail> {
     Ok(())
 }
 
+/// The ranges of a subtree's nodes, in preorder.
+fn ranges_of(alloc: Global, node: &LinkedNode) -> Result<Vec<Range<usize>>, Fail> {
+    let mut ranges = Vec::new(alloc);
+    for below in node.preorder(alloc)? {
+        ranges.push(below?.range())?;
+    }
+    Ok(ranges)
+}
+
+#[test]
+fn preorder_gives_a_node_before_its_children(rt: HostRuntime) -> Result<(), Fail> {
+    let tree = strong_text(rt.alloc())?;
+    let ranges = ranges_of(rt.alloc(), &LinkedNode::new(&tree))?;
+    let all = [0..4, 0..3, 0..1, 1..2, 1..2, 2..3, 3..4];
+    assert_eq!(rt; ranges.as_slice(), all.as_slice());
+    Ok(())
+}
+
 #[test]
 fn preorder_ends_with_the_subtree(rt: HostRuntime) -> Result<(), Fail> {
     let alloc = rt.alloc();
     let tree = strong_text(alloc)?;
     let root = LinkedNode::new(&tree);
-    let mut ranges = Vec::new(alloc);
-    for node in root.preorder(alloc)? {
-        ranges.push(node?.range())?;
-    }
-    assert_eq!(rt;
-        ranges.as_slice(),
-        [0..4, 0..3, 0..1, 1..2, 1..2, 2..3, 3..4].as_slice()
-    );
     let strong = root.children(alloc)?.next().ok_or("no child")??;
-    let mut left = strong.preorder(alloc)?;
-    assert_eq!(rt; left.next().ok_or("no node")??.kind(), SyntaxKind::Strong);
-    assert_eq!(rt; left.next().ok_or("no node")??.kind(), SyntaxKind::Star);
-    assert_eq!(rt; left.next().ok_or("no node")??.kind(), SyntaxKind::Markup);
-    let text = left.next().ok_or("no node")??;
-    assert_eq!(rt; text.parent().ok_or("no parent")?.index(), 1);
-    assert_eq!(rt; left.next().ok_or("no node")??.range(), 2..3);
-    assert!(rt; left.next().is_none() && left.next().is_none());
+    let ranges = ranges_of(alloc, &strong)?;
+    let all = [0..3, 0..1, 1..2, 1..2, 2..3];
+    assert_eq!(rt; ranges.as_slice(), all.as_slice());
     Ok(())
 }
