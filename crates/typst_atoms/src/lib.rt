@@ -28,6 +28,7 @@ pub use view::View;
 
 pub mod casts;
 pub mod comments;
+pub mod equal;
 pub mod escape;
 mod hex;
 pub mod ident;

@@ -79,3 +79,25 @@ fn a_view_shows_its_node(rt: HostRuntime) -> Result<(), Fail> {
     assert!(rt; shown.as_str().contains("Ident: \"it\""));
     Ok(())
 }
+
+#[test]
+fn views_of_one_kind_are_equal_by_their_nodes(rt: HostRuntime) -> Result<(), Fail> {
+    let one = SyntaxNode::leaf(rt.alloc(), SyntaxKind::Ident, "it")?;
+    let same = SyntaxNode::leaf(rt.alloc(), SyntaxKind::Ident, "it")?;
+    let other = SyntaxNode::leaf(rt.alloc(), SyntaxKind::Ident, "at")?;
+    let view = cast::<of::Ident>(&one)?;
+    assert!(rt; view.is_equal(cast::<of::Ident>(&same)?));
+    assert!(rt; !view.is_equal(cast::<of::Ident>(&other)?));
+    assert!(rt; !view.is_equal(of::Ident::placeholder()));
+    Ok(())
+}
+
+#[test]
+fn placeholders_of_other_kinds_are_not_equal(rt: HostRuntime) {
+    let access = MathAccess::placeholder();
+    let field = MathAccess::MathFieldAccess(of::MathFieldAccess::placeholder());
+    assert!(rt; access.is_equal(access) && !access.is_equal(field));
+    let item = ImportItem::placeholder();
+    let renamed = ImportItem::Renamed(of::RenamedImportItem::placeholder());
+    assert!(rt; item.is_equal(item) && !item.is_equal(renamed));
+}
