@@ -1,4 +1,4 @@
-use crate::trees::{cast, inner, leaf};
+use crate::trees::{cast, drawn};
 use std::alloc::Global;
 use std::test::Fail;
 use typst_ast::{is_alike, is_equal, views as of};
@@ -7,9 +7,8 @@ use typst_node::{AstNode, SyntaxNode};
 
 // Strong content of a text.
 fn strong(alloc: Global, text: &str) -> Result<SyntaxNode, Fail> {
-    let text = leaf(alloc, SyntaxKind::Text, text)?;
-    let body = inner(alloc, SyntaxKind::Markup, vec![in alloc; text]?)?;
-    inner(alloc, SyntaxKind::Strong, vec![in alloc; body]?)
+    let drawing = format!(in alloc; "Strong[ Markup[ Text:{text} ] ]")?;
+    drawn(alloc, drawing.as_str())
 }
 
 #[test]
@@ -19,8 +18,8 @@ fn views_of_an_edited_tree_read_as_those_of_the_tree_built_anew(
     let mut edited = strong(rt.alloc(), "a")?;
     let file = FileId::new(1).ok_or("no file")?;
     edited.numberize(file, 2..1 << 47)?;
-    let b = leaf(rt.alloc(), SyntaxKind::Text, "b")?;
     assert!(rt; edited.edit_fits(&[0], 0..1) && edited.is_numbered());
+    let b = drawn(rt.alloc(), "Text:b")?;
     edited.replace_at(rt.alloc(), &[0], 0..1, vec![in rt.alloc(); b]?)?;
     let anew = strong(rt.alloc(), "b")?;
     let view = cast::<of::Strong>(&edited)?;

@@ -1,23 +1,14 @@
-use crate::trees::{cast, inner, leaf, text};
+use crate::trees::{cast, drawn, text};
 use std::alloc::Global;
 use std::test::Fail;
 use typst_ast::{Expr, views as of};
 use typst_base::SyntaxKind;
 use typst_node::{AstNode, SyntaxNode};
 
-// ` `, `let`, ` ` and `a`.
+// A node of this kind over a space, a binding, two spaces and a text.
 fn spaced(alloc: Global, kind: SyntaxKind) -> Result<SyntaxNode, Fail> {
-    let first = leaf(alloc, SyntaxKind::Space, " ")?;
-    let keyword = leaf(alloc, SyntaxKind::Let, "let")?;
-    let binding = inner(alloc, SyntaxKind::LetBinding, vec![in alloc; keyword]?)?;
-    let second = leaf(alloc, SyntaxKind::Space, "  ")?;
-    let a = leaf(alloc, SyntaxKind::Text, "a")?;
-    let children = vec![in alloc; first, binding, second, a]?;
-    if kind == SyntaxKind::Math {
-        inner(alloc, SyntaxKind::Math, children)
-    } else {
-        inner(alloc, SyntaxKind::Markup, children)
-    }
+    let drawing = format!(in alloc; "{kind:?}[ Space:~ LetBinding[ Let:let ] Space:~~ Text:a ]")?;
+    drawn(alloc, drawing.as_str())
 }
 
 #[test]
@@ -91,7 +82,7 @@ fn a_placeholder_of_an_expression_is_none(rt: HostRuntime) {
 
 #[test]
 fn a_space_is_no_expression_by_itself(rt: HostRuntime) -> Result<(), Fail> {
-    let space = leaf(rt.alloc(), SyntaxKind::Space, " ")?;
+    let space = drawn(rt.alloc(), "Space:~")?;
     assert!(rt; space.cast::<Expr>().is_none() && !space.is::<Expr>());
     Ok(())
 }

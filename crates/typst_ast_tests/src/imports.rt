@@ -1,23 +1,13 @@
-use crate::trees::{cast, inner, leaf, text};
+use crate::trees::{cast, drawn, text};
 use std::alloc::{AllocError, Global};
 use std::test::Fail;
 use typst_ast::{BareImportError, Imports, file_stem, views as of};
-use typst_base::SyntaxKind;
 use typst_node::{AstNode, SyntaxNode};
 
 // `import` and its source.
-fn import(alloc: Global, source: SyntaxNode) -> Result<SyntaxNode, Fail> {
-    let word = leaf(alloc, SyntaxKind::Import, "import")?;
-    inner(
-        alloc,
-        SyntaxKind::ModuleImport,
-        vec![in alloc; word, source]?,
-    )
-}
-
-// `import` and a string.
-fn import_of(alloc: Global, string: &str) -> Result<SyntaxNode, Fail> {
-    import(alloc, leaf(alloc, SyntaxKind::Str, string)?)
+fn import(alloc: Global, source: &str) -> Result<SyntaxNode, Fail> {
+    let drawing = format!(in alloc; "ModuleImport[ Import:import {source} ]")?;
+    drawn(alloc, drawing.as_str())
 }
 
 #[test]
@@ -44,13 +34,13 @@ fn stems_of_files(rt: HostRuntime) {
 
 #[test]
 fn a_path_names_its_module_by_its_stem(rt: HostRuntime) -> Result<(), Fail> {
-    let tree = import_of(rt.alloc(), "\"a/b.typ\"")?;
+    let tree = import(rt.alloc(), "Str:\"a/b.typ\"")?;
     let view = cast::<of::ModuleImport>(&tree)?;
     let name = view.bare_name(rt.alloc(), |_: &str| true, |_: &str| Ok(None))?;
     assert!(rt; name.is_ok_and(|name| name.as_str() == "b"));
     let name = view.bare_name(rt.alloc(), |_: &str| false, |_: &str| Ok(None))?;
     assert!(rt; name.is_err_and(|error| error == BareImportError::PathInvalid));
-    let tree = import_of(rt.alloc(), "\"a/..\"")?;
+    let tree = import(rt.alloc(), "Str:\"a/..\"")?;
     let view = cast::<of::ModuleImport>(&tree)?;
     let name = view.bare_name(rt.alloc(), |_: &str| true, |_: &str| Ok(None))?;
     assert!(rt; name.is_err_and(|error| error == BareImportError::PathInvalid));
@@ -60,7 +50,7 @@ fn a_path_names_its_module_by_its_stem(rt: HostRuntime) -> Result<(), Fail> {
 #[test]
 fn a_package_names_its_module(rt: HostRuntime) -> Result<(), Fail> {
     let alloc = rt.alloc();
-    let tree = import_of(alloc, "\"@preview/cetz:0.1.0\"")?;
+    let tree = import(alloc, "Str:\"@preview/cetz:0.1.0\"")?;
     let view = cast::<of::ModuleImport>(&tree)?;
     let name = view.bare_name(
         alloc,
@@ -77,7 +67,7 @@ fn a_package_names_its_module(rt: HostRuntime) -> Result<(), Fail> {
 
 #[test]
 fn a_computed_source_gives_no_name(rt: HostRuntime) -> Result<(), Fail> {
-    let tree = import(rt.alloc(), leaf(rt.alloc(), SyntaxKind::Int, "1")?)?;
+    let tree = import(rt.alloc(), "Int:1")?;
     let view = cast::<of::ModuleImport>(&tree)?;
     let name = view.bare_name(rt.alloc(), |_: &str| true, |_: &str| Ok(None))?;
     assert!(rt; name.is_err_and(|error| error == BareImportError::Dynamic));
@@ -89,19 +79,11 @@ fn a_computed_source_gives_no_name(rt: HostRuntime) -> Result<(), Fail> {
 
 #[test]
 fn a_name_or_a_field_names_its_module(rt: HostRuntime) -> Result<(), Fail> {
-    let tree = import(rt.alloc(), leaf(rt.alloc(), SyntaxKind::Ident, "x")?)?;
+    let tree = import(rt.alloc(), "Ident:x")?;
     let view = cast::<of::ModuleImport>(&tree)?;
     let name = view.bare_name(rt.alloc(), |_: &str| false, |_: &str| Ok(None))?;
     assert!(rt; name.is_ok_and(|name| name.as_str() == "x"));
-    let a = leaf(rt.alloc(), SyntaxKind::Ident, "a")?;
-    let dot = leaf(rt.alloc(), SyntaxKind::Dot, ".")?;
-    let b = leaf(rt.alloc(), SyntaxKind::Ident, "b")?;
-    let access = inner(
-        rt.alloc(),
-        SyntaxKind::FieldAccess,
-        vec![in rt.alloc(); a, dot, b]?,
-    )?;
-    let tree = import(rt.alloc(), access)?;
+    let tree = import(rt.alloc(), "FieldAccess[ Ident:a Dot:. Ident:b ]")?;
     let view = cast::<of::ModuleImport>(&tree)?;
     let name = view.bare_name(rt.alloc(), |_: &str| false, |_: &str| Ok(None))?;
     assert!(rt; name.is_ok_and(|name| name.as_str() == "b"));
@@ -110,12 +92,7 @@ fn a_name_or_a_field_names_its_module(rt: HostRuntime) -> Result<(), Fail> {
 
 #[test]
 fn an_import_may_be_renamed(rt: HostRuntime) -> Result<(), Fail> {
-    let x = leaf(rt.alloc(), SyntaxKind::Ident, "x")?;
-    let word = leaf(rt.alloc(), SyntaxKind::As, "as")?;
-    let y = leaf(rt.alloc(), SyntaxKind::Ident, "y")?;
-    let star = leaf(rt.alloc(), SyntaxKind::Star, "*")?;
-    let children = vec![in rt.alloc(); x, word, y, star]?;
-    let tree = inner(rt.alloc(), SyntaxKind::ModuleImport, children)?;
+    let tree = drawn(rt.alloc(), "ModuleImport[ Ident:x As:as Ident:y Star:* ]")?;
     let view = cast::<of::ModuleImport>(&tree)?;
     assert_eq!(rt; text(view.source()), "x");
     assert!(rt; view.new_name().is_some_and(|name| name.get() == "y"));
@@ -125,23 +102,14 @@ fn an_import_may_be_renamed(rt: HostRuntime) -> Result<(), Fail> {
 
 #[test]
 fn the_first_imports_count(rt: HostRuntime) -> Result<(), Fail> {
-    let a = leaf(rt.alloc(), SyntaxKind::ImportItemPath, "a")?;
-    let items = inner(rt.alloc(), SyntaxKind::ImportItems, vec![in rt.alloc(); a]?)?;
-    let star = leaf(rt.alloc(), SyntaxKind::Star, "*")?;
-    let tree = inner(
+    let tree = drawn(
         rt.alloc(),
-        SyntaxKind::ModuleImport,
-        vec![in rt.alloc(); items, star]?,
+        "ModuleImport[ ImportItems[ ImportItemPath:a ] Star:* ]",
     )?;
     let view = cast::<of::ModuleImport>(&tree)?;
     assert!(rt; matches!(view.imports(), Some(Imports::Items(_))));
     assert!(rt; view.new_name().is_none());
-    let path = leaf(rt.alloc(), SyntaxKind::Str, "\"a.typ\"")?;
-    let tree = inner(
-        rt.alloc(),
-        SyntaxKind::ModuleInclude,
-        vec![in rt.alloc(); path]?,
-    )?;
+    let tree = drawn(rt.alloc(), "ModuleInclude[ Str:\"a.typ\" ]")?;
     assert_eq!(rt;
         text(cast::<of::ModuleInclude>(&tree)?.source()),
         "\"a.typ\""

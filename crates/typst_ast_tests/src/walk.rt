@@ -1,25 +1,15 @@
-use crate::trees::{cast, inner, leaf};
+use crate::trees::{cast, drawn};
 use std::alloc::Global;
 use std::test::Fail;
 use typst_ast::Expr;
 use typst_ast::views::Markup;
-use typst_base::SyntaxKind;
 use typst_node::{AstNode, SyntaxNode};
 
 // `= Hi` and ` *there*`.
 fn document(alloc: Global) -> Result<SyntaxNode, Fail> {
-    let marker = leaf(alloc, SyntaxKind::HeadingMarker, "=")?;
-    let hi = leaf(alloc, SyntaxKind::Text, "Hi")?;
-    let body = inner(alloc, SyntaxKind::Markup, vec![in alloc; hi]?)?;
-    let heading = inner(alloc, SyntaxKind::Heading, vec![in alloc; marker, body]?)?;
-    let there = leaf(alloc, SyntaxKind::Text, "there")?;
-    let body = inner(alloc, SyntaxKind::Markup, vec![in alloc; there]?)?;
-    let strong = inner(alloc, SyntaxKind::Strong, vec![in alloc; body]?)?;
-    let space = leaf(alloc, SyntaxKind::Space, " ")?;
-    inner(
+    drawn(
         alloc,
-        SyntaxKind::Markup,
-        vec![in alloc; heading, space, strong]?,
+        "Markup[ Heading[ HeadingMarker:= Markup[ Text:Hi ] ] Space:~ Strong[ Markup[ Text:there ] ] ]",
     )
 }
 
