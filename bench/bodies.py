@@ -1,13 +1,15 @@
 #!/usr/bin/env python3
 """Tries a crate's wrong bodies many at once, one a function, and says which functions the prover still accepts.
 
-    bench/bodies.py CRATE [FOLDER]
+    bench/bodies.py CRATE [FOLDER] [--kept]
 
-A check of typst_ast takes over a minute whatever was edited, so the gate tries a few wrong bodies of that crate one by
-one (crates/typst_ast/must-fail), and this the others (crates/typst_ast/wrong-bodies, the FOLDER by default). It applies a
-batch to the crate, runs `rt check` there, puts the files and the kept work back and reads the line of each edited
-function, which must be `not proved`. Run it on a checkout where the crate is proved and nothing else is edited or checked.
+A check of typst_ast takes over a minute whatever was edited, so `rt ci` tries a few wrong bodies of that crate one by one
+(crates/typst_ast/must-fail), and this the others (crates/typst_ast/wrong-bodies, the FOLDER by default). It applies a batch
+to a copy of the crate, runs `rt check` there and reads the line of each edited function, which must be `not proved`. That
+the crate without edits is proved is for `rt ci` to say. The copy is proved from nothing, or with --kept over what the
+checkout holds.
 """
+import argparse
 import re
 import shutil
 import subprocess
@@ -67,25 +69,25 @@ def batches(edits):
     return [it["edits"] for it in made]
 
 
+def copied(room, name, keeps):
+    """A copy of the crate below room, with all crates of the repository beside it and, if wished, their kept work."""
+    top = Path(__file__).resolve().parent.parent
+    shutil.copytree(top / "crates", f"{room}/crates", ignore=None if keeps else shutil.ignore_patterns("out"))
+    shutil.copy(top / "crates.txt", room)
+    return Path(room) / "crates" / name
+
+
 def checked(crate, edits):
-    """Checks the crate with these edits, restores it, and returns what was said of each function."""
-    files = {crate / path for _, changes, _ in edits for path, _, _ in changes}
-    kept = {it: it.read_text() for it in files}
-    room = tempfile.mkdtemp(prefix="bodies-")
-    shutil.copytree(crate / "out", f"{room}/out")
-    try:
-        for _, changes, _ in edits:
-            for path, old, new in changes:
-                file = crate / path
-                file.write_text(file.read_text().replace(old, new))
-        ran = subprocess.run(["rt", "check"], cwd=crate, capture_output=True, text=True)
-        return ran.stdout + ran.stderr
-    finally:
-        for file, text in kept.items():
-            file.write_text(text)
-        shutil.rmtree(crate / "out")
-        shutil.move(f"{room}/out", crate / "out")
-        shutil.rmtree(room)
+    """Checks the crate with these edits, takes them back, and returns what was said of each function."""
+    kept = {crate / path: (crate / path).read_text() for _, changes, _ in edits for path, _, _ in changes}
+    for _, changes, _ in edits:
+        for path, old, new in changes:
+            file = crate / path
+            file.write_text(file.read_text().replace(old, new))
+    ran = subprocess.run(["rt", "check"], cwd=crate, capture_output=True, text=True)
+    for file, text in kept.items():
+        file.write_text(text)
+    return ran.stdout + ran.stderr
 
 
 def is_refused(said, at):
@@ -101,8 +103,8 @@ def is_refused(said, at):
     return False
 
 
-def main(name, folder="wrong-bodies"):
-    crate = Path(__file__).resolve().parent.parent / "crates" / name
+def tried(crate, folder):
+    """Tries the wrong bodies of the folder, and returns how many they are and what is wrong with them."""
     edits, bad = [], []
     for file in sorted((crate / folder).glob("*.edit")):
         changes = pairs(file.read_text())
@@ -119,9 +121,20 @@ def main(name, folder="wrong-bodies"):
         here = [f"{edit}: not refused at {at}" for edit, _, at in batch if not is_refused(said, at)]
         bad += here
         print("\n".join([*here, f"{len(batch)} wrong bodies tried, {len(here)} not refused"]), flush=True)
-    print("\n".join([*bad, f"{len(edits)} wrong bodies, {len(bad)} not refused"]))
-    return 1 if bad else 0
+    return len(edits), bad
+
+
+def main():
+    words = argparse.ArgumentParser(description=__doc__.split("\n")[0])
+    words.add_argument("crate")
+    words.add_argument("folder", nargs="?", default="wrong-bodies")
+    words.add_argument("--kept", action="store_true")
+    given = words.parse_args()
+    with tempfile.TemporaryDirectory(prefix="bodies-") as room:
+        count, bad = tried(copied(room, given.crate, given.kept), given.folder)
+    print("\n".join([*bad, f"{count} wrong bodies of {given.crate}, {len(bad)} not refused"]))
+    return 1 if bad or not count else 0
 
 
 if __name__ == "__main__":
-    sys.exit(main(*sys.argv[1:]))
+    sys.exit(main())
