@@ -1,19 +1,8 @@
-//! Views that are equal, and views that read alike.
-ghost use Rattle.std.specs.Prelude.{◌≡◌, ◌↔◌, IsTrue};
+//! Views that read alike.
+ghost use Rattle.std.specs.Prelude.{◌↔◌, IsTrue};
 ghost use Rattle.typst_ast.specs.Alike.{IsAlike, ReadsAlike};
-ghost use Rattle.typst_ast.specs.View.{node_of};
 
-use crate::view::View;
-use typst_atoms::marker::Kind;
 use typst_node::AstNode;
-
-/// Whether two views of one kind are equal, as `==` says: they are of the same tree, spans and bounds included, or both
-/// are placeholders. It takes time in proportion to the smaller tree at most, and no memory.
-pub fn is_equal<'a, M: Kind>(view: View<'a, M>, other: View<'a, M>) -> bool
-    ensures { IsTrue result ↔ (node_of view.entry ≡ node_of other.entry) }
-{
-    view == other
-}
 
 /// Whether two views are of the same plain tree, spans and bounds aside, or both of none.
 ///

@@ -19,7 +19,7 @@
 //! list of the node's children: the first, last or all children whose kind lies in a class.
 #![tactic(auto)]
 
-pub use alike::{is_alike, is_equal};
+pub use alike::is_alike;
 pub use arg::Arg;
 pub use array_item::ArrayItem;
 pub use bare_names::BareImportError;

@@ -1,5 +1,5 @@
 //! The generic view of nodes of one kind.
-ghost use Rattle.std.specs.Prelude.{◌≡◌, true, false, IsTrue, Some, refl, ⊤};
+ghost use Rattle.std.specs.Prelude.{◌≡◌, ◌↔◌, true, false, IsTrue, Some, refl, ⊤};
 ghost use Rattle.std.specs.Option.{option_copied};
 ghost use Rattle.typst_atoms.specs.Kinds.{is_kind};
 ghost use Rattle.typst_atoms.specs.OfKind.{is_missing_or_of_kind, kind_from_test};
@@ -89,6 +89,14 @@ impl<'a, M: Kind> View<'a, M> {
             node: Some(node),
             kind: PhantomData,
         }
+    }
+
+    /// Whether two views of one kind are equal, as `==` says: they are of the same tree, spans and bounds included, or both
+    /// are placeholders. It takes time in proportion to the smaller tree at most, and no memory.
+    pub fn is_equal(self, other: Self) -> bool
+        ensures { IsTrue result ↔ (node_of self.entry ≡ node_of other.entry) }
+    {
+        self == other
     }
 
     // The node, or none for a placeholder.

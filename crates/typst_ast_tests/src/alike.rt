@@ -1,7 +1,7 @@
 use crate::trees::{cast, drawn};
 use std::alloc::Global;
 use std::test::Fail;
-use typst_ast::{is_alike, is_equal, views as of};
+use typst_ast::{is_alike, views as of};
 use typst_base::{FileId, SyntaxKind};
 use typst_node::{AstNode, SyntaxNode};
 
@@ -46,9 +46,9 @@ fn equal_views_have_equal_nodes(rt: HostRuntime) -> Result<(), Fail> {
     let again = strong(rt.alloc(), "a")?;
     let b = strong(rt.alloc(), "b")?;
     let view = cast::<of::Strong>(&a)?;
-    assert!(rt; is_equal(view, cast::<of::Strong>(&again)?));
-    assert!(rt; !is_equal(view, cast::<of::Strong>(&b)?));
-    assert!(rt; !is_equal(view, of::Strong::placeholder()));
-    assert!(rt; is_equal(of::Strong::placeholder(), of::Strong::placeholder()));
+    assert!(rt; view.is_equal(cast::<of::Strong>(&again)?));
+    assert!(rt; !view.is_equal(cast::<of::Strong>(&b)?));
+    assert!(rt; !view.is_equal(of::Strong::placeholder()));
+    assert!(rt; of::Strong::placeholder().is_equal(of::Strong::placeholder()));
     Ok(())
 }

@@ -1,7 +1,5 @@
 -- Equality of views.
-use Rattle.std.specs.Prelude.{Option, Some, None, true, ◌≡◌, ◌↔◌, refl}
-use Rattle.std.specs.Option.{option_copied, option_eq}
-use Rattle.std.proofs.Common.{ap}
+use Rattle.std.specs.Prelude.{true, ◌≡◌, ◌↔◌, refl}
 use Rattle.typst_atoms.specs.ImportItem.{import_item_node, import_item_kind}
 use Rattle.typst_atoms.specs.MathAccess.{math_access_node, math_access_kind}
 use Rattle.typst_atoms.specs.View.{node_of}
@@ -13,17 +11,8 @@ use Rattle.typst_atoms.specs.declared.import_items.ImportItem.TheVariants.{Simpl
 use Rattle.typst_atoms.specs.declared.math_access.MathAccess.{MathAccess}
 use Rattle.typst_atoms.specs.declared.math_access.MathAccess.TheVariants.{MathIdent, MathFieldAccess}
 use Rattle.typst_atoms.specs.declared.view.View.{View}
-use Rattle.typst_node.specs.Equal.{tree_eq, tree_same, tree_eq_same}
-use Rattle.typst_node.specs.Tree.{Tree}
+use Rattle.typst_node.specs.Equal.{same_nodes}
 use denote.RattleType.{RattleType}
-use denote.Ref.{Bor}
-
--- two nodes that may be missing are equal if they are the same trees, spans and bounds included, or neither is there
-same_nodes : (o p : Option (Bor Tree)) → (option_eq (λ x y. tree_eq x.now y.now) o p ≡ true) ↔ (option_copied o ≡ option_copied p)
-same_nodes None None = (λ e. refl, λ e. refl)
-same_nodes None (Some y) = (λ e. cc, λ e. cc)
-same_nodes (Some x) None = (λ e. cc, λ e. cc)
-same_nodes (Some x) (Some y) = (λ e. ap Some (tree_same x.now y.now e), λ e. tree_eq_same x.now y.now (cc))
 
 -- views are equal exactly if their nodes are
 pub equal_views : (M : RattleType) (g : _) (d : _) (v w : View M.Denot g) → ((ghosts M g d).eq v w ≡ true) ↔ (node_of v ≡ node_of w)

@@ -7,8 +7,8 @@ use Rattle.typst_node.specs.Tree.{Content, AsLeaf, AsError, AsInner, Tree, trees
 use Rattle.typst_node.specs.Text.{content_text, own_text, text, text_of_all}
 use Rattle.typst_linked.specs.Place.{Place, child_place}
 use Rattle.typst_linked.specs.Linked.{IsAt, place_below}
-use Rattle.typst_linked.proofs.Steps.{at-push}
-use Rattle.typst_linked.proofs.Offsets.{offset-push, length-text, text_of_all-more, text_of_all-take}
+use Rattle.typst_node.proofs.Steps.{at-push}
+use Rattle.typst_node.proofs.Offsets.{offset-push, length-text, text_of_all-more, text_of_all-take}
 
 -- no text stands at a node that has children
 pub no_own_text : (t c : Tree) (i : ℕ) (kids : List Tree) → kids ≡ trees t.children → (¬ (IsInner t.label.content) → kids ≡ []) → slice_get (trees t.children) i ≡ Some c → length (own_text t.label) ≡ 0

@@ -17,9 +17,10 @@ use Rattle.typst_linked.specs.declared.cursor.Side.TheVariants.{Before, After}
 use Rattle.typst_linked.specs.declared.floor.Part.{Part}
 use Rattle.typst_linked.proofs.Covers.{child_begin, child_there}
 use Rattle.typst_linked.proofs.LeafCovers.{covers_tells, covers_when, place_covers, covers_place, covering_is, offset-append}
-use Rattle.typst_linked.proofs.Offsets.{length-text}
+use Rattle.typst_node.proofs.Offsets.{length-text}
 use Rattle.typst_linked.proofs.Searching.{found_at}
-use Rattle.typst_linked.proofs.Steps.{at-append, same_node}
+use Rattle.typst_node.proofs.Steps.{at-append}
+use Rattle.typst_linked.proofs.Places.{same_node}
 use Rattle.typst_linked.proofs.Weights.{weight_along-root, weight_along-cons}
 
 -- the first of some trees begins before any goal but 0

@@ -1,7 +1,4 @@
-pub mod Steps
-pub mod Firsts
-pub mod Paths
-pub mod Offsets
+pub mod Places
 pub mod Child
 pub mod Nearest
 pub mod Ordered

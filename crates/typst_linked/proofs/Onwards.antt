@@ -14,7 +14,7 @@ use Rattle.typst_node.proofs.Trees.{forest-trees}
 use Rattle.typst_linked.specs.Place.{Place, subtree, below, child_place}
 use Rattle.typst_linked.specs.Preorder.{listed_of, places_below}
 use Rattle.typst_linked.specs.Onwards.{paths_behind, places_behind, places_from}
-use Rattle.typst_linked.proofs.Steps.{if_some_value, at-push}
+use Rattle.typst_node.proofs.Steps.{if_some_value, at-push}
 
 map_map : {A B C : Type 0} (f : B → C) (g : A → B) (xs : List A) → map f (map g xs) ≡ map (λ x. f (g x)) xs
 map_map f g [] = refl

@@ -11,9 +11,9 @@ use Rattle.typst_node.specs.Preorder.{paths, paths_from, if_some, at}
 use Rattle.typst_node.proofs.Trees.{forest-trees}
 use Rattle.typst_linked.specs.Place.{Place, subtree, below, child_place}
 use Rattle.typst_linked.specs.Search.{is_there, first_path, last_path, found_below}
-use Rattle.typst_linked.proofs.Firsts.{find-map}
+use Rattle.typst_node.proofs.FirstMatch.{find-map}
 use Rattle.typst_linked.proofs.Found.{option_cases}
-use Rattle.typst_linked.proofs.Steps.{at-push}
+use Rattle.typst_node.proofs.Steps.{at-push}
 use Rattle.typst_linked.proofs.Searching.{found_at, below-nothing}
 
 -- the test at a path of a tree

@@ -14,6 +14,10 @@ pub mod PathsWhole
 pub mod Outside
 pub mod Settled
 pub mod Paths
+pub mod FirstMatch
+pub mod Steps
+pub mod SamePaths
+pub mod Listed
 pub mod Offsets
 pub mod Firsts
 pub mod HintLemmas

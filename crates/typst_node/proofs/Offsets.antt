@@ -1,64 +1,20 @@
--- The offset of a path, one step at a time.
-use Rattle.std.proofs.Common.{◌≡◌, ◌≢◌, ℕ, suc, zero, ◌+◌, Bool, true, false, ◌&&◌, ◌||◌, not, cond, inl, inr, List, [], ◌∷◌, ◌++◌, length, map, take, refl, sym, ap, ◌∙◌, arith, eq-eqb, Option, Some, slice_get, length-append}
-use Rattle.std.specs.List.{Contains, flat_map, before_first, prefix_len, AllByRecursion, list_any}
+-- Where the text of a node begins, one step at a time.
+use Rattle.std.proofs.Common.{◌≡◌, ℕ, suc, zero, ◌+◌, ◌≤◌, List, [], ◌∷◌, ◌++◌, length, map, take, refl, sym, ap, ◌∙◌, arith, add-one, Option, None, Some, slice_get, length-append}
+use Rattle.std.specs.List.{flat_map, before_first}
 use Rattle.std.proofs.lemmas.Grind.{flat_map-append}
-use Rattle.std.proofs.lemmas.Bool.Decides.{eqb_tells}
-use Rattle.std.proofs.lemmas.List.Folds.{list_any-from_Any}
 use Rattle.typst_node.specs.Tree.{Forest, none, tree, Tree, trees}
-use Rattle.typst_node.specs.Preorder.{paths_from, paths, subtrees, at, if_some}
-use Rattle.typst_node.specs.Text.{own_text, text, text_of_all, is_same_path, text_there, offset}
-use Rattle.typst_node.proofs.Trees.{length-text_of_all-cons}
-use Rattle.typst_node.proofs.Paths.{at_among, at-among, StandFrom, stand_first, stand_rest, at-paths, labels-subtrees, path-in-paths, contains_map}
-
--- what stands before the first match
-first_here : {X : Type 0} (p : X → Bool) (x : X) (xs : List X) → p x ≡ true → before_first p (x ∷ xs) ≡ []
-first_here p x xs h = ap (λ b. take (cond (not b) (1 + prefix_len (λ y. not (p y)) xs) 0) (x ∷ xs)) h
-
-first_later : {X : Type 0} (p : X → Bool) (x : X) (xs : List X) → p x ≡ false → before_first p (x ∷ xs) ≡ x ∷ before_first p xs
-first_later p x xs h =
-    let n = prefix_len (λ y. not (p y)) xs in
-    ap (λ b. take (cond (not b) (1 + n) 0) (x ∷ xs)) h ∙ ap (λ m. take m (x ∷ xs)) (let e : 1 + n ≡ suc n = omega arith in e)
-
--- where none of the first list matches
-first_none : {X : Type 0} (p : X → Bool) (xs ys : List X) → AllByRecursion (λ x. p x ≡ false) xs → before_first p (xs ++ ys) ≡ xs ++ before_first p ys
-first_none p [] ys h = refl
-first_none p (x ∷ xs) ys h = first_later p x (xs ++ ys) h.0 ∙ ap (λ zs. x ∷ zs) (first_none p xs ys h.1)
-
--- where one of the first list matches
-first_step : {X : Type 0} (p : X → Bool) (x : X) (xs ys : List X) → (list_any p xs ≡ true → before_first p (xs ++ ys) ≡ before_first p xs) → (b : Bool) → p x ≡ b → (p x || list_any p xs) ≡ true → before_first p (x ∷ (xs ++ ys)) ≡ before_first p (x ∷ xs)
-first_step p x xs ys rest true e h = first_here p x (xs ++ ys) e ∙ sym (first_here p x xs e)
-first_step p x xs ys rest false e h =
-    let later : list_any p xs ≡ true = ap (λ b. b || list_any p xs) (sym e) ∙ h in
-    first_later p x (xs ++ ys) e ∙ (ap (λ zs. x ∷ zs) (rest later) ∙ sym (first_later p x xs e))
-
-first_some : {X : Type 0} (p : X → Bool) (xs ys : List X) → list_any p xs ≡ true → before_first p (xs ++ ys) ≡ before_first p xs
-first_some p [] ys h = cc
-first_some p (x ∷ xs) ys h = first_step p x xs ys (first_some p xs ys) (p x) refl h
-
--- what stands before the first match, under a map
-first_under : {X Y : Type 0} (p : Y → Bool) (f : X → Y) (x : X) (xs : List X) → before_first p (map f xs) ≡ map f (before_first (λ y. p (f y)) xs) → (b : Bool) → p (f x) ≡ b → before_first p (map f (x ∷ xs)) ≡ map f (before_first (λ y. p (f y)) (x ∷ xs))
-first_under p f x xs rest true e = first_here p (f x) (map f xs) e ∙ sym (ap (map f) (first_here (λ y. p (f y)) x xs e))
-first_under p f x xs rest false e = first_later p (f x) (map f xs) e ∙ (ap (λ zs. f x ∷ zs) rest ∙ sym (ap (map f) (first_later (λ y. p (f y)) x xs e)))
-
-first_map : {X Y : Type 0} (p : Y → Bool) (f : X → Y) (xs : List X) → before_first p (map f xs) ≡ map f (before_first (λ y. p (f y)) xs)
-first_map p f [] = refl
-first_map p f (x ∷ xs) = first_under p f x xs (first_map p f xs) (p (f x)) refl
+use Rattle.typst_node.specs.Preorder.{preorder, paths_from, paths, subtrees, at, if_some}
+use Rattle.typst_node.specs.Text.{own_text, joined, text, text_of_all, is_same_path, text_there, offset}
+use Rattle.typst_node.proofs.Trees.{forest-trees, length-text_of_all-cons}
+use Rattle.typst_node.proofs.Paths.{at_among, at-among, StandFrom, stand_first, stand_rest, at-paths, labels-subtrees}
+use Rattle.typst_node.proofs.FirstMatch.{before-miss, before-append_hit, before-append_miss, before-map}
+use Rattle.typst_node.proofs.SamePaths.{same_below, none_below, any_below}
+use Rattle.typst_node.proofs.Steps.{if_some_value, at-push}
+use Rattle.typst_node.proofs.Listed.{listed}
 
 flat_map_map : {A B C : Type 0} (f : B → List C) (g : A → B) (xs : List A) → flat_map f (map g xs) ≡ flat_map (λ x. f (g x)) xs
 flat_map_map f g [] = refl
 flat_map_map f g (x ∷ xs) = ap (λ ys. f (g x) ++ ys) (flat_map_map f g xs)
-
--- paths that are the same, and others
-same_itself : (p : List ℕ) → is_same_path p p ≡ true
-same_itself [] = refl
-same_itself (i ∷ p) = (λ k. eq-eqb i i refl k && same_itself p k)
-
-other_start : (i j : ℕ) (p q : List ℕ) → i ≢ j → is_same_path (i ∷ p) (j ∷ q) ≡ false
-other_start i j p q h = elim (eqb_tells i j) [ inl same ↦ absurd (h same.1) | inr other ↦ ap (λ b. b && is_same_path p q) other.0 ]
-
-none_starts : (i j : ℕ) (p : List ℕ) (qs : List (List ℕ)) → i ≢ j → AllByRecursion (λ q. is_same_path (i ∷ p) q ≡ false) (map (λ q. j ∷ q) qs)
-none_starts i j p [] h = tt
-none_starts i j p (q ∷ qs) h = (other_start i j p q h, none_starts i j p qs h)
 
 -- the texts at all paths are the text
 texts_at : (t : Tree) → flat_map (λ q. text_there (at q t)) (paths t) ≡ text t
@@ -66,19 +22,14 @@ texts_at t =
     sym (flat_map_map text_there (λ q. at q t) (paths t))
     ∙ (ap (flat_map text_there) (at-paths t) ∙ (flat_map_map text_there Some (subtrees t) ∙ (sym (flat_map_map own_text (λ (s : Tree). s.label) (subtrees t)) ∙ ap (flat_map own_text) (labels-subtrees t))))
 
-contained : (path : List ℕ) (qs : List (List ℕ)) → Contains qs path → list_any (is_same_path path) qs ≡ true
-contained path qs c = list_any-from_Any (is_same_path path) qs (c.0, path, c.1, c.2, same_itself path)
-
 -- the texts before a path that goes on below a node with this index are those before the rest of the path below the node
 before_here : (d : Option Tree) (ts : List Tree) (i : ℕ) (t : Tree) (path : List ℕ) (s : Tree) (rest : List (List ℕ)) → slice_get ts i ≡ Some t → at path t ≡ Some s
     → length (flat_map (λ q. text_there (at_among d ts q)) (before_first (is_same_path (i ∷ path)) (map (λ q. i ∷ q) (paths t) ++ rest))) ≡ offset path t
 before_here d ts i t path s rest there leads =
     let texts : List (List ℕ) → List ℕ = flat_map (λ q. text_there (at_among d ts q)) in
-    let starts : (q : List ℕ) → is_same_path (i ∷ path) (i ∷ q) ≡ is_same_path path q = λ q. ap (λ b. b && is_same_path path q) (eq-eqb i i refl) in
-    let among : Contains (map (λ q. i ∷ q) (paths t)) (i ∷ path) = contains_map (λ q. i ∷ q) (paths t) path (path-in-paths t path s leads) in
     let first : before_first (is_same_path (i ∷ path)) (map (λ q. i ∷ q) (paths t) ++ rest) ≡ map (λ q. i ∷ q) (before_first (is_same_path path) (paths t)) =
-    first_some (is_same_path (i ∷ path)) (map (λ q. i ∷ q) (paths t)) rest (contained (i ∷ path) (map (λ q. i ∷ q) (paths t)) among)
-    ∙ (first_map (is_same_path (i ∷ path)) (λ q. i ∷ q) (paths t) ∙ (λ k. map (λ q. i ∷ q) (before_first (λ q. starts q k) (paths t)))) in
+    before-append_hit (is_same_path (i ∷ path)) (map (λ q. i ∷ q) (paths t)) rest (any_below i path (paths t) ∙ listed path t s leads)
+    ∙ (before-map (is_same_path (i ∷ path)) (λ q. i ∷ q) (paths t) ∙ (λ k. map (λ q. i ∷ q) (before_first (λ q. same_below i path q k) (paths t)))) in
     ap (λ qs. length (texts qs)) first
     ∙ (ap length (flat_map_map (λ q. text_there (at_among d ts q)) (λ q. i ∷ q) (before_first (is_same_path path) (paths t)))
     ∙ (λ k. length (flat_map (λ q. text_there (if_some (at q) (there k))) (before_first (is_same_path path) (paths t)))))
@@ -98,7 +49,7 @@ before_among d ts i (suc j) (tree l c r) path t s stand there leads =
     let block : List (List ℕ) = map (λ q. i ∷ q) (paths x) in
     let place : i + suc j ≡ (i + 1) + j = omega arith in
     let later : before_first (is_same_path ((i + suc j) ∷ path)) (block ++ paths_from (i + 1) r) ≡ block ++ before_first (is_same_path (((i + 1) + j) ∷ path)) (paths_from (i + 1) r) =
-    first_none (is_same_path ((i + suc j) ∷ path)) block (paths_from (i + 1) r) (none_starts (i + suc j) i path (paths x) (λ e. omega (arith, e)))
+    before-append_miss (is_same_path ((i + suc j) ∷ path)) block (paths_from (i + 1) r) (none_below (i + suc j) i path (paths x) (λ e. omega (arith, e)))
     ∙ ap (λ k. block ++ before_first (is_same_path (k ∷ path)) (paths_from (i + 1) r)) place in
     let first : texts block ≡ text x =
     flat_map_map (λ q. text_there (at_among d ts q)) (λ q. i ∷ q) (paths x)
@@ -118,7 +69,7 @@ offset-cons i path t child s there leads =
     let before : length (flat_map (λ q. text_there (at_among (Some t) ts q)) (before_first (is_same_path (i ∷ path)) (paths_from 0 t.children))) ≡ length (text_of_all (take i ts)) + offset path child =
     ap (λ k. length (flat_map (λ q. text_there (at_among (Some t) ts q)) (before_first (is_same_path (k ∷ path)) (paths_from 0 t.children)))) (sym zeros)
     ∙ before_among (Some t) ts 0 i t.children path child s (λ j. ap (slice_get ts) (let e : 0 + j ≡ j = omega arith in e)) there leads in
-    let first : before_first (is_same_path (i ∷ path)) (paths t) ≡ [] ∷ before_first (is_same_path (i ∷ path)) (paths_from 0 t.children) = first_later (is_same_path (i ∷ path)) [] (paths_from 0 t.children) refl in
+    let first : before_first (is_same_path (i ∷ path)) (paths t) ≡ [] ∷ before_first (is_same_path (i ∷ path)) (paths_from 0 t.children) = before-miss (is_same_path (i ∷ path)) [] (paths_from 0 t.children) refl in
     let rest = before_first (is_same_path (i ∷ path)) (paths_from 0 t.children) in
     let below : length (flat_map (λ q. text_there (at q t)) rest) ≡ length (flat_map (λ q. text_there (at_among (Some t) ts q)) rest) = (λ k. length (flat_map (λ q. text_there (at-among t q k)) rest)) in
     ap (λ qs. length (flat_map (λ q. text_there (at q t)) qs)) first
@@ -127,3 +78,42 @@ offset-cons i path t child s there leads =
 -- the root's text begins at 0
 pub offset-root : (t : Tree) → offset [] t ≡ 0
 offset-root t = refl
+
+-- what stands before a child of the root
+offset_child : (i : ℕ) (t c : Tree) → slice_get (trees t.children) i ≡ Some c → offset (i ∷ []) t ≡ length (own_text t.label) + length (text_of_all (take i (trees t.children)))
+offset_child i t c s = omega (arith, offset-cons i [] t c c s refl, offset-root c)
+
+-- one step more
+pub offset-push : (p : List ℕ) (i : ℕ) (t m c : Tree) → at p t ≡ Some m → slice_get (trees m.children) i ≡ Some c →
+    offset (p ++ i ∷ []) t ≡ offset p t + (length (own_text m.label) + length (text_of_all (take i (trees m.children))))
+offset-push [] i t m c h s =
+    let h : Some t ≡ Some m = h in
+    let same : t ≡ m = cc in
+    let back : slice_get (trees t.children) i ≡ Some c = ap (λ (u : Tree). slice_get (trees u.children) i) same ∙ s in
+    let e : length (own_text t.label) + length (text_of_all (take i (trees t.children))) ≡ length (own_text m.label) + length (text_of_all (take i (trees m.children))) =
+    ap (λ (u : Tree). length (own_text u.label) + length (text_of_all (take i (trees u.children)))) same in
+    omega (arith, offset_child i t c back, offset-root t)
+offset-push (j ∷ p) i t m c h s =
+    let x = if_some_value (at p) (slice_get (trees t.children) j) m h in
+    omega (arith, offset-cons j (p ++ i ∷ []) t x.0 c x.1 (at-push p i x.0 m c x.2 s), offset-cons j p t x.0 m x.1 x.2, offset-push p i x.0 m c x.2 s)
+
+-- the length of a node's text
+pub length-text : (t : Tree) → length (text t) ≡ length (own_text t.label) + length (text_of_all (trees t.children))
+length-text t = length-append (own_text t.label) (joined (preorder t.children)) ∙ ap (λ (f : Forest). length (own_text t.label) + length (joined (preorder f))) (sym (forest-trees t.children))
+
+-- where the text of a child ends
+pub text_of_all-more : (ts : List Tree) (i : ℕ) (c : Tree) → slice_get ts i ≡ Some c → length (text_of_all (take (i + 1) ts)) ≡ length (text_of_all (take i ts)) + length (text c)
+text_of_all-more [] i c s = absurd (let s : None ≡ Some c = s in cc)
+text_of_all-more (t ∷ ts) zero c s =
+    let s : Some t ≡ Some c = s in
+    let same : t ≡ c = cc in
+    let e : length (text t) ≡ length (text c) = ap (λ (u : Tree). length (text u)) same in
+    omega (arith, length-text_of_all-cons t [])
+text_of_all-more (t ∷ ts) (suc i) c s =
+    rw add-one (omega (arith, length-text_of_all-cons t (take (suc i) ts), length-text_of_all-cons t (take i ts), rw add-one at (text_of_all-more ts i c s)))
+
+-- no part is longer than the whole
+pub text_of_all-take : (ts : List Tree) (i : ℕ) → length (text_of_all (take i ts)) ≤ length (text_of_all ts)
+text_of_all-take ts zero = omega arith
+text_of_all-take [] (suc i) = omega arith
+text_of_all-take (t ∷ ts) (suc i) = omega (arith, length-text_of_all-cons t (take i ts), length-text_of_all-cons t ts, text_of_all-take ts i)

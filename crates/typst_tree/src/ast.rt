@@ -19,7 +19,6 @@ pub use typst_ast::Param;
 pub use typst_ast::Pattern;
 pub use typst_ast::file_stem;
 pub use typst_ast::is_alike;
-pub use typst_ast::is_equal;
 pub use typst_ast::views::Args;
 pub use typst_ast::views::Array;
 pub use typst_ast::views::Auto;

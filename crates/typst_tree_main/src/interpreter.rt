@@ -23,12 +23,12 @@ use typst_tree::{FileId, Span, SpanNumber, SyntaxKind, SyntaxNode, session};
 #[derive(Drop)]
 pub struct Interpreter {
     /// The newest node is the last.
-    stack: Vec<SyntaxNode>,
-    tree: Option<SyntaxNode>,
+    pub stack: Vec<SyntaxNode>,
+    pub tree: Option<SyntaxNode>,
     /// What the next `run` serves.
-    queue: Vec<Slot>,
+    pub queue: Vec<Slot>,
     /// The line at work, from 1.
-    line: u64,
+    pub line: u64,
 }
 
 impl Interpreter {
@@ -39,6 +39,7 @@ impl Interpreter {
         ensures stack { result.stack.items ≡ [] }
         ensures tree { IsNone result.tree }
         ensures queue { result.queue.items ≡ [] }
+        ensures line { result.line ≡ 1 }
     {
         Interpreter {
             stack: Vec::new(alloc),
@@ -62,6 +63,7 @@ impl Interpreter {
             → (command : Command) × IsLineOf command text.now × IsDone command self.old self.new) }
         ensures no_command { text.now ≢ [] → ((command : Command) → ¬ (IsLineOf command text.now))
             → result ≡ Err (BadCommand line) }
+        ensures line { self.new.line ≡ line }
     {
         self.line = line;
         if text.is_empty() {
@@ -89,6 +91,7 @@ impl Interpreter {
         requires { (line : List ℕ) × IsLineOf command line }
         ensures done { OnOk result (IsDone command.entry self.old self.new) }
         ensures bad { IsErrOf result (BadCommand self.old.line) ↔ ¬ (CanBeDone command.entry self.old) }
+        ensures line { self.new.line ≡ self.old.line }
     {
         match command {
             Command::Leaf { kind, text } => self.leaf(alloc, kind, text),
@@ -113,6 +116,7 @@ impl Interpreter {
         requires { kind ≢ ErrorKind }
         ensures done { OnOk result (IsDone (Leaf kind text.entry) self.old self.new) }
         ensures err { IfErr result (λ fault. fault ≡ Memory) }
+        ensures line { self.new.line ≡ self.old.line }
     {
         self.stack.push(SyntaxNode::leaf(alloc, kind, text)?)?;
         Ok(())
@@ -121,6 +125,7 @@ impl Interpreter {
     fn error(&mut self, alloc: Global, message: &str, text: &str) -> Result<(), Fault>
         ensures done { OnOk result (IsDone (Error message.entry text.entry) self.old self.new) }
         ensures err { IfErr result (λ fault. fault ≡ Memory) }
+        ensures line { self.new.line ≡ self.old.line }
     {
         self.stack.push(SyntaxNode::error(alloc, message, text)?)?;
         Ok(())
@@ -129,6 +134,7 @@ impl Interpreter {
     fn warn(&mut self, alloc: Global, message: &str) -> Result<(), Fault>
         ensures done { OnOk result (IsDone (Warn message.entry) self.old self.new) }
         ensures bad { IsErrOf result (BadCommand self.old.line) ↔ (self.old.stack.items ≡ []) }
+        ensures line { self.new.line ≡ self.old.line }
     {
         let Some(mut node) = self.stack.pop() else {
             return Err(self.bad());
@@ -144,6 +150,7 @@ impl Interpreter {
         ensures bad { IsErrOf result (BadCommand self.old.line) ↔ (length self.old.stack.items < count) }
         ensures overflow { IsErrOf result Overflow
             → ¬ (SumsFit (drop (length self.old.stack.items - count) self.old.stack.items)) }
+        ensures line { self.new.line ≡ self.old.line }
     {
         let start = self
             .stack
@@ -158,6 +165,7 @@ impl Interpreter {
     fn root(&mut self) -> Result<(), Fault>
         ensures done { OnOk result (IsDone Root self.old self.new) }
         ensures bad { IsErrOf result (BadCommand self.old.line) ↔ (length self.old.stack.items ≢ 1) }
+        ensures line { self.new.line ≡ self.old.line }
     {
         if self.stack.len() != 1 {
             return Err(self.bad());
@@ -177,6 +185,7 @@ impl Interpreter {
         requires high { high ≤ 2 ^ 47 }
         ensures done { OnOk result (IsDone (Number file low high) self.old self.new) }
         ensures bad { IsErrOf result (BadCommand self.old.line) ↔ IsNone self.old.tree }
+        ensures line { self.new.line ≡ self.old.line }
     {
         let bad = self.bad();
         let Some(tree) = &mut self.tree else {
@@ -199,6 +208,7 @@ impl Interpreter {
         requires { IsPathWord path.now }
         ensures done { OnOk result (IsDone (Replace path.entry start end count) self.old self.new) }
         ensures bad { IsErrOf result (BadCommand self.old.line) ↔ (length self.old.stack.items < count) }
+        ensures line { self.new.line ≡ self.old.line }
     {
         let rest = self
             .stack
@@ -220,6 +230,7 @@ impl Interpreter {
         requires high { number < 2 ^ 47 }
         ensures done { OnOk result (IsDone (Find file number) self.old self.new) }
         ensures err { IfErr result (λ fault. fault ≡ Memory) }
+        ensures line { self.new.line ≡ self.old.line }
     {
         let span = Span::from_number(file, SpanNumber(number));
         self.queue.push(Slot::Ask(Request::Find(span)))?;
@@ -229,6 +240,7 @@ impl Interpreter {
     fn run<W: Write>(&mut self, alloc: Global, out: &mut W) -> Result<(), Fault>
         ensures done { OnOk result (IsDone Run self.old self.new) }
         ensures bad { IsErrOf result (BadCommand self.old.line) ↔ ¬ (IsSomeAnd self.old.tree IsNumbered) }
+        ensures line { self.new.line ≡ self.old.line }
     {
         let bad = self.bad();
         let Some(tree) = &mut self.tree else {

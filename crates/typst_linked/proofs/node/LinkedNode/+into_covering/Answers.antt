@@ -10,7 +10,8 @@ use Rattle.typst_linked.proofs.Covers.{child_there}
 use Rattle.typst_linked.proofs.LeafWays.{part_covers, none_covers, covering_next, way_on}
 use Rattle.typst_linked.proofs.Ordered.{count_child, count_children}
 use Rattle.typst_linked.proofs.Searching.{count_there, smaller_turn, below-nothing}
-use Rattle.typst_linked.proofs.Steps.{at-push, same_node}
+use Rattle.typst_node.proofs.Steps.{at-push}
+use Rattle.typst_linked.proofs.Places.{same_node}
 use Rattle.typst_linked.proofs.node.LinkedNode.+into_covering.Goals as goal
 
 pub first_ending-requires : goal.first_ending-requires

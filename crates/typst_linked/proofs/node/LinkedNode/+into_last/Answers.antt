@@ -16,7 +16,8 @@ use Rattle.typst_linked.proofs.LastLeaves.{empty_list, last_there_is, last_self,
 use Rattle.typst_linked.proofs.LeafWays.{way_on}
 use Rattle.typst_linked.proofs.Ordered.{count_child}
 use Rattle.typst_linked.proofs.Searching.{count_there, smaller_turn}
-use Rattle.typst_linked.proofs.Steps.{at-push, same_node}
+use Rattle.typst_node.proofs.Steps.{at-push}
+use Rattle.typst_linked.proofs.Places.{same_node}
 use Rattle.typst_linked.proofs.node.LinkedNode.+into_last.Goals as goal
 
 pub returns-then-is_empty-clause-leaf : goal.returns-then-is_empty-clause-leaf

@@ -4,7 +4,7 @@ use Rattle.typst_node.specs.Tree.{Tree, trees}
 use Rattle.typst_linked.specs.Place.{Place, subtree, child_place}
 use Rattle.typst_linked.specs.Search.{last_path, found_below}
 use Rattle.typst_linked.specs.Leaves.{is_good}
-use Rattle.typst_linked.proofs.Steps.{same_node}
+use Rattle.typst_linked.proofs.Places.{same_node}
 use Rattle.typst_linked.proofs.Covers.{child_there}
 use Rattle.typst_linked.proofs.Searching.{count_there, smaller_turn}
 use Rattle.typst_linked.proofs.Walks.{last_up, last_path-children, last_hit, last_miss, last_here, not_passed}

@@ -1,5 +1,5 @@
 use Rattle.std.proofs.Common.{◌≡◌, ◌∙◌, Some, None, ap, sym, arith}
-use Rattle.typst_linked.proofs.Steps.{child_within}
+use Rattle.typst_linked.proofs.Places.{child_within}
 use Rattle.std.proofs.lemmas.Result.{IfOk-weaker}
 use Rattle.typst_linked.specs.Place.{subtree, child_place, last_step}
 use Rattle.typst_linked.specs.Search.{found_below}

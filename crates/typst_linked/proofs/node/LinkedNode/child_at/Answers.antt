@@ -2,9 +2,9 @@ use Rattle.std.proofs.Common.{◌≡◌, ◌∙◌, length, ap, sym, refl, arith
 use Rattle.std.specs.Prelude.{slice_get}
 use Rattle.std.proofs.lemmas.Option.{slice_get_read}
 use Rattle.typst_node.specs.Tree.{trees}
-use Rattle.typst_linked.proofs.Steps.{last_step-push}
+use Rattle.typst_linked.proofs.Places.{last_step-push}
 use Rattle.typst_linked.proofs.Child.{at_place, child_is_at}
-use Rattle.typst_linked.proofs.Offsets.{length-text, text_of_all-take}
+use Rattle.typst_node.proofs.Offsets.{length-text, text_of_all-take}
 use Rattle.typst_linked.proofs.node.LinkedNode.child_at.Goals as goal
 
 pub overflow_add-offset : goal.overflow_add-offset

@@ -6,7 +6,7 @@ use Rattle.typst_linked.specs.Place.{Place, subtree}
 use Rattle.typst_linked.specs.Search.{binary_digits}
 use Rattle.typst_linked.specs.Floor.{NumbersRise, AreAbove}
 use Rattle.typst_linked.specs.Finds.{HasNumberBelow}
-use Rattle.typst_linked.proofs.Steps.{same_node}
+use Rattle.typst_linked.proofs.Places.{same_node}
 use Rattle.typst_linked.proofs.Searching.{Searching, searching_start, searching_found, searching_none, searching_below, searching_here, searching_room, searching_looks, searching_hit, next_turn, smaller_turn, below-nothing}
 use Rattle.typst_linked.proofs.node.LinkedNode.find_number.Goals as goal
 

@@ -7,7 +7,7 @@ use Rattle.typst_linked.specs.Place.{subtree}
 use Rattle.typst_linked.specs.Search.{last_path, found_below}
 use Rattle.typst_linked.specs.Siblings.{is_solid}
 use Rattle.typst_linked.specs.Leaves.{is_good, earlier_up}
-use Rattle.typst_linked.proofs.Steps.{same_node}
+use Rattle.typst_linked.proofs.Places.{same_node}
 use Rattle.typst_linked.proofs.StopsBefore.{earlier_hit, earlier_miss, earlier_trivia}
 use Rattle.typst_linked.proofs.node.LinkedNode.leaf_before.Goals as goal
 

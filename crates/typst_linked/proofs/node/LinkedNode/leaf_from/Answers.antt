@@ -7,7 +7,7 @@ use Rattle.typst_linked.specs.Place.{subtree}
 use Rattle.typst_linked.specs.Search.{first_path, found_below}
 use Rattle.typst_linked.specs.Siblings.{is_solid}
 use Rattle.typst_linked.specs.Leaves.{is_good}
-use Rattle.typst_linked.proofs.Steps.{same_node}
+use Rattle.typst_linked.proofs.Places.{same_node}
 use Rattle.typst_linked.proofs.Stops.{later_hit, later_miss, later_trivia}
 use Rattle.typst_linked.proofs.node.LinkedNode.leaf_from.Goals as goal
 use Rattle.typst_linked.proofs.node.LinkedNode.leaf_from.Goals.{then-not-is_trivia+in_ok-child+in_ok-leaf+in_default, else-not-is_trivia}

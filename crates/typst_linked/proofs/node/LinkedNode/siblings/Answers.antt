@@ -1,7 +1,7 @@
 use Rattle.std.proofs.Common.{◌≡◌, ◌∙◌, length, ap, sym, arith}
 use Rattle.typst_linked.specs.Place.{Place, child_place, last_step}
 use Rattle.typst_linked.specs.Siblings.{siblings}
-use Rattle.typst_linked.proofs.Steps.{child_within, last_step-push}
+use Rattle.typst_linked.proofs.Places.{child_within, last_step-push}
 use Rattle.typst_linked.proofs.Child.{at_place, place_with}
 use Rattle.typst_linked.proofs.Nearest.{siblings-child}
 use Rattle.typst_linked.proofs.node.LinkedNode.siblings.Goals as goal

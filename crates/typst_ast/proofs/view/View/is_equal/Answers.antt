@@ -1,8 +1,8 @@
 use Rattle.std.proofs.Common.{sym, ◌∙◌}
 use Rattle.typst_ast.specs.EqualViews.{equal_views}
-use Rattle.typst_ast.proofs.alike.is_equal.Goals as goal
+use Rattle.typst_ast.proofs.view.View.is_equal.Goals as goal
 
 pub returns : goal.returns
 returns g c =
-    let law = equal_views g.row.M _ g.M.Kind-dict c.args.view c.args.other in
+    let law = equal_views g.row.M _ g.M.Kind-dict c.args.self c.args.other in
     ((λ t. law.0 (sym c.eq.ensures ∙ t)), (λ e. c.eq.ensures ∙ law.1 e))

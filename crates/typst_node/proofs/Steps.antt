@@ -1,10 +1,8 @@
 -- Paths, one step after the other.
-use Rattle.std.proofs.Common.{◌≡◌, ℕ, ◌<◌, List, [], ◌∷◌, ◌++◌, length, Option, None, Some, refl, sym, ◌∙◌, ap}
+use Rattle.std.proofs.Common.{◌≡◌, ℕ, List, [], ◌∷◌, ◌++◌, Option, None, Some, refl, sym, ◌∙◌, ap}
 use Rattle.std.specs.Prelude.{slice_get}
-use Rattle.std.proofs.lemmas.Option.{slice_get_within}
 use Rattle.typst_node.specs.Tree.{Tree, trees}
 use Rattle.typst_node.specs.Preorder.{if_some, at}
-use Rattle.typst_linked.specs.Place.{Place, subtree, child_place, last_step}
 
 -- a value is there if something came of it
 pub if_some_value : {A B : Type 0} (f : A → Option B) (o : Option A) (m : B) → if_some f o ≡ Some m → (c : A) × (o ≡ Some c) × (f c ≡ Some m)
@@ -26,18 +24,3 @@ pub pushed : (p : List ℕ) (i : ℕ) (n m c : Tree) → at p n ≡ Some m → a
 pushed p i n m c h k =
     let x = if_some_value (at []) (slice_get (trees m.children) i) c (sym (at-append p (i ∷ []) n m h) ∙ k) in
     x.1 ∙ x.2
-
-pub same_node : (s n : Tree) (p : Place) → subtree p ≡ Some s → subtree p ≡ Some n → s ≡ n
-same_node s n p hs hn = let e : Some s ≡ Some n = sym hs ∙ hn in cc
-
-last_step-cons : (i j : ℕ) (p : List ℕ) → last_step (i ∷ (p ++ j ∷ [])) ≡ last_step (p ++ j ∷ [])
-last_step-cons i j [] = refl
-last_step-cons i j (k ∷ p) = refl
-
-pub last_step-push : (p : List ℕ) (i : ℕ) → last_step (p ++ i ∷ []) ≡ i
-last_step-push [] i = refl
-last_step-push (j ∷ p) i = last_step-cons j i p ∙ last_step-push p i
-
--- the index of a child is below the number of its parent's children
-pub child_within : (p : Place) (i : ℕ) (m c : Tree) → subtree p ≡ Some m → subtree (child_place p i) ≡ Some c → i < length (trees m.children)
-child_within p i m c hm hc = slice_get_within (trees m.children) i c (pushed p.path i p.root m c hm hc)

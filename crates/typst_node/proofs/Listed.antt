@@ -1,53 +1,14 @@
--- The list of a tree's paths.
-use Rattle.std.proofs.Common.{◌≡◌, ℕ, suc, zero, ◌+◌, inl, inr, List, [], ◌∷◌, ◌++◌, map, take, Bool, true, false, refl, sym, ◌∙◌, ap, arith, append_assoc, eq-eqb}
-use Rattle.std.specs.Prelude.{slice_get, None, Some, ◌&&◌, ◌||◌}
+-- What is listed among a tree's paths, and what is listed before it.
+use Rattle.std.proofs.Common.{◌≡◌, ℕ, suc, zero, ◌+◌, List, [], ◌∷◌, ◌++◌, map, take, Bool, true, false, refl, sym, ◌∙◌, ap, arith, append_assoc, eq-eqb}
+use Rattle.std.specs.Prelude.{slice_get, None, Some, ◌||◌}
 use Rattle.std.specs.List.{list_any, before_first}
-use Rattle.std.proofs.lemmas.Bool.Decides.{eqb_tells}
 use Rattle.std.proofs.lemmas.List.Folds.{list_any-append}
-use Rattle.typst_node.specs.Tree.{Label, Forest, none, tree, Tree, trees, forest}
+use Rattle.typst_node.specs.Tree.{Forest, none, tree, Tree, trees, forest}
 use Rattle.typst_node.specs.Preorder.{paths, paths_from, at}
 use Rattle.typst_node.specs.Text.{is_same_path}
-use Rattle.typst_linked.proofs.Firsts.{before-append_hit, before-append_miss, before-map, list_any-map}
-use Rattle.typst_linked.proofs.Steps.{if_some_value}
-
--- the paths of trees side by side begin with those of the first
-pub paths_from-tree : (k : ℕ) (l : Label) (c r : Forest) → paths_from k (tree l c r) ≡ map (λ p. k ∷ p) (paths (record { label = l; children = c })) ++ paths_from (k + 1) r
-paths_from-tree k l c r = refl
-
-pub same_itself : (p : List ℕ) → is_same_path p p ≡ true
-same_itself [] = refl
-same_itself (i ∷ p) = rw (eq-eqb i i refl) (same_itself p)
-
-pub same_path : (p q : List ℕ) → is_same_path p q ≡ true → p ≡ q
-same_path [] [] h = refl
-same_path [] (j ∷ q) h = absurd (cc)
-same_path (i ∷ p) [] h = absurd (cc)
-same_path (i ∷ p) (j ∷ q) h = elim (eqb_tells i j) [
-  | inl e ↦
-      let k : is_same_path p q ≡ true = sym (ap (λ b. b && is_same_path p q) e.0) ∙ h in
-      λ x. e.1 x ∷ same_path p q k x
-  | inr e ↦
-      let k : false ≡ true = sym (ap (λ b. b && is_same_path p q) e.0) ∙ h in
-      absurd (cc)
-]
-
--- below the same first step
-pub same_below : (i : ℕ) (q p : List ℕ) → is_same_path (i ∷ q) (i ∷ p) ≡ is_same_path q p
-same_below i q p = rw (eq-eqb i i refl) refl
-
--- below another first step
-pub differ_below : (i k : ℕ) (q p : List ℕ) → (i ≡ k → ⊥) → is_same_path (i ∷ q) (k ∷ p) ≡ false
-differ_below i k q p h = elim (eqb_tells i k) [
-  | inl e ↦ absurd (h e.1)
-  | inr e ↦ ap (λ b. b && is_same_path q p) e.0
-]
-
-pub none_below : (i k : ℕ) (q : List ℕ) (ps : List (List ℕ)) → (i ≡ k → ⊥) → list_any (is_same_path (i ∷ q)) (map (λ p. k ∷ p) ps) ≡ false
-none_below i k q [] h = refl
-none_below i k q (p ∷ ps) h = rw (differ_below i k q p h) (none_below i k q ps h)
-
-pub any_below : (i : ℕ) (q : List ℕ) (ps : List (List ℕ)) → list_any (is_same_path (i ∷ q)) (map (λ p. i ∷ p) ps) ≡ list_any (is_same_path q) ps
-any_below i q ps = list_any-map (is_same_path (i ∷ q)) (λ p. i ∷ p) ps ∙ ap (λ (f : List ℕ → Bool). list_any f ps) (λ x p. same_below i q p x)
+use Rattle.typst_node.proofs.FirstMatch.{before-append_hit, before-append_miss, before-map}
+use Rattle.typst_node.proofs.SamePaths.{same_below, none_below, any_below}
+use Rattle.typst_node.proofs.Steps.{if_some_value}
 
 or_true : (a b : Bool) → a ≡ true → (a || b) ≡ true
 or_true a b e = ap (λ c. c || b) e
