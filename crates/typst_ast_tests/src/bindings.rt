@@ -4,6 +4,8 @@ use std::test::Fail;
 use typst_ast::{Expr, LetBindingKind, Pattern, views as of};
 use typst_base::{FileId, SyntaxKind};
 use typst_node::{AstNode, SyntaxNode};
+use typst_tree::ast;
+use typst_tree::session::{self, Reply, Request, Slot};
 
 // `(a,b: c,..d)`.
 const PARTS: &str =
@@ -49,17 +51,25 @@ fn a_pattern_and_its_destructuring_bind_the_same_names(rt: HostRuntime) -> Resul
 }
 
 #[test]
-fn an_edited_binding_binds_the_new_names(rt: HostRuntime) -> Result<(), Fail> {
+fn a_run_of_edits_changes_what_a_binding_binds(rt: HostRuntime) -> Result<(), Fail> {
     let mut tree = binding(rt.alloc())?;
     let file = FileId::new(1).ok_or("no file")?;
     tree.numberize(file, 2..1 << 47)?;
-    assert!(rt; tree.edit_fits(&[1], 1..2));
     assert!(rt; tree.is_numbered());
     let z = drawn(rt.alloc(), "Ident:z")?;
-    let renumbered = tree.replace_at(rt.alloc(), &[1], 1..2, vec![in rt.alloc(); z]?)?;
+    let request = Request::Replace {
+        path: vec![in rt.alloc(); 1]?,
+        range: 1..2,
+        replacement: vec![in rt.alloc(); z]?,
+    };
+    let mut slots = vec![in rt.alloc(); Slot::Ask(request)]?;
+    session::run(rt.alloc(), &mut tree, &mut slots);
+    let Some(Slot::Told(Reply::Renumbered(renumbered))) = slots.first() else {
+        return Err("not renumbered")?;
+    };
     assert_eq!(rt; renumbered.window, 1..2);
     assert_eq!(rt; renumbered.tried, 1);
-    let view = cast::<of::LetBinding>(&tree)?;
+    let view = cast::<ast::LetBinding>(&tree)?;
     let names = joined(rt.alloc(), view.kind().bindings(rt.alloc())?)?;
     assert_eq!(rt; names.as_str(), "z,c,d,");
     Ok(())

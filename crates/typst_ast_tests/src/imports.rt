@@ -1,7 +1,8 @@
-use crate::trees::{cast, drawn, text};
+use crate::trees::{cast, drawn, hollow, text};
 use std::alloc::{AllocError, Global};
 use std::test::Fail;
 use typst_ast::{BareImportError, Imports, file_stem, views as of};
+use typst_base::SyntaxKind;
 use typst_node::{AstNode, SyntaxNode};
 
 // `import` and its source.
@@ -71,9 +72,11 @@ fn a_computed_source_gives_no_name(rt: HostRuntime) -> Result<(), Fail> {
     let view = cast::<of::ModuleImport>(&tree)?;
     let name = view.bare_name(rt.alloc(), |_: &str| true, |_: &str| Ok(None))?;
     assert!(rt; name.is_err_and(|error| error == BareImportError::Dynamic));
-    let blank = of::ModuleImport::placeholder();
-    let name = blank.bare_name(rt.alloc(), |_: &str| true, |_: &str| Ok(None))?;
-    assert!(rt; name.is_err_and(|error| error == BareImportError::Dynamic));
+    let hollow = hollow(rt.alloc(), SyntaxKind::ModuleImport)?;
+    for view in [of::ModuleImport::placeholder(), cast(&hollow)?] {
+        let name = view.bare_name(rt.alloc(), |_: &str| true, |_: &str| Ok(None))?;
+        assert!(rt; name.is_err_and(|error| error == BareImportError::Dynamic));
+    }
     Ok(())
 }
 

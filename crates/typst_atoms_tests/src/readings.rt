@@ -236,7 +236,15 @@ fn labels_lose_all_angle_brackets_at_their_ends(rt: HostRuntime) -> Result<(), F
 
 #[test]
 fn shorthands_of_markup_stand_for_one_character(rt: HostRuntime) -> Result<(), Fail> {
-    assert_eq!(rt; of::Shorthand::LIST.len(), 6);
+    let list = [
+        ("...", '\u{2026}'),
+        ("~", '\u{A0}'),
+        ("-", '\u{2212}'),
+        ("--", '\u{2013}'),
+        ("---", '\u{2014}'),
+        ("-?", '\u{AD}'),
+    ];
+    assert_eq!(rt; of::Shorthand::LIST, list.as_slice());
     for (text, want) in [
         ("...", '\u{2026}'),
         ("~", '\u{A0}'),
@@ -260,9 +268,47 @@ fn shorthands_of_markup_stand_for_one_character(rt: HostRuntime) -> Result<(), F
 
 #[test]
 fn shorthands_of_math_stand_for_one_character(rt: HostRuntime) -> Result<(), Fail> {
-    assert_eq!(rt; of::MathShorthand::LIST.len(), 38);
-    assert_eq!(rt; of::MathShorthand::LIST[0], ("...", '\u{2026}'));
-    assert_eq!(rt; of::MathShorthand::LIST[37], ("||", '\u{2016}'));
+    let list = [
+        ("...", '\u{2026}'),
+        ("-", '\u{2212}'),
+        ("*", '\u{2217}'),
+        ("~", '\u{223C}'),
+        ("!=", '\u{2260}'),
+        (":=", '\u{2254}'),
+        ("::=", '\u{2A74}'),
+        ("=:", '\u{2255}'),
+        ("<<", '\u{226A}'),
+        ("<<<", '\u{22D8}'),
+        (">>", '\u{226B}'),
+        (">>>", '\u{22D9}'),
+        ("<=", '\u{2264}'),
+        (">=", '\u{2265}'),
+        ("->", '\u{2192}'),
+        ("-->", '\u{27F6}'),
+        ("|->", '\u{21A6}'),
+        (">->", '\u{21A3}'),
+        ("->>", '\u{21A0}'),
+        ("<-", '\u{2190}'),
+        ("<--", '\u{27F5}'),
+        ("<-<", '\u{21A2}'),
+        ("<<-", '\u{219E}'),
+        ("<->", '\u{2194}'),
+        ("<-->", '\u{27F7}'),
+        ("~>", '\u{21DD}'),
+        ("~~>", '\u{27FF}'),
+        ("<~", '\u{21DC}'),
+        ("<~~", '\u{2B33}'),
+        ("=>", '\u{21D2}'),
+        ("|=>", '\u{2907}'),
+        ("==>", '\u{27F9}'),
+        ("<==", '\u{27F8}'),
+        ("<=>", '\u{21D4}'),
+        ("<==>", '\u{27FA}'),
+        ("[|", '\u{27E6}'),
+        ("|]", '\u{27E7}'),
+        ("||", '\u{2016}'),
+    ];
+    assert_eq!(rt; of::MathShorthand::LIST, list.as_slice());
     for (text, want) in [
         ("...", '\u{2026}'),
         ("-", '\u{2212}'),

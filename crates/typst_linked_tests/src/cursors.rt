@@ -140,6 +140,8 @@ fn thousand_texts(alloc: Global) -> Result<SyntaxNode, Fail> {
 fn ends_are_read_by_halving(rt: HostRuntime) -> Result<(), Fail> {
     let alloc = rt.alloc();
     let tree = thousand_texts(alloc)?;
+    assert_eq!(rt; tree.child_slice().len(), 1000);
+    assert_eq!(rt; (tree.child_end(499), tree.child_end(999)), (1000, 2000));
     let root = LinkedNode::new(&tree);
     let mut looks = Looks::new();
     let found = root

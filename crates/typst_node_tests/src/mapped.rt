@@ -85,6 +85,8 @@ fn a_part_behind_the_text_is_dropped(rt: HostRuntime) -> Result<(), Fail> {
     let id = FileId::new(1).ok_or("no id")?;
     strong.numberize(id, 2..100).ok().ok_or("refused")?;
     assert!(rt; strong.is_numbered() && strong.is_inner() && strong.child_slice().len() == 1);
+    assert_eq!(rt; strong.span().number(), 14);
+    assert_eq!(rt; strong.child_slice()[0].span().number(), 38);
     let shorter = vec![in alloc; text(alloc, "a")?]?;
     assert!(rt; strong.replace_children(alloc, 0..1, shorter).is_ok());
     assert_eq!(rt; strong.span().number(), 14);

@@ -129,6 +129,7 @@ fn deeper_nodes_share_what_their_parent_takes(rt: HostRuntime) -> Result<(), Fai
     assert_eq!(rt; numbers(alloc, strong)?.as_slice(), [4, 5, 6, 8].as_slice());
     assert_eq!(rt; strong.upper(), 14);
     assert_eq!(rt; strong.child_slice().len(), 3);
+    assert_eq!(rt; strong.child_slice()[1].upper(), 8);
     assert_eq!(rt; strong.child_end(2), 3);
     Ok(())
 }

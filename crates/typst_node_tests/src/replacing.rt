@@ -366,3 +366,19 @@ fn a_replaced_error_is_reported_no_more(rt: HostRuntime) -> Result<(), Fail> {
     assert_eq!(rt; strong.upper(), 8);
     Ok(())
 }
+
+#[test]
+fn a_replaced_error_leaves_the_warnings_above_it(rt: HostRuntime) -> Result<(), Fail> {
+    let alloc = rt.alloc();
+    let error = SyntaxNode::error(alloc, "m", "#")?;
+    let mut strong = SyntaxNode::inner(alloc, SyntaxKind::Strong, vec![in alloc; error]?)?;
+    strong.warn(alloc, "w")?;
+    let last = SyntaxNode::leaf(alloc, SyntaxKind::Text, "c")?;
+    let mut tree = SyntaxNode::inner(alloc, SyntaxKind::Markup, vec![in alloc; strong, last]?)?;
+    number(&mut tree, 1, 2..18)?;
+    assert!(rt; tree.diagnosis().errors && tree.diagnosis().warnings);
+    let answer = replace_at(alloc, &mut tree, &[0], 0..1, texts(alloc, &["b"])?)?;
+    assert_eq!(rt; answer, done(0..1, 1));
+    assert!(rt; !tree.diagnosis().errors && tree.diagnosis().warnings);
+    Ok(())
+}

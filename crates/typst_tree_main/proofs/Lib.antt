@@ -1,3 +1,4 @@
+pub mod FaultsApart
 pub mod Blanks
 pub mod Indices
 pub mod KindTable

@@ -2,6 +2,7 @@
 use Rattle.std.specs.Prelude.{ℕ, ◌≡◌, ◌-◌, ◌<◌, ◌≤◌, ◌≢◌, ◌⊎◌, List, [], ◌∷◌, ◌++◌, length, take, drop, IsSome, IsSomeAnd, None, ⊤}
 use Rattle.typst_node.specs.Count.{count}
 use Rattle.typst_node.specs.Numbered.{IsNumbered, IsNumberedFor, AllIn}
+use Rattle.typst_node.specs.Plain.{plain}
 use Rattle.typst_node.specs.Tree.{Tree, leaf_tree, inner_tree}
 use Rattle.typst_base.specs.Span.{numbered}
 use Rattle.typst_node.specs.Hints.{error_tree}
@@ -19,10 +20,11 @@ use Rattle.typst_tree_main.specs.declared.interpreter.Interpreter.{Interpreter}
 abbrev pub IsTooShort : Tree → ℕ → ℕ → Type 0
 IsTooShort tree low high = (high ≤ low) ⊎ (high - low < count tree)
 
--- the tree is numbered for the file within the range, or stays as it was where the range is too short
+-- the tree is numbered for the file within the range, spans and bounds aside the same, or as it was for too short a range
 abbrev pub IsNumbering : ℕ → ℕ → ℕ → Tree → Tree → Type 0
 IsNumbering file low high old new =
-    (IsTooShort old low high → new ≡ old) × (¬ (IsTooShort old low high) → IsNumberedFor file new × AllIn low high new)
+    (IsTooShort old low high → new ≡ old)
+    × (¬ (IsTooShort old low high) → IsNumberedFor file new × AllIn low high new × (plain new ≡ plain old))
 
 -- the slot asks for these nodes in place of the children from one index to another at a path
 abbrev pub AsksReplace : List ℕ → ℕ → ℕ → List Tree → Slot → Type 0

@@ -1,5 +1,6 @@
 pub mod Command
 pub mod Done
+pub mod Fails
 pub mod Fault
 pub mod Path
 pub mod Word

@@ -1,13 +1,12 @@
 // Carries out the commands of a script.
-ghost use Rattle.std.specs.Prelude.{ℕ, ◌≡◌, ◌≢◌, ◌<◌, ◌≤◌, ◌^◌, ◌-◌, ◌↔◌, List, [], length, drop, OnOk, IfErr, IsErrOf, IsNone, IsSomeAnd, IsOk, Err};
+ghost use Rattle.std.specs.Prelude.{ℕ, ◌≡◌, ◌≢◌, ◌<◌, ◌≤◌, ◌^◌, ◌⊎◌, ◌↔◌, List, [], length, OnOk, IfErr, IsErrOf, IsNone, IsSomeAnd, IsOk, Err};
 ghost use Rattle.typst_base.specs.declared.kind.SyntaxKind.TheVariants.{Error as ErrorKind};
-ghost use Rattle.typst_node.specs.Count.{SumsFit};
 ghost use Rattle.typst_node.specs.Numbered.{IsNumbered};
 ghost use Rattle.typst_tree_main.specs.Command.{IsLineOf};
 ghost use Rattle.typst_tree_main.specs.Path.{IsPathWord};
 ghost use Rattle.typst_tree_main.specs.declared.command.Command.{Command};
 ghost use Rattle.typst_tree_main.specs.declared.command.Command.TheVariants.{Leaf, Error, Warn, Inner, Root, Number, Replace, Find, Run};
-ghost use Rattle.typst_tree_main.specs.declared.fault.Fault.TheVariants.{BadCommand, Memory, Overflow};
+ghost use Rattle.typst_tree_main.specs.declared.fault.Fault.TheVariants.{BadCommand};
 
 use crate::command::Command;
 use crate::fault::Fault;
@@ -33,6 +32,7 @@ pub struct Interpreter {
 
 impl Interpreter {
     ghost use Rattle.typst_tree_main.specs.Done.{IsDone, CanBeDone};
+    ghost use Rattle.typst_tree_main.specs.Fails.{IsFaultOf};
 
     /// An empty stack, no tree, and an empty queue.
     pub fn new(alloc: Global) -> Interpreter
@@ -61,8 +61,12 @@ impl Interpreter {
             × (self.new.tree ≡ self.old.tree) × (self.new.queue.items ≡ self.old.queue.items) }
         ensures done { OnOk result (text.now ≢ []
             → (command : Command) × IsLineOf command text.now × IsDone command self.old self.new) }
-        ensures no_command { text.now ≢ [] → ((command : Command) → ¬ (IsLineOf command text.now))
+        ensures bad { text.now ≢ []
+            → ((command : Command) → IsLineOf command text.now → ¬ (CanBeDone command self.old))
             → result ≡ Err (BadCommand line) }
+        ensures err { IfErr result (λ fault.
+            ((fault ≡ BadCommand line) × ((command : Command) → ¬ (IsLineOf command text.now)))
+            ⊎ ((command : Command) × IsLineOf command text.now × IsFaultOf line command self.old fault)) }
         ensures line { self.new.line ≡ line }
     {
         self.line = line;
@@ -91,6 +95,7 @@ impl Interpreter {
         requires { (line : List ℕ) × IsLineOf command line }
         ensures done { OnOk result (IsDone command.entry self.old self.new) }
         ensures bad { IsErrOf result (BadCommand self.old.line) ↔ ¬ (CanBeDone command.entry self.old) }
+        ensures err { IfErr result (IsFaultOf self.old.line command.entry self.old) }
         ensures line { self.new.line ≡ self.old.line }
     {
         match command {
@@ -115,7 +120,7 @@ impl Interpreter {
     fn leaf(&mut self, alloc: Global, kind: SyntaxKind, text: &str) -> Result<(), Fault>
         requires { kind ≢ ErrorKind }
         ensures done { OnOk result (IsDone (Leaf kind text.entry) self.old self.new) }
-        ensures err { IfErr result (λ fault. fault ≡ Memory) }
+        ensures err { IfErr result (IsFaultOf self.old.line (Leaf kind text.entry) self.old) }
         ensures line { self.new.line ≡ self.old.line }
     {
         self.stack.push(SyntaxNode::leaf(alloc, kind, text)?)?;
@@ -124,7 +129,7 @@ impl Interpreter {
 
     fn error(&mut self, alloc: Global, message: &str, text: &str) -> Result<(), Fault>
         ensures done { OnOk result (IsDone (Error message.entry text.entry) self.old self.new) }
-        ensures err { IfErr result (λ fault. fault ≡ Memory) }
+        ensures err { IfErr result (IsFaultOf self.old.line (Error message.entry text.entry) self.old) }
         ensures line { self.new.line ≡ self.old.line }
     {
         self.stack.push(SyntaxNode::error(alloc, message, text)?)?;
@@ -134,6 +139,7 @@ impl Interpreter {
     fn warn(&mut self, alloc: Global, message: &str) -> Result<(), Fault>
         ensures done { OnOk result (IsDone (Warn message.entry) self.old self.new) }
         ensures bad { IsErrOf result (BadCommand self.old.line) ↔ (self.old.stack.items ≡ []) }
+        ensures err { IfErr result (IsFaultOf self.old.line (Warn message.entry) self.old) }
         ensures line { self.new.line ≡ self.old.line }
     {
         let Some(mut node) = self.stack.pop() else {
@@ -148,8 +154,7 @@ impl Interpreter {
         requires { kind ≢ ErrorKind }
         ensures done { OnOk result (IsDone (Inner kind count) self.old self.new) }
         ensures bad { IsErrOf result (BadCommand self.old.line) ↔ (length self.old.stack.items < count) }
-        ensures overflow { IsErrOf result Overflow
-            → ¬ (SumsFit (drop (length self.old.stack.items - count) self.old.stack.items)) }
+        ensures err { IfErr result (IsFaultOf self.old.line (Inner kind count) self.old) }
         ensures line { self.new.line ≡ self.old.line }
     {
         let start = self
@@ -165,6 +170,7 @@ impl Interpreter {
     fn root(&mut self) -> Result<(), Fault>
         ensures done { OnOk result (IsDone Root self.old self.new) }
         ensures bad { IsErrOf result (BadCommand self.old.line) ↔ (length self.old.stack.items ≢ 1) }
+        ensures err { IfErr result (IsFaultOf self.old.line Root self.old) }
         ensures line { self.new.line ≡ self.old.line }
     {
         if self.stack.len() != 1 {
@@ -185,6 +191,7 @@ impl Interpreter {
         requires high { high ≤ 2 ^ 47 }
         ensures done { OnOk result (IsDone (Number file low high) self.old self.new) }
         ensures bad { IsErrOf result (BadCommand self.old.line) ↔ IsNone self.old.tree }
+        ensures err { IfErr result (IsFaultOf self.old.line (Number file low high) self.old) }
         ensures line { self.new.line ≡ self.old.line }
     {
         let bad = self.bad();
@@ -208,6 +215,7 @@ impl Interpreter {
         requires { IsPathWord path.now }
         ensures done { OnOk result (IsDone (Replace path.entry start end count) self.old self.new) }
         ensures bad { IsErrOf result (BadCommand self.old.line) ↔ (length self.old.stack.items < count) }
+        ensures err { IfErr result (IsFaultOf self.old.line (Replace path.entry start end count) self.old) }
         ensures line { self.new.line ≡ self.old.line }
     {
         let rest = self
@@ -229,7 +237,7 @@ impl Interpreter {
         requires low { 2 ≤ number }
         requires high { number < 2 ^ 47 }
         ensures done { OnOk result (IsDone (Find file number) self.old self.new) }
-        ensures err { IfErr result (λ fault. fault ≡ Memory) }
+        ensures err { IfErr result (IsFaultOf self.old.line (Find file number) self.old) }
         ensures line { self.new.line ≡ self.old.line }
     {
         let span = Span::from_number(file, SpanNumber(number));
@@ -240,6 +248,7 @@ impl Interpreter {
     fn run<W: Write>(&mut self, alloc: Global, out: &mut W) -> Result<(), Fault>
         ensures done { OnOk result (IsDone Run self.old self.new) }
         ensures bad { IsErrOf result (BadCommand self.old.line) ↔ ¬ (IsSomeAnd self.old.tree IsNumbered) }
+        ensures err { IfErr result (IsFaultOf self.old.line Run self.old) }
         ensures line { self.new.line ≡ self.old.line }
     {
         let bad = self.bad();

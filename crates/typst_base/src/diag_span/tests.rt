@@ -2,6 +2,7 @@
 use crate::diag_span::{DiagSpan, DiagSpanKind};
 use crate::span::{FileId, Span, SpanNumber};
 use crate::sub_range::SubRange;
+use std::num::NonZeroU64;
 use std::ops::Range;
 
 #[test]
@@ -28,6 +29,15 @@ fn external_ranges_come_back_with_their_ends_cut(rt: HostRuntime) {
         let range = low..high;
         assert!(rt; span.get() == DiagSpanKind::Range { id, range });
     }
+}
+
+#[test]
+fn a_low_value_of_an_external_range_without_its_other_end_ends_at_0(rt: HostRuntime) {
+    let id = FileId::new(1).expect(&rt, "an id");
+    let word = NonZeroU64::new((1 << 48) + (1 << 47) + 5).expect(&rt, "not 0");
+    let span = DiagSpan::from_span(Span::from_raw(word), None);
+    let range = 5..0;
+    assert!(rt; span.get() == DiagSpanKind::Range { id, range });
 }
 
 /// The bytes that a range span and a part of it point to, or `0..0` if they point to none.

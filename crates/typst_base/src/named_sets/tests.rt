@@ -69,6 +69,8 @@ fn sets_hold_kinds_on_both_sides_of_128(rt: HostRuntime) {
     assert!(rt; has_exactly(both.remove(SyntaxKind::Let), &[128]));
     let last = SyntaxSet::new().add(SyntaxKind::DestructAssignment);
     assert!(rt; has_exactly(both.union(last), &[83, 128, 136]));
+    let and_or = SyntaxSet::new().add(SyntaxKind::And).add(SyntaxKind::Or);
+    assert!(rt; has_exactly(and_or, &[79, 80]));
     let empty: SyntaxSet = Default::default();
     assert!(rt; has_exactly(empty, &[]));
     for number in 0..137u8 {
