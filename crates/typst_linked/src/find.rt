@@ -90,8 +90,9 @@ impl<'a> LinkedNode<'a> {
         Ok(None)
     }
 
-    /// The node with this range of bytes: this node if its range is exactly that, else what is found below the first
-    /// child whose range covers it, else `None`. An empty node behind a nonempty sibling is missed.
+    /// The node with this range, in bytes from the beginning of the root's text: this node if its range is exactly that,
+    /// else what is found below the first child whose range covers it, else `None`. An empty node behind a nonempty
+    /// sibling is missed.
     pub fn find_range(
         &self,
         alloc: Global,

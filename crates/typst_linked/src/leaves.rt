@@ -29,6 +29,9 @@ impl<'a> LinkedNode<'a> {
             return Ok(Some(self));
         }
         let count = self.get().child_slice().len();
+        if count == 0 {
+            return Ok(None);
+        }
         let parent = Rc::new(alloc, self)?;
         for index in 0..count {
             let child = LinkedNode::nth_child(&parent, index)?;
@@ -53,6 +56,9 @@ impl<'a> LinkedNode<'a> {
             return Ok(Some(self));
         }
         let count = self.get().child_slice().len();
+        if count == 0 {
+            return Ok(None);
+        }
         let parent = Rc::new(alloc, self)?;
         for index in (0..count).rev() {
             let child = LinkedNode::nth_child(&parent, index)?;

@@ -1,23 +1,23 @@
--- A part of a list is moved to the end, cut off, and others are moved into its place.
-use Rattle.std.proofs.Common.{◌≡◌, ℕ, ◌+◌, ◌-◌, ◌≤◌, List, ◌++◌, length, take, drop, sym, ap, ◌∙◌, arith, append_assoc, length-append, length-take, length-drop}
-use Rattle.std.specs.Prelude.{slice_range}
+-- The first of the others are written over a part of a list. What is left of the part goes, and what is left of them comes.
+use Rattle.std.proofs.Common.{◌≡◌, ℕ, ◌+◌, ◌≤◌, List, [], ◌++◌, length, take, drop, sym, ap, ◌∙◌, arith, append_assoc, length-append, length-take}
 use Rattle.std.specs.List.{splice}
-use Rattle.std.proofs.lemmas.List.{take_at, drop_at}
+use Rattle.std.proofs.lemmas.List.{take_at, at_drop_all, take-append-drop}
+use Rattle.std.proofs.lemmas.Slice.{drop-append-drop}
 
-module _ {X : Type 0} (before mid behind ys : List X) (a left : ℕ) (begins : length before ≡ a) (ends : left ≡ length before + length behind) where
-  cut_off : take left (before ++ (behind ++ mid)) ≡ before ++ behind
-  cut_off = ap (take left) (sym (append_assoc before behind mid)) ∙ take_at (before ++ behind) mid left (omega (arith, length-append before behind))
+module _ {X : Type 0} (xs ys zs : List X) (a b k : ℕ) (low : a + k ≤ b) (high : b ≤ length xs) (most : k ≤ length ys) (written : zs ≡ splice xs a (a + k) (take k ys)) where
+  put_together : take (a + k) zs ++ (drop k ys ++ drop b zs) ≡ splice xs a b ys
+  put_together =
+      let wide : length (take a xs ++ take k ys) ≡ a + k = omega (arith, length-append (take a xs) (take k ys), length-take a xs, length-take k ys) in
+      let parts : zs ≡ (take a xs ++ take k ys) ++ drop (a + k) xs = written ∙ sym (append_assoc (take a xs) (take k ys) (drop (a + k) xs)) in
+      let front : take (a + k) zs ≡ take a xs ++ take k ys = ap (take (a + k)) parts ∙ take_at (take a xs ++ take k ys) (drop (a + k) xs) (a + k) wide in
+      let back : drop b zs ≡ drop b xs = ap (drop b) parts ∙ drop-append-drop (a + k) xs (take a xs ++ take k ys) b low wide in
+      (λ i. front i ++ (drop k ys ++ back i)) ∙ append_assoc (take a xs) (take k ys) (drop k ys ++ drop b xs)
+      ∙ ap (λ us. take a xs ++ us) (sym (append_assoc (take k ys) (drop k ys) (drop b xs)) ∙ ap (λ us. us ++ drop b xs) (take-append-drop k ys))
 
-  put_in : (c : List X) → c ≡ (before ++ behind) ++ ys → take a c ++ (drop left c ++ take (left - a) (drop a c)) ≡ before ++ (ys ++ behind)
-  put_in c is =
-      let front : take a c ≡ before = ap (take a) (is ∙ append_assoc before behind ys) ∙ take_at before (behind ++ ys) a begins in
-      let back : drop left c ≡ ys = ap (drop left) is ∙ drop_at (before ++ behind) ys left (omega (arith, length-append before behind)) in
-      let rest : drop a c ≡ behind ++ ys = ap (drop a) (is ∙ append_assoc before behind ys) ∙ drop_at before (behind ++ ys) a begins in
-      let middle : take (left - a) (drop a c) ≡ behind = ap (take (left - a)) rest ∙ take_at behind ys (left - a) (omega arith) in
-      λ i. front i ++ (back i ++ middle i)
+  -- all others are written, and what is left of the part goes
+  pub splice-shrunk : length ys ≤ k → splice zs (a + k) b [] ≡ splice xs a b ys
+  splice-shrunk all = sym (at_drop_all (λ us. take (a + k) zs ++ (us ++ drop b zs)) ys k all) ∙ put_together
 
-pub exchanged : {X : Type 0} (xs ys c : List X) (a b left : ℕ) → a ≤ b → b ≤ length xs → left ≡ length xs - (b - a) → c ≡ take left (take a xs ++ (drop b xs ++ slice_range xs a b)) ++ ys
-    → take a c ++ (drop left c ++ slice_range c a left) ≡ splice xs a b ys
-exchanged xs ys c a b left low high is now =
-    put_in (take a xs) (slice_range xs a b) (drop b xs) ys a left (omega (arith, length-take a xs)) (omega (arith, length-take a xs, length-drop b xs)) c
-    (now ∙ ap (λ zs. zs ++ ys) (cut_off (take a xs) (slice_range xs a b) (drop b xs) ys a left (omega (arith, length-take a xs)) (omega (arith, length-take a xs, length-drop b xs))))
+  -- the whole part is written over, and what is left of the others comes behind it
+  pub splice-grown : b ≡ a + k → splice zs b b (drop k ys) ≡ splice xs a b ys
+  splice-grown full = ap (λ n. take n zs ++ (drop k ys ++ drop b zs)) full ∙ put_together

@@ -3,7 +3,9 @@ ghost use Rattle.std.specs.Prelude.{◌≡◌, ◌||◌, ◌&&◌, true, false};
 /// Whether a subtree holds an error, and whether it holds a warning.
 #[derive(Clone, Copy, Debug, PartialEq, Eq, Hash)]
 pub struct Diagnosis {
+    /// Whether the tree has an error at any node.
     pub errors: bool,
+    /// Whether the tree has a warning at any node.
     pub warnings: bool,
 }
 

@@ -27,7 +27,8 @@ impl SyntaxNode {
     /// The errors and the warnings of the tree: two lists in preorder, at each node its warnings from the outermost
     /// to the innermost. Only want of memory is an error.
     ///
-    /// It takes time in proportion to the nodes on the paths to those that have something to report.
+    /// It takes time in proportion to the nodes at or below which something is reported, to the numbers of their
+    /// children, and to what is copied.
     pub fn errors_and_warnings(
         &self,
         alloc: Global,

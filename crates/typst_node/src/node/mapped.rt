@@ -1,5 +1,5 @@
 // Trees whose nodes have the places of mapped bytes.
-ghost use Rattle.std.specs.Prelude.{◌≡◌, ◌+◌, ◌<◌, ◌≤◌, ◌↔◌, length, map, IsErrOf, OnErr, OnOk};
+ghost use Rattle.std.specs.Prelude.{◌≡◌, ◌+◌, ◌<◌, ◌≤◌, ◌↔◌, length, map, IsErr, IsErrOf, OnErr, OnOk};
 ghost use Rattle.typst_base.specs.SubRange.{interval};
 ghost use Rattle.typst_node.specs.Mapped.{mapped_hint, mapped_part, mapped_tree, mapped_trees, mapped_warning};
 ghost use Rattle.typst_node.specs.Text.{text, text_of_all};
@@ -38,6 +38,7 @@ impl SyntaxNode {
     ) -> Result<(), SynthesizeError>
         ensures too_long { IsErrOf result (SynthesizeError.TooLong (length (text self.old)) (length mapper.now.positions))
             ↔ (length mapper.now.positions < length (text self.old)) }
+        ensures refused { IsErr result ↔ (length mapper.now.positions < length (text self.old)) }
         ensures err { OnErr result (self.new ≡ self.old) }
         ensures ok { OnOk result (self.new ≡ mapped_tree mapper.now id 0 self.old) }
     {

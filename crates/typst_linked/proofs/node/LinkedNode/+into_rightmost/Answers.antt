@@ -1,4 +1,4 @@
-use Rattle.std.proofs.Common.{◌≡◌, ℕ, ◌+◌, ◌-◌, ◌<◌, ◌∙◌, length, Some, ap, sym, subst, refl, arith, false}
+use Rattle.std.proofs.Common.{◌≡◌, ℕ, ◌+◌, ◌-◌, ◌<◌, ◌∙◌, length, None, Some, ap, sym, subst, refl, arith, false}
 use Rattle.std.specs.Prelude.{slice_get}
 use Rattle.typst_node.specs.Tree.{Tree, trees}
 use Rattle.typst_linked.specs.Place.{Place, subtree, child_place}
@@ -6,13 +6,21 @@ use Rattle.typst_linked.specs.Search.{last_path, found_below}
 use Rattle.typst_linked.specs.Leaves.{is_good}
 use Rattle.typst_linked.proofs.Places.{same_node}
 use Rattle.typst_linked.proofs.Covers.{child_there}
-use Rattle.typst_linked.proofs.Searching.{count_there, smaller_turn}
+use Rattle.typst_linked.proofs.Searching.{count_there, found_at, smaller_turn}
 use Rattle.typst_linked.proofs.Walks.{last_up, last_path-children, last_hit, last_miss, last_here, not_passed}
 use Rattle.typst_linked.proofs.node.LinkedNode.+into_rightmost.Goals as goal
 
 pub returns-then-is_good_leaf : goal.returns-then-is_good_leaf
 returns-then-is_good_leaf t c =
     last_here is_good c.args.self c.get.result.now c.get.ensures (c.is_good_leaf.ensures.good.0 c.if-is_good_leaf.true) (c.is_good_leaf.ensures.childless c.if-is_good_leaf.true)
+
+pub returns-then-count-eq0 : goal.returns-then-count-eq0
+returns-then-count-eq0 t c =
+    let n = c.get.result.now in
+    let bad : is_good n ≡ false = not_passed c.is_good_leaf.result (is_good n) c.is_good_leaf.ensures.good.1 c.if-is_good_leaf.false in
+    let kids = ap (λ (u : Tree). length (trees u.children)) (same_node n c.get-2.result.now c.args.self c.get.ensures c.get-2.ensures) in
+    let childless : 0 ≡ length (trees n.children) = omega (arith, kids, ap length c.child_slice-count.ensures.children) in
+    sym (found_at (last_path is_good) c.args.self n None c.get.ensures (last_path-children is_good n 0 bad childless))
 
 pub loop-index-init : goal.loop-index-init
 loop-index-init t c = λ s hs.
