@@ -21,7 +21,7 @@ use Rattle.typst_node.specs.Text.{text as text_of}
 use Rattle.typst_node.specs.Tree.{AsError, AsInner, AsLeaf, Content, Forest, none, tree, Tree, kind_of, trees}
 use Rattle.typst_node.specs.Views.{Class, kind_or, node_kind}
 
-pub kind_unbounded : (c : Content) → kind_of (unbounded c) ≡ kind_of c
+kind_unbounded : (c : Content) → kind_of (unbounded c) ≡ kind_of c
 kind_unbounded (AsLeaf kind text) = refl
 kind_unbounded (AsError text message hints) = refl
 kind_unbounded (AsInner kind bound) = refl
@@ -29,7 +29,7 @@ kind_unbounded (AsInner kind bound) = refl
 pub kind_plain : (t : Tree) → node_kind (plain t) ≡ node_kind t
 kind_plain t = kind_unbounded t.label.content
 
-pub trees_plain : (f : Forest) → trees (plain_forest f) ≡ map plain (trees f)
+trees_plain : (f : Forest) → trees (plain_forest f) ≡ map plain (trees f)
 trees_plain none = refl
 trees_plain (tree l c r) = ap (λ (ts : List Tree). record { label = plain_label l; children = plain_forest c } ∷ ts) (trees_plain r)
 
@@ -55,7 +55,8 @@ pub first_of_plain : (ts : List Tree) → first_of (map plain ts) ≡ option_map
 first_of_plain [] = refl
 first_of_plain (t ∷ ts) = refl
 
-pub last_or_plain : (o : Option Tree) (ts : List Tree) → last_or (option_map plain o) (map plain ts) ≡ option_map plain (last_or o ts)
+last_or_plain : (o : Option Tree) (ts : List Tree)
+    → last_or (option_map plain o) (map plain ts) ≡ option_map plain (last_or o ts)
 last_or_plain o [] = refl
 last_or_plain o (t ∷ ts) = last_or_plain (Some t) ts
 
@@ -80,7 +81,7 @@ behind_first_plain c (t ∷ ts) =
     ∙ ap (λ (us : List Tree). cond (c (node_kind t)) (map plain ts) us) (behind_first_plain c ts)
     ∙ cond_lists (c (node_kind t)) ts (behind_first c ts)
 
-pub any_plain : (c : Class) (ts : List Tree) → list_any (λ s. c (node_kind s)) (map plain ts) ≡ list_any (λ s. c (node_kind s)) ts
+any_plain : (c : Class) (ts : List Tree) → list_any (λ s. c (node_kind s)) (map plain ts) ≡ list_any (λ s. c (node_kind s)) ts
 any_plain c [] = refl
 any_plain c (t ∷ ts) = λ i. c (kind_plain t i) || any_plain c ts i
 
@@ -117,7 +118,8 @@ pub is_of_kind_plain : (k : SyntaxKind) (o : Option Tree) → is_of_kind k (opti
 is_of_kind_plain k None = refl
 is_of_kind_plain k (Some t) = ap (is_kind k) (kind_plain t)
 
-pub cond_options : (v : Bool) (o p : Option Tree) → cond v (option_map plain o) (option_map plain p) ≡ option_map plain (cond v o p)
+pub cond_options : (v : Bool) (o p : Option Tree)
+    → cond v (option_map plain o) (option_map plain p) ≡ option_map plain (cond v o p)
 cond_options true o p = refl
 cond_options false o p = refl
 
@@ -175,7 +177,8 @@ first_number_plain : (ts : List Tree) (n : Option ℕ) → IsFirstNumber (map pl
 first_number_plain [] n = refl
 first_number_plain (t ∷ ts) n =
     λ i. let digits = text_unbounded t.label.content i in
-    (HasNumber digits × (n ≡ Some (digits_value 10 (marker_digits digits)))) ⊎ (¬ (HasNumber digits) × first_number_plain ts n i)
+    (HasNumber digits × (n ≡ Some (digits_value 10 (marker_digits digits))))
+    ⊎ (¬ (HasNumber digits) × first_number_plain ts n i)
 
 -- of lists that are alike the same is read
 module _ (ts us : List Tree) (same : map plain ts ≡ map plain us) where

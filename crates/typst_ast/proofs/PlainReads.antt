@@ -120,7 +120,9 @@ names_alike a b same = sym (names_plain a) ∙ ap names_bound same ∙ names_pla
 bound_by_items_alike : (ts us : List Tree) → AreAlike ts us
     → AreAlike (flat_map (names_of_item names_bound) ts) (flat_map (names_of_item names_bound) us)
 bound_by_items_alike ts us same =
-    sym (parts_plain names_bound names_plain ts) ∙ ap (flat_map (names_of_item names_bound)) same ∙ parts_plain names_bound names_plain us
+    sym (parts_plain names_bound names_plain ts)
+    ∙ ap (flat_map (names_of_item names_bound)) same
+    ∙ parts_plain names_bound names_plain us
 
 picks_same_kinds : (a b : Option Tree) → IsAlike a b → PicksSameKinds a b
 picks_same_kinds a b e = record {
