@@ -5,4 +5,6 @@ pub mod ExprLists
 pub mod ItemLists
 pub mod NamesByRule
 pub mod PathParts
+pub mod PlainParts
+pub mod PlainPicks
 pub mod PlainReads

@@ -1,105 +1,29 @@
 -- What typed views read of a node, they read of its plain tree: each definition commutes with taking spans and bounds away.
-use Rattle.std.proofs.Common.{◌≡◌, ℕ, zero, suc, Bool, true, false, not, ◌&&◌, ◌||◌, cond, unwrap_or, List, [], ◌∷◌, ◌++◌, map, Option, Some, None, option_map, refl, sym, ap, ◌∙◌}
+use Rattle.std.proofs.Common.{◌≡◌, ◌==◌, ℕ, zero, suc, Bool, true, false, not, ◌&&◌, ◌||◌, cond, unwrap_or, List, [], ◌∷◌, ◌++◌, map, Option, Some, None, option_map, refl, sym, ap, ◌∙◌}
 use Rattle.std.proofs.lemmas.List.{map-append}
-use Rattle.std.specs.List.{flat_map, last_or, list_any}
+use Rattle.std.specs.List.{flat_map}
 use Rattle.std.specs.Option.{option_to_list}
-use Rattle.typst_ast.specs.Alike.{IsAlike, ReadsAlike}
+use Rattle.typst_ast.proofs.PlainParts.{all_plain, args_alike, before_last_plain, behind_first_plain, children_alike, children_plain, cond_lists, depth_alike, first_number_alike, first_of_alike, first_plain, is_of_kind_alike, kind_alike, kind_or_plain, kind_plain, kinds_alike, last_plain, lengths_alike, option_list_plain, text_alike, text_in_plain, texts_alike}
+use Rattle.typst_ast.proofs.PlainPicks.{all_picked, block_alike, deparenthesized_alike, first_picked, last_but_one_picked, last_picked, name_picked, next_picked, pattern_kind_picked, picked_before, picked_behind, second_picked, third_picked, value_picked}
+use Rattle.typst_ast.specs.Alike.{AreAlike, IsAlike, PicksSameKinds, ReadsAlike}
 use Rattle.typst_ast.specs.Bindings.{count_in, names_bound, names_of_item, names_of_pattern, names_within}
 use Rattle.typst_ast.specs.Exprs.{exprs_in, is_expr_or_space_kind, kept, markup_exprs}
-use Rattle.typst_ast.specs.Kinds.{is_arg_kind, is_destructuring_item_kind, is_pattern_kind}
+use Rattle.typst_ast.specs.Kinds.{is_arg_kind, is_destructuring_item_kind, is_expr_kind, is_pattern_kind}
 use Rattle.typst_ast.specs.Lists.{before_last}
 use Rattle.typst_ast.specs.MathArgs.{content_items, is_behind_hash, is_item, item_alone, items_in}
 use Rattle.typst_ast.specs.Operators.{binary_operator_at, binary_operator_in, unary_operator_in}
-use Rattle.typst_atoms.specs.Children.{all_children, all_in, behind_first, children_in, first_child, first_of, last_child, last_of}
+use Rattle.typst_atoms.specs.Children.{all_children, behind_first, children_in, first_child, last_child}
 use Rattle.typst_atoms.specs.Kinds.{is_kind}
 use Rattle.typst_atoms.specs.Texts.{text_in}
+use Rattle.typst_atoms.specs.Trims.{without_leading}
 use Rattle.typst_atoms.specs.UnaryOperators.{unary_operator_of}
 use Rattle.typst_base.specs.KindClasses.{is_stmt_kind}
 use Rattle.typst_base.specs.declared.kind.SyntaxKind.{SyntaxKind}
 use Rattle.typst_base.specs.declared.kind.SyntaxKind.TheVariants as kinds
-use Rattle.typst_node.proofs.Plain.{count_plain, text_unbounded}
-use Rattle.typst_node.specs.Plain.{plain, plain_forest, plain_label, unbounded}
-use Rattle.typst_node.specs.Tree.{AsError, AsInner, AsLeaf, Content, Forest, none, tree, Tree, kind_of, trees}
-use Rattle.typst_node.specs.Views.{Class, kind_or, node_kind}
-
-kind_unbounded : (c : Content) → kind_of (unbounded c) ≡ kind_of c
-kind_unbounded (AsLeaf kind text) = refl
-kind_unbounded (AsError text message hints) = refl
-kind_unbounded (AsInner kind bound) = refl
-
-kind_plain : (t : Tree) → node_kind (plain t) ≡ node_kind t
-kind_plain t = kind_unbounded t.label.content
-
-trees_plain : (f : Forest) → trees (plain_forest f) ≡ map plain (trees f)
-trees_plain none = refl
-trees_plain (tree l c r) = ap (λ (ts : List Tree). record { label = plain_label l; children = plain_forest c } ∷ ts) (trees_plain r)
-
-children_plain : (o : Option Tree) → children_in (option_map plain o) ≡ map plain (children_in o)
-children_plain None = refl
-children_plain (Some t) = trees_plain t.children
-
-kind_or_plain : (blank : SyntaxKind) (o : Option Tree) → kind_or blank (option_map plain o) ≡ kind_or blank o
-kind_or_plain blank None = refl
-kind_or_plain blank (Some t) = kind_plain t
-
-text_in_plain : (o : Option Tree) → text_in (option_map plain o) ≡ text_in o
-text_in_plain None = refl
-text_in_plain (Some t) = text_unbounded t.label.content
-
--- choices between lists
-cond_lists : (v : Bool) (ts us : List Tree) → cond v (map plain ts) (map plain us) ≡ map plain (cond v ts us)
-cond_lists true ts us = refl
-cond_lists false ts us = refl
-
--- parts of lists
-first_of_plain : (ts : List Tree) → first_of (map plain ts) ≡ option_map plain (first_of ts)
-first_of_plain [] = refl
-first_of_plain (t ∷ ts) = refl
-
-last_or_plain : (o : Option Tree) (ts : List Tree) → last_or (option_map plain o) (map plain ts) ≡ option_map plain (last_or o ts)
-last_or_plain o [] = refl
-last_or_plain o (t ∷ ts) = last_or_plain (Some t) ts
-
-last_of_plain : (ts : List Tree) → last_of (map plain ts) ≡ option_map plain (last_of ts)
-last_of_plain ts = last_or_plain None ts
-
-option_list_plain : (o : Option Tree) → option_to_list (option_map plain o) ≡ map plain (option_to_list o)
-option_list_plain None = refl
-option_list_plain (Some t) = refl
-
-all_in_plain : (c : Class) (ts : List Tree) → all_in c (map plain ts) ≡ map plain (all_in c ts)
-all_in_plain c [] = refl
-all_in_plain c (t ∷ ts) =
-    ap (λ (k : SyntaxKind). cond (c k) (plain t ∷ all_in c (map plain ts)) (all_in c (map plain ts))) (kind_plain t)
-    ∙ ap (λ (us : List Tree). cond (c (node_kind t)) (plain t ∷ us) us) (all_in_plain c ts)
-    ∙ cond_lists (c (node_kind t)) (t ∷ all_in c ts) (all_in c ts)
-
-behind_first_plain : (c : Class) (ts : List Tree) → behind_first c (map plain ts) ≡ map plain (behind_first c ts)
-behind_first_plain c [] = refl
-behind_first_plain c (t ∷ ts) =
-    ap (λ (k : SyntaxKind). cond (c k) (map plain ts) (behind_first c (map plain ts))) (kind_plain t)
-    ∙ ap (λ (us : List Tree). cond (c (node_kind t)) (map plain ts) us) (behind_first_plain c ts)
-    ∙ cond_lists (c (node_kind t)) ts (behind_first c ts)
-
-any_plain : (c : Class) (ts : List Tree) → list_any (λ s. c (node_kind s)) (map plain ts) ≡ list_any (λ s. c (node_kind s)) ts
-any_plain c [] = refl
-any_plain c (t ∷ ts) = λ i. c (kind_plain t i) || any_plain c ts i
-
-before_last_plain : (c : Class) (ts : List Tree) → before_last c (map plain ts) ≡ map plain (before_last c ts)
-before_last_plain c [] = refl
-before_last_plain c (t ∷ ts) =
-    (λ i. cond (any_plain c ts i) (plain t ∷ before_last_plain c ts i) [])
-    ∙ cond_lists (list_any (λ s. c (node_kind s)) ts) (t ∷ before_last c ts) []
-
--- the children of a class
-all_plain : (c : Class) (o : Option Tree) → all_children c (option_map plain o) ≡ map plain (all_children c o)
-all_plain c o = ap (all_in c) (children_plain o) ∙ all_in_plain c (children_in o)
-
-first_plain : (c : Class) (o : Option Tree) → first_child c (option_map plain o) ≡ option_map plain (first_child c o)
-first_plain c o = ap first_of (all_plain c o) ∙ first_of_plain (all_children c o)
-
-last_plain : (c : Class) (o : Option Tree) → last_child c (option_map plain o) ≡ option_map plain (last_child c o)
-last_plain c o = ap last_of (all_plain c o) ∙ last_of_plain (all_children c o)
+use Rattle.typst_node.proofs.Plain.{count_plain}
+use Rattle.typst_node.specs.Plain.{plain}
+use Rattle.typst_node.specs.Tree.{Tree}
+use Rattle.typst_node.specs.Views.{kind_or, node_kind}
 
 -- the expressions of markup, and the items of arguments in math
 kept_plain : (b : Bool) (t : Tree) → kept b (plain t) ≡ map plain (kept b t)
@@ -183,6 +107,39 @@ names_plain : (o : Option Tree) → names_bound (option_map plain o) ≡ map pla
 unfolding names_bound
 names_plain o = ap (λ (d : ℕ). names_within d (option_map plain o)) (count_in_plain o) ∙ within_plain (count_in o) o
 
+-- of lists and nodes that are alike
+exprs_alike : (ts us : List Tree) → AreAlike ts us → AreAlike (markup_exprs ts) (markup_exprs us)
+exprs_alike ts us same = sym (exprs_plain true false ts) ∙ ap markup_exprs same ∙ exprs_plain true false us
+
+items_alike : (ts us : List Tree) → AreAlike ts us → AreAlike (content_items ts) (content_items us)
+items_alike ts us same = sym (items_plain false ts) ∙ ap content_items same ∙ items_plain false us
+
+names_alike : (a b : Option Tree) → IsAlike a b → AreAlike (names_bound a) (names_bound b)
+names_alike a b same = sym (names_plain a) ∙ ap names_bound same ∙ names_plain b
+
+bound_by_items_alike : (ts us : List Tree) → AreAlike ts us
+    → AreAlike (flat_map (names_of_item names_bound) ts) (flat_map (names_of_item names_bound) us)
+bound_by_items_alike ts us same =
+    sym (parts_plain names_bound names_plain ts)
+    ∙ ap (flat_map (names_of_item names_bound)) same
+    ∙ parts_plain names_bound names_plain us
+
+picks_same_kinds : (a b : Option Tree) → IsAlike a b → PicksSameKinds a b
+picks_same_kinds a b e = record {
+  first = λ c. kind_alike _ _ (first_picked a b e c);
+  second = λ c. kind_alike _ _ (second_picked a b e c);
+  third = λ c. kind_alike _ _ (third_picked a b e c);
+  last = λ c. kind_alike _ _ (last_picked a b e c);
+  behind = λ c d. kind_alike _ _ (picked_behind a b e c d);
+  before = λ c d. kind_alike _ _ (picked_before a b e c d);
+  next = λ c d. kind_alike _ _ (next_picked a b e c d);
+  closure = kind_alike _ _ (name_picked a b e);
+  value = kind_alike _ _ (value_picked a b e);
+  all = λ c. kinds_alike _ _ (all_picked a b e c);
+  exprs = kinds_alike _ _ (exprs_alike _ _ (children_alike a b e));
+  items = kinds_alike _ _ (items_alike _ _ (children_alike a b e));
+}
+
 -- so of nodes that are alike they read what is alike
 pub reads_alike : (a b : Option Tree) → IsAlike a b → ReadsAlike a b
 reads_alike a b e =
@@ -201,4 +158,31 @@ reads_alike a b e =
       unary = sym (unary_plain (children_in a)) ∙ ap unary_operator_in children ∙ unary_plain (children_in b);
       binary = sym (binary_plain false (children_in a)) ∙ ap (binary_operator_in false) children ∙ binary_plain false (children_in b);
       names = sym (names_plain a) ∙ ap names_bound e ∙ names_plain b;
+      second = second_picked a b e;
+      third = third_picked a b e;
+      next = next_picked a b e;
+      nearest_behind = picked_behind a b e;
+      nearest_before = picked_before a b e;
+      kinds = kinds_alike _ _ children;
+      texts = texts_alike _ _ children;
+      lengths = lengths_alike _ _ children;
+      picked = picks_same_kinds a b e;
+      args = args_alike _ _ (items_alike _ _ children);
+      block = block_alike _ _ children;
+      deparenthesized = deparenthesized_alike _ _ children;
+      sign = text_alike _ _ (first_of_alike _ _ children);
+      significant = last_but_one_picked a b e;
+      comma = λ k. is_of_kind_alike _ _ (last_but_one_picked a b e) k;
+      closure = name_picked a b e;
+      value = value_picked a b e;
+      bound_kind = pattern_kind_picked a b e;
+      bound_closure = name_picked _ _ (first_picked a b e is_pattern_kind);
+      bound_in_group = λ c. names_alike _ _ (first_picked a b e c);
+      bound_by_items = bound_by_items_alike _ _ (all_picked a b e is_destructuring_item_kind);
+      depth = λ c. depth_alike _ _ (first_picked a b e c);
+      number = λ c n. first_number_alike _ _ (all_picked a b e c) n;
+      target = λ c. ap (without_leading (λ b. b == 64)) (text_alike _ _ (first_picked a b e c));
+      imported_kind = kind_alike _ _ (first_picked a b e is_expr_kind) kinds.None;
+      imported_text = text_alike _ _ (first_picked a b e is_expr_kind);
+      imported_field = λ c. text_alike _ _ (last_picked _ _ (first_picked a b e is_expr_kind) c);
     }

@@ -31,7 +31,7 @@ IsLetBindingKindOf binding (Closure name) =
 abbrev pub is_no_expr_besides : SyntaxKind → Bool
 is_no_expr_besides k = is_kind kinds.Closure k || (is_kind kinds.Underscore k || is_kind kinds.Destructuring k)
 
--- the value: the first expression behind such a pattern, else the second, since the pattern is the first
+-- the value: the first expression where the pattern is none besides it, else the second, since the pattern is the first
 abbrev pub let_value : Option Tree → Option Tree
 let_value binding =
     cond (is_no_expr_besides (let_pattern_kind binding)) (first_child is_expr_kind binding) (second_child is_expr_kind binding)

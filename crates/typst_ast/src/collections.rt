@@ -95,14 +95,16 @@ impl<'a> Spread<'a> {
         cast_first::<Expr>(self.node())
     }
 
-    /// The name of the sink, if it has one and the spread stands in a pattern or among parameters.
+    /// The name of the sink, if it has one: the first identifier. It means something only where the spread stands in a
+    /// pattern or among parameters.
     pub fn sink_ident(self) -> Option<Ident<'a>>
         ensures { IsOptionalAtom kinds.Ident (first_child (is_kind kinds.Ident) (node_of self.entry)) result }
     {
         try_cast_first::<Ident>(self.node())
     }
 
-    /// The expression of the sink, if it has one and the spread stands in a pattern.
+    /// The expression of the sink, if it has one: the first expression. It means something only where the spread stands in
+    /// a pattern.
     pub fn sink_expr(self) -> Option<Expr<'a>>
         ensures { IsOptionalExprOf (first_child is_expr_kind (node_of self.entry)) result }
     {

@@ -15,11 +15,11 @@ pub enum Expr<'a> {
     Text(of::Text<'a>),
     /// A space in markup or math, which the lists of expressions there hold besides.
     Space(of::Space<'a>),
-    /// A forced line break: `\\`.
+    /// A forced line break: `\`.
     Linebreak(of::Linebreak<'a>),
     /// A paragraph break: a blank line or more.
     Parbreak(of::Parbreak<'a>),
-    /// An escape sequence: `\\#`, `\\u{1F5FA}`.
+    /// An escape sequence: `\#`, `\u{1F5FA}`.
     Escape(of::Escape<'a>),
     /// A shorthand in markup: `~` or `...`.
     Shorthand(of::Shorthand<'a>),

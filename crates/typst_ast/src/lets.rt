@@ -40,7 +40,8 @@ impl<'a> LetBinding<'a> {
         }
     }
 
-    /// The value that is bound. Where the pattern is an expression itself, it is the second expression.
+    /// The value that is bound: the second expression where the pattern is an expression besides the value. A closure is the
+    /// value itself, and behind a `_` or a destructuring it is the first expression.
     pub fn init(self) -> Option<Expr<'a>>
         ensures { IsOptionalExprOf (let_value (node_of self.entry)) result }
     {

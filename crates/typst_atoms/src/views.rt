@@ -14,13 +14,13 @@ pub type Text<'a> = View<'a, kinds::TextKind>;
 /// Whitespace with at most one newline.
 pub type Space<'a> = View<'a, kinds::SpaceKind>;
 
-/// A forced line break: `\\`.
+/// A forced line break: `\`.
 pub type Linebreak<'a> = View<'a, kinds::LinebreakKind>;
 
 /// A paragraph break: a blank line or more.
 pub type Parbreak<'a> = View<'a, kinds::ParbreakKind>;
 
-/// An escape sequence: `\\#`, `\\u{1F5FA}`.
+/// An escape sequence: `\#`, `\u{1F5FA}`.
 pub type Escape<'a> = View<'a, kinds::EscapeKind>;
 
 /// A shorthand in markup: `~` or `...`.
