@@ -4,5 +4,6 @@ pub mod Ends
 pub mod ExprLists
 pub mod ItemLists
 pub mod NamesByRule
+pub mod OperatorBehind
 pub mod PathParts
 pub mod PlainReads

@@ -3,6 +3,7 @@ use Rattle.std.proofs.Common.{◌≡◌, ℕ, zero, suc, Bool, true, false, not,
 use Rattle.std.proofs.lemmas.List.{map-append}
 use Rattle.std.specs.List.{flat_map, last_or, list_any}
 use Rattle.std.specs.Option.{option_to_list}
+use Rattle.typst_ast.proofs.OperatorBehind.{behind_nothing_is_in, binary_operator_behind}
 use Rattle.typst_ast.specs.Alike.{IsAlike, ReadsAlike}
 use Rattle.typst_ast.specs.Bindings.{count_in, names_bound, names_of_item, names_of_pattern, names_within}
 use Rattle.typst_ast.specs.Exprs.{exprs_in, is_expr_or_space_kind, kept, markup_exprs}
@@ -130,11 +131,15 @@ unary_plain : (ts : List Tree) → unary_operator_in (map plain ts) ≡ unary_op
 unary_plain [] = refl
 unary_plain (t ∷ ts) = λ i. unwrap_or (unary_operator_of (kind_plain t i)) (unary_plain ts i)
 
-binary_plain : (b : Bool) (ts : List Tree) → binary_operator_in b (map plain ts) ≡ binary_operator_in b ts
-binary_plain b [] = refl
-binary_plain b (t ∷ ts) =
-    (λ i. unwrap_or (binary_operator_at b (kind_plain t i)) (binary_operator_in (b || is_kind kinds.Not (kind_plain t i)) (map plain ts)))
-    ∙ ap (unwrap_or (binary_operator_at b (node_kind t))) (binary_plain (b || is_kind kinds.Not (node_kind t)) ts)
+behind_plain : (b : Bool) (ts : List Tree) → binary_operator_behind b (map plain ts) ≡ binary_operator_behind b ts
+behind_plain b [] = refl
+behind_plain b (t ∷ ts) =
+    (λ i. unwrap_or (binary_operator_at b (kind_plain t i))
+    (binary_operator_behind (b || is_kind kinds.Not (kind_plain t i)) (map plain ts)))
+    ∙ ap (unwrap_or (binary_operator_at b (node_kind t))) (behind_plain (b || is_kind kinds.Not (node_kind t)) ts)
+
+binary_plain : (ts : List Tree) → binary_operator_in (map plain ts) ≡ binary_operator_in ts
+binary_plain ts = sym (behind_nothing_is_in (map plain ts)) ∙ behind_plain false ts ∙ behind_nothing_is_in ts
 
 -- the names that patterns bind
 module _ (f : Option Tree → List Tree) (same : (o : Option Tree) → f (option_map plain o) ≡ map plain (f o)) where
@@ -199,6 +204,6 @@ reads_alike a b e =
       exprs = sym (exprs_plain true false (children_in a)) ∙ ap markup_exprs children ∙ exprs_plain true false (children_in b);
       items = sym (items_plain false (children_in a)) ∙ ap content_items children ∙ items_plain false (children_in b);
       unary = sym (unary_plain (children_in a)) ∙ ap unary_operator_in children ∙ unary_plain (children_in b);
-      binary = sym (binary_plain false (children_in a)) ∙ ap (binary_operator_in false) children ∙ binary_plain false (children_in b);
+      binary = sym (binary_plain (children_in a)) ∙ ap binary_operator_in children ∙ binary_plain (children_in b);
       names = sym (names_plain a) ∙ ap names_bound e ∙ names_plain b;
     }

@@ -1,5 +1,5 @@
 -- What typed views answer of nodes that are alike: nodes whose plain trees are equal.
-use Rattle.std.specs.Prelude.{◌≡◌, false, List, Option, map, option_map}
+use Rattle.std.specs.Prelude.{◌≡◌, List, Option, map, option_map}
 use Rattle.typst_ast.specs.Bindings.{names_bound}
 use Rattle.typst_ast.specs.Exprs.{markup_exprs}
 use Rattle.typst_ast.specs.Lists.{before_last}
@@ -33,5 +33,5 @@ pub record ReadsAlike (a b : Option Tree) : Type 0 where
   pub exprs : AreAlike (markup_exprs (children_in a)) (markup_exprs (children_in b))
   pub items : AreAlike (content_items (children_in a)) (content_items (children_in b))
   pub unary : unary_operator_in (children_in a) ≡ unary_operator_in (children_in b)
-  pub binary : binary_operator_in false (children_in a) ≡ binary_operator_in false (children_in b)
+  pub binary : binary_operator_in (children_in a) ≡ binary_operator_in (children_in b)
   pub names : AreAlike (names_bound a) (names_bound b)
