@@ -3,6 +3,7 @@ use Rattle.std.proofs.Common.{◌≡◌, ℕ, zero, suc, Bool, true, false, not,
 use Rattle.std.proofs.lemmas.List.{map-append}
 use Rattle.std.specs.List.{flat_map, last_or, list_any}
 use Rattle.std.specs.Option.{option_to_list}
+use Rattle.typst_ast.proofs.ExprLists.{exprs_in_markup}
 use Rattle.typst_ast.proofs.OperatorBehind.{behind_nothing_is_in, binary_operator_behind}
 use Rattle.typst_ast.specs.Alike.{IsAlike, ReadsAlike}
 use Rattle.typst_ast.specs.Bindings.{count_in, names_bound, names_of_item, names_of_pattern, names_within}
@@ -115,6 +116,9 @@ exprs_plain d b (t ∷ ts) =
     ∙ ap (λ (us : List Tree). map plain (kept b t) ++ us) (exprs_plain d (d && is_stmt_kind (node_kind t)) ts)
     ∙ sym (map-append plain (kept b t) (exprs_in d (d && is_stmt_kind (node_kind t)) ts))
 
+markup_plain : (ts : List Tree) → markup_exprs (map plain ts) ≡ map plain (markup_exprs ts)
+markup_plain ts = sym (exprs_in_markup (map plain ts)) ∙ exprs_plain true false ts ∙ ap (map plain) (exprs_in_markup ts)
+
 item_alone_plain : (b : Bool) (t : Tree) → item_alone b (plain t) ≡ map plain (item_alone b t)
 item_alone_plain b t =
     ap (λ (k : SyntaxKind). cond (is_item b k) (plain t ∷ []) []) (kind_plain t) ∙ cond_lists (is_item b (node_kind t)) (t ∷ []) []
@@ -201,7 +205,7 @@ reads_alike a b e =
       all = λ c. sym (all_plain c a) ∙ ap (all_children c) e ∙ all_plain c b;
       behind = λ c. sym (behind_first_plain c (children_in a)) ∙ ap (behind_first c) children ∙ behind_first_plain c (children_in b);
       before = λ c. sym (before_last_plain c (children_in a)) ∙ ap (before_last c) children ∙ before_last_plain c (children_in b);
-      exprs = sym (exprs_plain true false (children_in a)) ∙ ap markup_exprs children ∙ exprs_plain true false (children_in b);
+      exprs = sym (markup_plain (children_in a)) ∙ ap markup_exprs children ∙ markup_plain (children_in b);
       items = sym (items_plain false (children_in a)) ∙ ap content_items children ∙ items_plain false (children_in b);
       unary = sym (unary_plain (children_in a)) ∙ ap unary_operator_in children ∙ unary_plain (children_in b);
       binary = sym (binary_plain (children_in a)) ∙ ap binary_operator_in children ∙ binary_plain (children_in b);
