@@ -1,7 +1,8 @@
 -- The expressions of a list of nodes that is read from its end.
-use Rattle.std.proofs.Common.{◌≡◌, ◌<◌, Bool, true, false, ◌&&◌, cond, map, Option, List, [], ◌∷◌, ◌++◌, length, refl, sym, ap, ◌∙◌, append-nil, append_assoc, length-append, arith}
+use Rattle.std.proofs.Common.{◌≡◌, ◌<◌, Bool, true, false, ◌&&◌, cond, map, filter, Option, Some, None, List, [], ◌∷◌, ◌++◌, length, refl, sym, ap, ◌∙◌, append-nil, append_assoc, length-append, arith}
 use Rattle.std.proofs.lemmas.List.{map-append, length-map}
-use Rattle.typst_ast.specs.Exprs.{kept, exprs_in, is_expr_or_space_kind}
+use Rattle.std.specs.List.{zip}
+use Rattle.typst_ast.specs.Exprs.{kept, exprs_in, is_expr_or_space_kind, is_markup_expr, is_stmt, markup_exprs}
 use Rattle.typst_ast.specs.StmtEnds.{ends_in_stmt}
 use Rattle.typst_atoms.specs.Children.{all_in}
 use Rattle.typst_base.specs.KindClasses.{is_stmt_kind}
@@ -46,3 +47,19 @@ exprs_in_all (t ∷ ts) =
     ap (λ x. x ++ exprs_in false false ts) (kept_all t)
     ∙ (cond_append (is_expr_or_space_kind (node_kind t)) t (exprs_in false false ts)
     ∙ ap (λ x. cond (is_expr_or_space_kind (node_kind t)) (t ∷ x) x) (exprs_in_all ts))
+
+-- where spaces behind statements are left out, they are the expressions of markup
+second_alone : (v : Bool) (p : Option Tree × Tree) (ps : List (Option Tree × Tree)) →
+    map (λ q. q.1) (cond v (p ∷ ps) ps) ≡ cond v (p.1 ∷ []) [] ++ map (λ q. q.1) ps
+second_alone true p ps = refl
+second_alone false p ps = refl
+
+markup_exprs_behind : (o : Option Tree) (ts : List Tree) →
+    map (λ p. p.1) (filter is_markup_expr (zip (o ∷ map (λ t. Some t) ts) ts)) ≡ exprs_in true (is_stmt o) ts
+markup_exprs_behind o [] = refl
+markup_exprs_behind o (t ∷ ts) =
+    second_alone (is_markup_expr (o, t)) (o, t) (filter is_markup_expr (zip (Some t ∷ map (λ u. Some u) ts) ts))
+    ∙ ap (λ us. kept (is_stmt o) t ++ us) (markup_exprs_behind (Some t) ts)
+
+pub exprs_in_markup : (ts : List Tree) → exprs_in true false ts ≡ markup_exprs ts
+exprs_in_markup ts = sym (markup_exprs_behind None ts)

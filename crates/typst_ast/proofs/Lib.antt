@@ -4,6 +4,7 @@ pub mod Ends
 pub mod ExprLists
 pub mod ItemLists
 pub mod NamesByRule
+pub mod OperatorBehind
 pub mod PathParts
 pub mod PlainParts
 pub mod PlainPicks

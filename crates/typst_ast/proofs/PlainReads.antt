@@ -3,6 +3,8 @@ use Rattle.std.proofs.Common.{◌≡◌, ◌==◌, ℕ, zero, suc, Bool, true, f
 use Rattle.std.proofs.lemmas.List.{map-append}
 use Rattle.std.specs.List.{flat_map}
 use Rattle.std.specs.Option.{option_to_list}
+use Rattle.typst_ast.proofs.ExprLists.{exprs_in_markup}
+use Rattle.typst_ast.proofs.OperatorBehind.{behind_nothing_is_in, binary_operator_behind}
 use Rattle.typst_ast.proofs.PlainParts.{all_plain, args_alike, before_last_plain, behind_first_plain, children_alike, children_plain, cond_lists, depth_alike, first_number_alike, first_of_alike, first_plain, is_of_kind_alike, kind_alike, kind_or_plain, kind_plain, kinds_alike, last_plain, lengths_alike, option_list_plain, text_alike, text_in_plain, texts_alike}
 use Rattle.typst_ast.proofs.PlainPicks.{all_picked, block_alike, deparenthesized_alike, first_picked, last_but_one_picked, last_picked, name_picked, next_picked, pattern_kind_picked, picked_before, picked_behind, second_picked, third_picked, value_picked}
 use Rattle.typst_ast.specs.Alike.{AreAlike, IsAlike, PicksSameKinds, ReadsAlike}
@@ -38,6 +40,9 @@ exprs_plain d b (t ∷ ts) =
     ∙ ap (λ (us : List Tree). map plain (kept b t) ++ us) (exprs_plain d (d && is_stmt_kind (node_kind t)) ts)
     ∙ sym (map-append plain (kept b t) (exprs_in d (d && is_stmt_kind (node_kind t)) ts))
 
+markup_plain : (ts : List Tree) → markup_exprs (map plain ts) ≡ map plain (markup_exprs ts)
+markup_plain ts = sym (exprs_in_markup (map plain ts)) ∙ exprs_plain true false ts ∙ ap (map plain) (exprs_in_markup ts)
+
 item_alone_plain : (b : Bool) (t : Tree) → item_alone b (plain t) ≡ map plain (item_alone b t)
 item_alone_plain b t =
     ap (λ (k : SyntaxKind). cond (is_item b k) (plain t ∷ []) []) (kind_plain t) ∙ cond_lists (is_item b (node_kind t)) (t ∷ []) []
@@ -54,11 +59,15 @@ unary_plain : (ts : List Tree) → unary_operator_in (map plain ts) ≡ unary_op
 unary_plain [] = refl
 unary_plain (t ∷ ts) = λ i. unwrap_or (unary_operator_of (kind_plain t i)) (unary_plain ts i)
 
-binary_plain : (b : Bool) (ts : List Tree) → binary_operator_in b (map plain ts) ≡ binary_operator_in b ts
-binary_plain b [] = refl
-binary_plain b (t ∷ ts) =
-    (λ i. unwrap_or (binary_operator_at b (kind_plain t i)) (binary_operator_in (b || is_kind kinds.Not (kind_plain t i)) (map plain ts)))
-    ∙ ap (unwrap_or (binary_operator_at b (node_kind t))) (binary_plain (b || is_kind kinds.Not (node_kind t)) ts)
+behind_plain : (b : Bool) (ts : List Tree) → binary_operator_behind b (map plain ts) ≡ binary_operator_behind b ts
+behind_plain b [] = refl
+behind_plain b (t ∷ ts) =
+    (λ i. unwrap_or (binary_operator_at b (kind_plain t i))
+    (binary_operator_behind (b || is_kind kinds.Not (kind_plain t i)) (map plain ts)))
+    ∙ ap (unwrap_or (binary_operator_at b (node_kind t))) (behind_plain (b || is_kind kinds.Not (node_kind t)) ts)
+
+binary_plain : (ts : List Tree) → binary_operator_in (map plain ts) ≡ binary_operator_in ts
+binary_plain ts = sym (behind_nothing_is_in (map plain ts)) ∙ behind_plain false ts ∙ behind_nothing_is_in ts
 
 -- the names that patterns bind
 module _ (f : Option Tree → List Tree) (same : (o : Option Tree) → f (option_map plain o) ≡ map plain (f o)) where
@@ -153,10 +162,10 @@ reads_alike a b e =
       all = λ c. sym (all_plain c a) ∙ ap (all_children c) e ∙ all_plain c b;
       behind = λ c. sym (behind_first_plain c (children_in a)) ∙ ap (behind_first c) children ∙ behind_first_plain c (children_in b);
       before = λ c. sym (before_last_plain c (children_in a)) ∙ ap (before_last c) children ∙ before_last_plain c (children_in b);
-      exprs = sym (exprs_plain true false (children_in a)) ∙ ap markup_exprs children ∙ exprs_plain true false (children_in b);
+      exprs = sym (markup_plain (children_in a)) ∙ ap markup_exprs children ∙ markup_plain (children_in b);
       items = sym (items_plain false (children_in a)) ∙ ap content_items children ∙ items_plain false (children_in b);
       unary = sym (unary_plain (children_in a)) ∙ ap unary_operator_in children ∙ unary_plain (children_in b);
-      binary = sym (binary_plain false (children_in a)) ∙ ap (binary_operator_in false) children ∙ binary_plain false (children_in b);
+      binary = sym (binary_plain (children_in a)) ∙ ap binary_operator_in children ∙ binary_plain (children_in b);
       names = sym (names_plain a) ∙ ap names_bound e ∙ names_plain b;
       second = second_picked a b e;
       third = third_picked a b e;

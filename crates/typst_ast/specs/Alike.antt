@@ -1,5 +1,5 @@
 -- What typed views answer of nodes that are alike: nodes whose plain trees are equal.
-use Rattle.std.specs.Prelude.{ℕ, ◌≡◌, ◌↔◌, Bool, false, length, List, Option, Some, map, option_map}
+use Rattle.std.specs.Prelude.{ℕ, ◌≡◌, ◌↔◌, Bool, length, List, Option, Some, map, option_map}
 use Rattle.typst_ast.specs.BareNames.{import_kind, import_source}
 use Rattle.typst_ast.specs.Bindings.{names_bound, names_of_items}
 use Rattle.typst_ast.specs.Closures.{closure_name}
@@ -81,7 +81,7 @@ pub record ReadsAlike (a b : Option Tree) : Type 0 where
   pub exprs : AreAlike (markup_exprs (children_in a)) (markup_exprs (children_in b))
   pub items : AreAlike (content_items (children_in a)) (content_items (children_in b))
   pub unary : unary_operator_in (children_in a) ≡ unary_operator_in (children_in b)
-  pub binary : binary_operator_in false (children_in a) ≡ binary_operator_in false (children_in b)
+  pub binary : binary_operator_in (children_in a) ≡ binary_operator_in (children_in b)
   pub names : AreAlike (names_bound a) (names_bound b)
   pub second : (c : Class) → IsAlike (second_child c a) (second_child c b)
   pub third : (c : Class) → IsAlike (third_of (all_children c a)) (third_of (all_children c b))

@@ -108,6 +108,7 @@ impl<'a> DoubleEndedIterator for Exprs<'a> {
 
 impl<'a> of::Markup<'a> {
     /// The expressions and spaces in order, from both ends. A space directly behind a statement is left out.
+    #[tactic(auto, using(crate::proofs::ExprLists::exprs_in_markup))]
     pub fn exprs(self) -> Exprs<'a>
         ensures { exprs_left result ≡ markup_exprs (children_in (node_of self.entry)) }
     {

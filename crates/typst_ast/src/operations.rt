@@ -1,5 +1,5 @@
 //! Operations with operators, and accesses of fields.
-ghost use Rattle.std.specs.Prelude.{◌≡◌, false};
+ghost use Rattle.std.specs.Prelude.{◌≡◌};
 ghost use Rattle.typst_ast.specs.Expr.{IsExprOf};
 ghost use Rattle.typst_ast.specs.Kinds.{is_expr_kind};
 ghost use Rattle.typst_ast.specs.Operators.{binary_operator_in, unary_operator_in};
@@ -41,8 +41,9 @@ impl<'a> Unary<'a> {
 
 impl<'a> Binary<'a> {
     /// The operator: that of the first child that is one, `+` where there is none. An `in` behind a `not` is `not in`.
+    #[tactic(auto, using(crate::proofs::OperatorBehind::behind_nothing_is_in))]
     pub fn op(self) -> BinOp
-        ensures { result ≡ binary_operator_in false (children_in (node_of self.entry)) }
+        ensures { result ≡ binary_operator_in (children_in (node_of self.entry)) }
     {
         let mut negated = false;
         let mut rest = children(self.node());
