@@ -4,6 +4,7 @@ use Rattle.std.proofs.lemmas.List.{map-append}
 use Rattle.std.specs.List.{flat_map, last_or, list_any}
 use Rattle.std.specs.Option.{option_to_list}
 use Rattle.typst_ast.proofs.ExprLists.{exprs_in_markup}
+use Rattle.typst_ast.proofs.ItemLists.{items_in_content}
 use Rattle.typst_ast.proofs.OperatorBehind.{behind_nothing_is_in, binary_operator_behind}
 use Rattle.typst_ast.specs.Alike.{IsAlike, ReadsAlike}
 use Rattle.typst_ast.specs.Bindings.{count_in, names_bound, names_of_item, names_of_pattern, names_within}
@@ -130,6 +131,9 @@ items_plain b (t ∷ ts) =
     ∙ ap (λ (us : List Tree). map plain (item_alone b t) ++ us) (items_plain (is_behind_hash b t) ts)
     ∙ sym (map-append plain (item_alone b t) (items_in (is_behind_hash b t) ts))
 
+content_plain : (ts : List Tree) → content_items (map plain ts) ≡ map plain (content_items ts)
+content_plain ts = sym (items_in_content (map plain ts)) ∙ items_plain false ts ∙ ap (map plain) (items_in_content ts)
+
 -- the operators
 unary_plain : (ts : List Tree) → unary_operator_in (map plain ts) ≡ unary_operator_in ts
 unary_plain [] = refl
@@ -206,7 +210,7 @@ reads_alike a b e =
       behind = λ c. sym (behind_first_plain c (children_in a)) ∙ ap (behind_first c) children ∙ behind_first_plain c (children_in b);
       before = λ c. sym (before_last_plain c (children_in a)) ∙ ap (before_last c) children ∙ before_last_plain c (children_in b);
       exprs = sym (markup_plain (children_in a)) ∙ ap markup_exprs children ∙ markup_plain (children_in b);
-      items = sym (items_plain false (children_in a)) ∙ ap content_items children ∙ items_plain false (children_in b);
+      items = sym (content_plain (children_in a)) ∙ ap content_items children ∙ content_plain (children_in b);
       unary = sym (unary_plain (children_in a)) ∙ ap unary_operator_in children ∙ unary_plain (children_in b);
       binary = sym (binary_plain (children_in a)) ∙ ap binary_operator_in children ∙ binary_plain (children_in b);
       names = sym (names_plain a) ∙ ap names_bound e ∙ names_plain b;
