@@ -1,9 +1,14 @@
 -- The items of the arguments of a function call in math, read from the end; and the arguments among them.
-use Rattle.std.proofs.Common.{◌≡◌, ◌<◌, Bool, true, false, not, ◌&&◌, ◌||◌, cond, map, Option, Some, List, [], ◌∷◌, ◌++◌, length, refl, sym, ap, subst, ◌∙◌, append-nil, append_assoc, length-append, arith}
+use Rattle.std.proofs.Common.{◌≡◌, ◌<◌, ℕ, ◌+◌, Bool, true, false, not, ◌&&◌, ◌||◌, cond, map, filter, take, Option, Some, List, [], ◌∷◌, ◌++◌, length, refl, sym, ap, subst, ◌∙◌, append-nil, append_assoc, length-append, arith}
+use Rattle.std.proofs.Math.Seq.{take-append_seam}
 use Rattle.std.proofs.lemmas.List.{map-append, length-map}
+use Rattle.std.specs.List.{enumerate_from}
+use Rattle.typst_ast.proofs.Ends.{last_in_append}
 use Rattle.typst_ast.specs.HashEnds.{ends_behind_hash}
 use Rattle.typst_ast.specs.Kinds.{is_arg_kind}
-use Rattle.typst_ast.specs.MathArgs.{is_separator_kind, is_item, item_alone, is_behind_hash, items_in, args_in, ends_in_semicolon, told_arg_of}
+use Rattle.typst_ast.specs.Lists.{is_of_kind}
+use Rattle.typst_ast.specs.MathArgs.{is_separator_kind, is_item, item_alone, is_behind_hash, is_content_item, is_hash_last, items_in, content_items, args_in, ends_in_semicolon, told_arg_of}
+use Rattle.typst_atoms.specs.Children.{all_in, last_of}
 use Rattle.typst_atoms.specs.Kinds.{is_kind}
 use Rattle.typst_base.specs.contracts.kind.SyntaxKind.{the_type}
 use Rattle.typst_base.specs.declared.kind.SyntaxKind.{SyntaxKind}
@@ -155,3 +160,44 @@ pub args_shorter : (b : Bool) (all ts : List Tree) (t : Tree) (start : List (Tre
 args_shorter b all ts t start i e v =
     let h = ap length (args_first b all ts t start i e v) in
     omega arith
+
+-- behind nothing they are the items of the whole list
+is_hash_last_append : (ts : List Tree) (t : Tree) → is_hash_last (ts ++ t ∷ []) ≡ is_behind_hash (is_hash_last ts) t
+is_hash_last_append ts t =
+    let last = last_of (all_in (λ k. not (is_arg_kind k)) ts) in
+    let is_hash = is_kind kinds.Hash (node_kind t) in
+    ap (is_of_kind kinds.Hash) (last_in_append (λ k. not (is_arg_kind k)) ts t)
+    ∙ elim (is_arg_kind (node_kind t)) as
+    (λ v. is_of_kind kinds.Hash (cond (not v) (Some t) last) ≡ cond v (is_of_kind kinds.Hash last) is_hash) [
+      | true ↦ refl
+      | false ↦ refl
+    ]
+
+node_alone : (v : Bool) (p : List Tree × Tree) (ps : List (List Tree × Tree)) →
+    map (λ q. q.1) (cond v (p ∷ ps) ps) ≡ cond v (p.1 ∷ []) [] ++ map (λ q. q.1) ps
+node_alone true p ps = refl
+node_alone false p ps = refl
+
+-- the items among the last nodes of a list, whose first has this number
+abbrev items_from : List Tree → ℕ → List Tree → List Tree
+items_from all n ts =
+    map (λ p. p.1) (filter is_content_item (map (λ p. (take p.0 all, p.1)) (enumerate_from n ts)))
+
+items_from_is_in : (front ts : List Tree) →
+    items_from (front ++ ts) (length front) ts ≡ items_in (is_hash_last front) ts
+items_from_is_in front [] = refl
+items_from_is_in front (t ∷ ts) =
+    let all : List Tree = front ++ t ∷ ts in
+    let more : List Tree = front ++ t ∷ [] in
+    let is_here : Bool = is_content_item (take (length front) all, t) in
+    let later = filter is_content_item (map (λ p. (take p.0 all, p.1)) (enumerate_from (length front + 1) ts)) in
+    node_alone is_here (take (length front) all, t) later
+    ∙ ap (λ us. cond (is_content_item (us, t)) (t ∷ []) [] ++ items_from all (length front + 1) ts)
+    (take-append_seam front (t ∷ ts))
+    ∙ ap (λ us. item_alone (is_hash_last front) t ++ items_from us (length front + 1) ts) (sym (append_assoc front (t ∷ []) ts))
+    ∙ ap (λ n. item_alone (is_hash_last front) t ++ items_from (more ++ ts) n ts) (sym (length-append front (t ∷ [])))
+    ∙ ap (λ us. item_alone (is_hash_last front) t ++ us)
+    (items_from_is_in more ts ∙ ap (λ b. items_in b ts) (is_hash_last_append front t))
+
+pub items_in_content : (ts : List Tree) → items_in false ts ≡ content_items ts
+items_in_content ts = sym (items_from_is_in [] ts)

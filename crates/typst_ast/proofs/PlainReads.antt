@@ -4,6 +4,7 @@ use Rattle.std.proofs.lemmas.List.{map-append}
 use Rattle.std.specs.List.{flat_map}
 use Rattle.std.specs.Option.{option_to_list}
 use Rattle.typst_ast.proofs.ExprLists.{exprs_in_markup}
+use Rattle.typst_ast.proofs.ItemLists.{items_in_content}
 use Rattle.typst_ast.proofs.OperatorBehind.{behind_nothing_is_in, binary_operator_behind}
 use Rattle.typst_ast.proofs.PlainParts.{all_plain, args_alike, before_last_plain, behind_first_plain, children_alike, children_plain, cond_lists, depth_alike, first_number_alike, first_of_alike, first_plain, is_of_kind_alike, kind_alike, kind_or_plain, kind_plain, kinds_alike, last_plain, lengths_alike, option_list_plain, text_alike, text_in_plain, texts_alike}
 use Rattle.typst_ast.proofs.PlainPicks.{all_picked, block_alike, deparenthesized_alike, first_picked, last_but_one_picked, last_picked, name_picked, next_picked, pattern_kind_picked, picked_before, picked_behind, second_picked, third_picked, value_picked}
@@ -53,6 +54,9 @@ items_plain b (t ∷ ts) =
     (λ i. item_alone_plain b t i ++ items_in (cond (is_arg_kind (kind_plain t i)) b (is_kind kinds.Hash (kind_plain t i))) (map plain ts))
     ∙ ap (λ (us : List Tree). map plain (item_alone b t) ++ us) (items_plain (is_behind_hash b t) ts)
     ∙ sym (map-append plain (item_alone b t) (items_in (is_behind_hash b t) ts))
+
+content_plain : (ts : List Tree) → content_items (map plain ts) ≡ map plain (content_items ts)
+content_plain ts = sym (items_in_content (map plain ts)) ∙ items_plain false ts ∙ ap (map plain) (items_in_content ts)
 
 -- the operators
 unary_plain : (ts : List Tree) → unary_operator_in (map plain ts) ≡ unary_operator_in ts
@@ -163,7 +167,7 @@ reads_alike a b e =
       behind = λ c. sym (behind_first_plain c (children_in a)) ∙ ap (behind_first c) children ∙ behind_first_plain c (children_in b);
       before = λ c. sym (before_last_plain c (children_in a)) ∙ ap (before_last c) children ∙ before_last_plain c (children_in b);
       exprs = sym (markup_plain (children_in a)) ∙ ap markup_exprs children ∙ markup_plain (children_in b);
-      items = sym (items_plain false (children_in a)) ∙ ap content_items children ∙ items_plain false (children_in b);
+      items = sym (content_plain (children_in a)) ∙ ap content_items children ∙ content_plain (children_in b);
       unary = sym (unary_plain (children_in a)) ∙ ap unary_operator_in children ∙ unary_plain (children_in b);
       binary = sym (binary_plain (children_in a)) ∙ ap binary_operator_in children ∙ binary_plain (children_in b);
       names = sym (names_plain a) ∙ ap names_bound e ∙ names_plain b;

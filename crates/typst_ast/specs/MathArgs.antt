@@ -1,8 +1,11 @@
 -- The items and the arguments of a function call in math.
-use Rattle.std.specs.Prelude.{Bool, false, not, cond, map, Option, Some, List, [], ◌∷◌, ◌++◌, ◌||◌}
+use Rattle.std.specs.Prelude.{Bool, false, not, cond, map, filter, take, Option, Some, List, [], ◌∷◌, ◌++◌, ◌||◌}
+use Rattle.std.specs.List.{enumerate_from}
 use Rattle.typst_ast.specs.Kinds.{is_arg_kind}
+use Rattle.typst_ast.specs.Lists.{is_of_kind}
 use Rattle.typst_ast.specs.declared.math_args.MathArgItems.{MathArgItems}
 use Rattle.typst_ast.specs.declared.math_args.MathArgList.{MathArgList}
+use Rattle.typst_atoms.specs.Children.{all_in, last_of}
 use Rattle.typst_atoms.specs.Kinds.{is_kind}
 use Rattle.typst_base.specs.declared.kind.SyntaxKind.{SyntaxKind}
 use Rattle.typst_base.specs.declared.kind.SyntaxKind.TheVariants as kinds
@@ -18,6 +21,22 @@ is_separator_kind k =
 abbrev pub is_item : Bool → SyntaxKind → Bool
 is_item behind_hash k = cond (is_kind kinds.Semicolon k) (not behind_hash) (is_separator_kind k || is_arg_kind k)
 
+-- whether the last of these nodes that is no argument is a hash
+abbrev pub is_hash_last : List Tree → Bool
+is_hash_last ts = is_of_kind kinds.Hash (last_of (all_in (λ k. not (is_arg_kind k)) ts))
+
+-- each node with the nodes before it
+abbrev pub with_all_before : List Tree → List (List Tree × Tree)
+with_all_before ts = map (λ p. (take p.0 ts, p.1)) (enumerate_from 0 ts)
+
+-- whether a node is an item behind these nodes: a semicolon is none where the last of them that is no argument is a hash
+abbrev pub is_content_item : List Tree × Tree → Bool
+is_content_item p = is_item (is_hash_last p.0) (node_kind p.1)
+
+-- the items of the children of a call's arguments
+abbrev pub content_items : List Tree → List Tree
+content_items ts = map (λ p. p.1) (filter is_content_item (with_all_before ts))
+
 -- the node alone, if it is an item
 abbrev pub item_alone : Bool → Tree → List Tree
 item_alone behind_hash t = cond (is_item behind_hash (node_kind t)) (t ∷ []) []
@@ -26,7 +45,8 @@ item_alone behind_hash t = cond (is_item behind_hash (node_kind t)) (t ∷ []) [
 abbrev pub is_behind_hash : Bool → Tree → Bool
 is_behind_hash behind_hash t = cond (is_arg_kind (node_kind t)) behind_hash (is_kind kinds.Hash (node_kind t))
 
--- the items of a list, in order, where the flag says whether the nearest node before it that is no argument is a hash
+-- What an iterator in that state has left of a list: the items, in order, where the flag says whether the nearest node
+-- before the list that is no argument is a hash.
 abbrev pub items_in : Bool → List Tree → List Tree
 items_in behind_hash [] = []
 items_in behind_hash (t ∷ ts) = item_alone behind_hash t ++ items_in (is_behind_hash behind_hash t) ts
@@ -41,10 +61,6 @@ ends_in_semicolon (t ∷ ts) =
 abbrev pub args_in : List Tree → List (Tree × Bool)
 args_in [] = []
 args_in (t ∷ ts) = cond (is_arg_kind (node_kind t)) ((t, ends_in_semicolon ts) ∷ args_in ts) (args_in ts)
-
--- the items of the children of a call's arguments
-abbrev pub content_items : List Tree → List Tree
-content_items ts = items_in false ts
 
 -- the nodes whose items are still to come
 abbrev pub items_left : MathArgItems → List Tree

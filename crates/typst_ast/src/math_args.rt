@@ -116,6 +116,7 @@ pub struct MathArgItems<'a> {
 
 impl<'a> MathArgItems<'a> {
     // The items of these nodes.
+    #[tactic(auto, using(crate::proofs::ItemLists::items_in_content))]
     fn over(nodes: &'a [SyntaxNode]) -> Self
         ensures { items_left result ≡ content_items nodes.now }
     {
@@ -170,6 +171,7 @@ pub struct MathArgList<'a> {
 
 impl<'a> MathArgList<'a> {
     // The arguments among these nodes.
+    #[tactic(auto, using(crate::proofs::ItemLists::items_in_content))]
     fn over(nodes: &'a [SyntaxNode]) -> Self
         ensures { args_left result ≡ args_in (content_items nodes.now) }
     {
