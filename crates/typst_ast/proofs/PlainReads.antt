@@ -122,10 +122,10 @@ names_plain o = ap (λ (d : ℕ). names_within d (option_map plain o)) (count_in
 
 -- of lists and nodes that are alike
 exprs_alike : (ts us : List Tree) → AreAlike ts us → AreAlike (markup_exprs ts) (markup_exprs us)
-exprs_alike ts us same = sym (exprs_plain true false ts) ∙ ap markup_exprs same ∙ exprs_plain true false us
+exprs_alike ts us same = sym (markup_plain ts) ∙ ap markup_exprs same ∙ markup_plain us
 
 items_alike : (ts us : List Tree) → AreAlike ts us → AreAlike (content_items ts) (content_items us)
-items_alike ts us same = sym (items_plain false ts) ∙ ap content_items same ∙ items_plain false us
+items_alike ts us same = sym (content_plain ts) ∙ ap content_items same ∙ content_plain us
 
 names_alike : (a b : Option Tree) → IsAlike a b → AreAlike (names_bound a) (names_bound b)
 names_alike a b same = sym (names_plain a) ∙ ap names_bound same ∙ names_plain b
@@ -166,11 +166,11 @@ reads_alike a b e =
       all = λ c. sym (all_plain c a) ∙ ap (all_children c) e ∙ all_plain c b;
       behind = λ c. sym (behind_first_plain c (children_in a)) ∙ ap (behind_first c) children ∙ behind_first_plain c (children_in b);
       before = λ c. sym (before_last_plain c (children_in a)) ∙ ap (before_last c) children ∙ before_last_plain c (children_in b);
-      exprs = sym (markup_plain (children_in a)) ∙ ap markup_exprs children ∙ markup_plain (children_in b);
-      items = sym (content_plain (children_in a)) ∙ ap content_items children ∙ content_plain (children_in b);
+      exprs = exprs_alike _ _ children;
+      items = items_alike _ _ children;
       unary = sym (unary_plain (children_in a)) ∙ ap unary_operator_in children ∙ unary_plain (children_in b);
       binary = sym (binary_plain (children_in a)) ∙ ap binary_operator_in children ∙ binary_plain (children_in b);
-      names = sym (names_plain a) ∙ ap names_bound e ∙ names_plain b;
+      names = names_alike a b e;
       second = second_picked a b e;
       third = third_picked a b e;
       next = next_picked a b e;
