@@ -31,7 +31,8 @@ kind_plain t = kind_unbounded t.label.content
 
 trees_plain : (f : Forest) → trees (plain_forest f) ≡ map plain (trees f)
 trees_plain none = refl
-trees_plain (tree l c r) = ap (λ (ts : List Tree). record { label = plain_label l; children = plain_forest c } ∷ ts) (trees_plain r)
+trees_plain (tree l c r) =
+    ap (λ (ts : List Tree). record { label = plain_label l; children = plain_forest c } ∷ ts) (trees_plain r)
 
 pub children_plain : (o : Option Tree) → children_in (option_map plain o) ≡ map plain (children_in o)
 children_plain None = refl

@@ -7,7 +7,7 @@ use Rattle.typst_ast.proofs.ExprLists.{exprs_in_markup}
 use Rattle.typst_ast.proofs.ItemLists.{items_in_content}
 use Rattle.typst_ast.proofs.OperatorBehind.{behind_nothing_is_in, binary_operator_behind}
 use Rattle.typst_ast.proofs.PlainParts.{all_plain, args_alike, before_last_plain, behind_first_plain, children_alike, children_plain, cond_lists, depth_alike, first_number_alike, first_of_alike, first_plain, is_of_kind_alike, kind_alike, kind_or_plain, kind_plain, kinds_alike, last_plain, lengths_alike, option_list_plain, text_alike, text_in_plain, texts_alike}
-use Rattle.typst_ast.proofs.PlainPicks.{all_picked, block_alike, deparenthesized_alike, first_picked, last_but_one_picked, last_picked, name_picked, next_picked, pattern_kind_picked, picked_before, picked_behind, second_picked, third_picked, value_picked}
+use Rattle.typst_ast.proofs.PlainPicks.{all_picked, block_alike, deparenthesized_alike, fenced_picked, first_picked, lang_picked, last_before_end_picked, last_picked, name_picked, next_picked, pattern_kind_picked, picked_before, picked_behind, second_picked, third_picked, trimmed_alike, value_picked}
 use Rattle.typst_ast.specs.Alike.{AreAlike, IsAlike, PicksSameKinds, ReadsAlike}
 use Rattle.typst_ast.specs.Bindings.{count_in, names_bound, names_of_item, names_of_pattern, names_within}
 use Rattle.typst_ast.specs.Exprs.{exprs_in, is_expr_or_space_kind, kept, markup_exprs}
@@ -184,8 +184,8 @@ reads_alike a b e =
       block = block_alike _ _ children;
       deparenthesized = deparenthesized_alike _ _ children;
       sign = text_alike _ _ (first_of_alike _ _ children);
-      significant = last_but_one_picked a b e;
-      comma = λ k. is_of_kind_alike _ _ (last_but_one_picked a b e) k;
+      significant = last_before_end_picked a b e;
+      comma = λ k. is_of_kind_alike _ _ (last_before_end_picked a b e) k;
       closure = name_picked a b e;
       value = value_picked a b e;
       bound_kind = pattern_kind_picked a b e;
@@ -198,4 +198,8 @@ reads_alike a b e =
       imported_kind = kind_alike _ _ (first_picked a b e is_expr_kind) kinds.None;
       imported_text = text_alike _ _ (first_picked a b e is_expr_kind);
       imported_field = λ c. text_alike _ _ (last_picked _ _ (first_picked a b e is_expr_kind) c);
+      in_first = λ c d. last_picked _ _ (first_picked a b e c) d;
+      fenced = fenced_picked a b e;
+      lang = lang_picked a b e;
+      trimmed = trimmed_alike _ _ children;
     }

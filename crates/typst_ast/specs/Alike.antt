@@ -13,6 +13,7 @@ use Rattle.typst_ast.specs.MathArgs.{args_in, content_items}
 use Rattle.typst_ast.specs.Operators.{binary_operator_in, unary_operator_in}
 use Rattle.typst_ast.specs.Refs.{ref_target}
 use Rattle.typst_atoms.specs.Children.{all_children, all_in, behind_first, children_in, first_child, first_of, last_child, last_of, second_child}
+use Rattle.typst_atoms.specs.Raws.{is_fenced, lang_node, trimmed_chars}
 use Rattle.typst_atoms.specs.Texts.{text_in}
 use Rattle.typst_base.specs.declared.kind.SyntaxKind.{SyntaxKind}
 use Rattle.typst_node.specs.Plain.{plain}
@@ -28,7 +29,7 @@ IsAlike a b = option_map plain a ≡ option_map plain b
 abbrev pub AreAlike : List Tree → List Tree → Type 0
 AreAlike ts us = map plain ts ≡ map plain us
 
--- the nodes are of one kind, also where any one kind stands for a missing node
+-- the nodes are of one kind, where one and the same kind stands for either that is missing
 abbrev pub AreOfOneKind : Option Tree → Option Tree → Type 0
 AreOfOneKind a b = (blank : SyntaxKind) → kind_or blank a ≡ kind_or blank b
 
@@ -44,9 +45,9 @@ last_before c d node = last_of (all_in d (before_last c (children_in node)))
 abbrev pub next_behind : Class → Class → Option Tree → Option Tree
 next_behind c d node = of_class d (first_of (behind_first c (children_in node)))
 
--- the last child before the last one that isn't trivia
-abbrev pub last_but_one : Option Tree → Option Tree
-last_but_one node = last_significant (all_but_last (children_in node))
+-- of the children before the last one the last that isn't trivia
+abbrev pub last_before_end : Option Tree → Option Tree
+last_before_end node = last_significant (all_but_last (children_in node))
 
 -- an argument in math: its plain tree, its kind, and whether it ends in a semicolon
 abbrev pub plain_arg : Tree × Bool → Tree × SyntaxKind × Bool
@@ -96,8 +97,8 @@ pub record ReadsAlike (a b : Option Tree) : Type 0 where
   pub block : is_block_equation (children_in a) ≡ is_block_equation (children_in b)
   pub deparenthesized : is_deparenthesized (children_in a) ≡ is_deparenthesized (children_in b)
   pub sign : text_in (first_of (children_in a)) ≡ text_in (first_of (children_in b))
-  pub significant : IsAlike (last_but_one a) (last_but_one b)
-  pub comma : (k : SyntaxKind) → is_of_kind k (last_but_one a) ≡ is_of_kind k (last_but_one b)
+  pub significant : IsAlike (last_before_end a) (last_before_end b)
+  pub comma : (k : SyntaxKind) → is_of_kind k (last_before_end a) ≡ is_of_kind k (last_before_end b)
   pub closure : IsAlike (closure_name a) (closure_name b)
   pub value : IsAlike (let_value a) (let_value b)
   pub bound_kind : let_pattern_kind a ≡ let_pattern_kind b
@@ -110,3 +111,7 @@ pub record ReadsAlike (a b : Option Tree) : Type 0 where
   pub imported_kind : import_kind a ≡ import_kind b
   pub imported_text : text_in (import_source a) ≡ text_in (import_source b)
   pub imported_field : (c : Class) → text_in (last_child c (import_source a)) ≡ text_in (last_child c (import_source b))
+  pub in_first : (c d : Class) → IsAlike (last_child d (first_child c a)) (last_child d (first_child c b))
+  pub fenced : is_fenced a ≡ is_fenced b
+  pub lang : IsAlike (lang_node a) (lang_node b)
+  pub trimmed : trimmed_chars a ≡ trimmed_chars b
