@@ -1,139 +1,367 @@
 #!/usr/bin/env python3
-"""Tries a crate's wrong bodies many at once, one a function, and says which functions the prover still accepts.
+"""Says of each wrong body of a crate whether the prover refuses it, many bodies in one check.
 
-    bench/bodies.py CRATE [FOLDER] [--kept]
+    bench/bodies.py CRATE.. [--only WORD] [--each] [--jobs N]    judges the crates' edits, in must-fail/ and wrong-bodies/
+    bench/bodies.py --goals CRATE..                              the same, and by which goals of its functions each falls: their
+                                                                 names tell the clause, as `returns-clause-looks`
+    bench/bodies.py --beside LOG CRATE..                         the same, each crate once `rt ci`, which writes LOG, has
+                                                                 proved those below it, over what it made of them
+    bench/bodies.py --apply                                      whether each edit of each crate can be placed; no check
+    bench/bodies.py --test                                       judges a small made-up crate whose verdicts are known
 
-A check of typst_ast takes over a minute whatever was edited, so `rt ci` tries a few wrong bodies of that crate one by one
-(crates/typst_ast/must-fail), and this the others (crates/typst_ast/wrong-bodies, the FOLDER by default). It applies a batch
-to a copy of the crate, runs `rt check` there and reads the line of each edited function, which must be `not proved`. That
-the crate without edits is proved is for `rt ci` to say. The copy is proved from nothing, or with --kept over what the
-checkout holds.
+An edit has lines `file: src/x.rt`, `old: TEXT` and `new: TEXT`, each text one line. The old text stands once in the file, or
+once in the function that a line `in: Type::method` before it names (`in: function`, `in: Trait for Type::method`), which
+`rt ci` doesn't read: so only edits in wrong-bodies/ have it.
+
+A body is refused only by a failure of its own: a goal of that very function that `search` did not prove, or an error in its
+own proof files that isn't a name which the edit took away. What a function owes rests on the contracts of those that it
+calls, and not on their bodies, so edits of many functions stand in one check: that a function calls one that isn't proved
+says nothing of it, and takes nothing from its own failure. No batch has two edits of a function or of a cycle, and each has
+a control, a right body, which must be proved. What a batch doesn't decide is tried again, apart from all that the function
+may call, and at last alone; what isn't decided then is told as not judged, which fails.
 """
 import argparse
 import re
+import resource
 import shutil
 import subprocess
 import sys
 import tempfile
+import threading
+import time
+from concurrent.futures import ThreadPoolExecutor
 from pathlib import Path
 
-FUNCTION = re.compile(r"^ *(?:pub(?:\([^)]*\))? )?fn (\w+)", re.M)
-IMPL = re.compile(r"^impl(?:<[^{]*?>)? (?:(?:(\w+)(?:<[^>]*>)?) for )?(?:of::)?(\w+)", re.M)
-PROVED = re.compile(r"^fn (\S+): (proved|not proved|no proof|could not tell)", re.M)
+from bodies_sources import Hunk, edits_of, functions, placed, reach
+
+TOP = Path(__file__).resolve().parent.parent
+SAID = re.compile(r"^fn (\S+): (.*)$", re.M)
+ERRORS = re.compile(r"^\./proofs/(\S+?\.antt):\d+:\d+: error: (.*)", re.M)
+REACHED = re.compile(r"^logic=(?:not-)?proved", re.M)
+GOAL = "`search` did not prove `"
+NAMED = re.compile(r"`search` did not prove `([^`]+)`|error: `([^`]+)`")  # a goal, or a declaration of a proof file
+VANISHED = re.compile(r"has no field|is not in scope|has no `|was not admitted")  # the edit took a name away: it says little
+REFUSED = ("goal", "proof file")  # the two ways of a failure of its own
+UNSEEN = re.compile(r"[=!<>]=|[?+*/<>-]|\bfor\b")  # what may call a method of a trait that the body doesn't name
 
 
-def pairs(text):
-    """The edit's changes: file, old line and new line."""
-    found, path, old = [], None, None
-    for line in text.split("\n"):
-        if line.startswith("file: "):
-            path = line[len("file: ") :].strip()
-        elif line.startswith("old: "):
-            old = line[len("old: ") :]
-        elif line.startswith("new:"):
-            found.append((path, old, line[len("new:") :].removeprefix(" ")))
+def needs_of(top):
+    """What each crate of crates.txt uses."""
+    lines = [line.partition("#")[0].partition(":") for line in (top / "crates.txt").read_text().split("\n")]
+    return {name.split()[0]: uses.split() for name, _, uses in lines if name.strip()}
+
+
+def below(name, needs):
+    """The crates of the repository that this one stands on, in any number of steps."""
+    found, todo = set(), [name]
+    while todo:
+        new = {it for it in needs[todo.pop()] if it in needs} - found
+        found |= new
+        todo += new
     return found
 
 
-def last_before(pattern, text, at):
-    return next((it for it in reversed([*pattern.finditer(text)]) if it.start() <= at), None)
+class Room:
+    """A copy of a crate and of what it stands on, in which batches are checked."""
+
+    def __init__(self, top, name, place, jobs, proved=None):
+        self.source, self.crate, self.jobs, self.checks = top / "crates" / name, Path(place) / "crates" / name, jobs, 0
+        needs = needs_of(top)
+        kept = below(name, needs)
+        for it in kept:
+            leaves_out = shutil.ignore_patterns("out" if proved else "incremental", "*.o")
+            shutil.copytree(top / "crates" / it, Path(place) / "crates" / it, ignore=leaves_out)
+            if proved:
+                shutil.copytree(proved.place / it, Path(place) / "crates" / it / "out/rlib")
+        listed = [f"{it}: {' '.join(needs[it])}\n" for it in needs if it in kept | {name}]
+        (Path(place) / "crates.txt").write_text("".join(listed))
+        shutil.copy(top / "HANDLES", place)
+        if proved:
+            shutil.copytree(self.source / "src", self.crate / "src")  # rt reads no crate without one
+            self.stamp(place, kept)
+
+    def stamp(self, place, names):
+        """Marks the libraries as built of what stands beside them, as `rt check` marks its own: `rt ci` has just made them."""
+        sys.path.insert(0, str(Path(shutil.which("rt")).resolve().parent))
+        import rtlib  # of the toolchain
+
+        for it in rtlib.crates_below(str(place)):
+            if it.name in names:
+                Path(it.folder, "out/rlib/stamp").write_text(it.stamp())
+
+    def checked(self, hunks):
+        """What the check says of each function, and the errors in the files below proofs/; nothing where the prover wasn't reached."""
+        kept = self.crate / "out"
+        for part in ("src", "specs", "proofs"):
+            shutil.rmtree(self.crate / part, ignore_errors=True)
+            if (self.source / part).is_dir():
+                shutil.copytree(self.source / part, self.crate / part)
+        if self.checks == 0 and (self.source / "out/incremental").is_dir():
+            shutil.copytree(self.source / "out/incremental", kept / "incremental")
+        for file in {it.file for it in hunks}:
+            text = (self.crate / file).read_text()
+            (self.crate / file).write_text(placed(text, [it for it in hunks if it.file == file]))
+        self.checks += 1
+        ran = subprocess.run(["rt", "check", "--jobs", str(self.jobs)], cwd=self.crate, capture_output=True, text=True)
+        self.text = ran.stdout + ran.stderr
+        reached = REACHED.search(self.text)
+        return (dict(SAID.findall(self.text)), ERRORS.findall(self.text)) if reached else ({}, [])
 
 
-def place(crate, changes):
-    """The function whose body the edit changes: its module, the words of its impl block and its name."""
-    for path, old, _ in changes:
-        text = (crate / path).read_text()
-        if text.count(old) != 1:
-            raise ValueError(f"an old line stands {text.count(old)} times in {path}")
-        at = text.index(old) + len(old)
-        function, impl = last_before(FUNCTION, text, at), last_before(IMPL, text, at)
-        if old.startswith("use ") or not function:
+def is_part(it, path):
+    """Whether the prover speaks of the function of this path, or of a closure in it."""
+    words, parts = [word for word in it.split("::") if word != "fn"], path.split("::")
+    return it == path or words[: len(parts)] == parts and len(words) > len(parts)
+
+
+def outcome(path, cycle, said, errors):
+    """'goal' or 'proof file', as the function fails of its own; 'names' where its proof only misses a name; 'proved'; or None."""
+    seen = []
+    for it, line in said.items():
+        if not is_part(it, path):
             continue
-        words = impl.groups() if impl and "\n}\n" not in text[impl.start() : function.start()] else ()
-        return Path(path).stem, tuple(it for it in words if it), function[1]
-    raise ValueError("it changes no function")
+        *folder, name = it.split("::")[1:]
+        own = ["/".join([*folder, name]), "/".join([*folder, f"+{name}"])]
+        texts = [text for file, text in errors if file.rpartition("/")[0] in own or cycle and f"/+{cycle}/" in f"/{file}"]
+        if GOAL in line:
+            seen.append("goal")
+        elif texts and not line.startswith("proved"):
+            seen.append("names" if all(VANISHED.search(text) for text in texts) else "proof file")
+        else:
+            seen.append("proved" if line.startswith("proved") else None)
+    order = [*REFUSED, "names", None]
+    return next((it for it in order if it in seen), "proved" if seen and path in said else None)
 
 
-def batches(edits):
-    """The edits in as few batches as will do: in each, one of a function, and no two of the same line of a file."""
-    made = []
-    for name, changes, at in edits:
-        lines = {(path, old) for path, old, _ in changes}
-        batch = next((it for it in made if at not in it["places"] and not lines & it["lines"]), None)
-        if batch is None:
-            batch = {"edits": [], "places": set(), "lines": set()}
-            made.append(batch)
-        batch["edits"].append((name, changes, at))
-        batch["places"].add(at)
-        batch["lines"] |= lines
-    return [it["edits"] for it in made]
+class Judge:
+    """The edits of one crate, and what is known of them."""
+
+    def __init__(self, room, say, only, bad):
+        self.room, self.say, self.bad = room, say, bad
+        self.functions = functions(room.source)
+        self.edits = edits_of(room.source, self.functions, bad, only)
+        self.reached = reach(room.source, self.functions)
+        self.verdicts, self.spoiled, self.goals = {}, set(), {}
+
+    def clash(self, one, two, is_strict):
+        """Whether two edits may not stand in one check."""
+        cycles = {it.cycle for it in one.functions} & {it.cycle for it in two.functions} - {""}
+        lines = any(a.file == b.file and a.start <= b.end and b.start <= a.end for a in one.hunks for b in two.hunks)
+        calls = is_strict and any(
+            a in self.reached.get(b, ()) or b in self.reached.get(a, ()) for a in one.functions for b in two.functions
+        )
+        return bool(one.functions & two.functions or cycles) or lines or calls
+
+    def batches(self, edits, is_strict):
+        """The edits in few batches in which none bears on another."""
+        made = []
+        for edit in edits:
+            for batch in made:
+                if not any(self.clash(edit, it, is_strict) for it in batch):
+                    batch.append(edit)
+                    break
+            else:
+                made.append([edit])
+        return made
+
+    def control(self, batch):
+        """A function that no edit of the batch changes, and that calls none that one changes, with a body that means the same."""
+        changed = set().union(*(it.functions for it in batch))
+        fits = [it for it in self.functions if it not in changed | self.spoiled and not self.reached.get(it, set()) & changed]
+        fits = [it for it in fits if it.name and not it.cycle and not it.name.isupper()]
+        fits = [it for it in fits if "tests" not in it.modules]  # a check doesn't prove them
+        apart = [it for it in fits if not any(it.holds(h) for edit in batch for h in edit.hunks)]
+        return min(apart, key=lambda it: (self.hides_calls(it), bool(self.reached.get(it)), it.end - it.body), default=None)
+
+    def hides_calls(self, function):
+        """Whether its body may call a method of a trait that it doesn't name, which an edit of the batch may change."""
+        return bool(UNSEEN.search((self.room.source / function.file).read_text()[function.body : function.end]))
+
+    def with_control(self, batch):
+        """The batch with its control. Where all that could be one are changed, the edits of one function wait."""
+        control = self.control(batch)
+        if control or len(batch) == 1:
+            return batch, [], control
+        leaves = [it for it in batch if not any(self.reached.get(f) or f.cycle for f in it.functions)]
+        leaves.sort(key=lambda it: any(self.hides_calls(f) for f in it.functions))
+        waiting = leaves[:1] or batch[len(batch) // 2 :]
+        batch = [it for it in batch if it not in waiting]
+        return batch, waiting, self.control(batch)
+
+    def try_batch(self, batch, control):
+        """Checks the batch, settles what it decides, and returns the edits that are still open."""
+        neutral = Hunk(control.file, control.body, control.body, " let _ = 0u8;") if control else None
+        hunks = [it for edit in batch for it in edit.hunks]
+        said, errors = self.room.checked(hunks + ([neutral] if neutral else []))
+        name = self.room.crate.name
+        path = control and control.path(name, said)
+        sound = bool(path) and said[path].startswith("proved")
+        self.is_reached = bool(said)
+        if said and control and not sound:
+            self.spoiled.add(control)
+        ways = {edit: self.way(edit, said, errors) for edit in batch if sound}
+        self.goals |= {it.name: self.fallen(it, said, errors) for it in ways if ways[it] in REFUSED}
+        if sound:
+            self.unowned(batch, said, errors)
+        open_ones = [it for it in batch if ways.get(it) not in (*REFUSED, "proved")]
+        self.verdicts |= {it.name: "not refused" if ways[it] == "proved" else ways[it] for it in batch if it not in open_ones}
+        state = "proved" if sound else "NOT proved" if said else "unknown: the prover wasn't reached"
+        self.say(f"  {name}: batch of {len(batch)}: {len(batch) - len(open_ones)} judged, control {path or control and control.name} {state}")
+        return open_ones, ways, sound
+
+    def way(self, edit, said, errors):
+        """How the functions that the edit changes came out, the strongest first."""
+        paths = {it: it.paths(self.room.crate.name, said) or [""] for it in edit.functions}
+        seen = {outcome(path, it.cycle, said, errors) for it, found in paths.items() for path in found}
+        return next((it for it in (*REFUSED, "names", None) if it in seen), "proved")
+
+    def fallen(self, edit, said, errors):
+        """The goals of the edit's functions that weren't proved, and the declarations of their proofs that were refused."""
+        paths = {path for it in edit.functions for path in it.paths(self.room.crate.name, said)}
+        lines = [line for it, line in said.items() if any(is_part(it, path) for path in paths)]
+        own = {"/".join(path.split("::")[1:]).replace("/+", "/") for path in paths}
+        lines += [f"error: {text}" for file, text in errors if file.rpartition("/")[0].replace("/+", "/") in own]
+        return sorted({goal or declaration for line in lines for goal, declaration in NAMED.findall(line)})
+
+    def unowned(self, batch, said, errors):
+        """Tells what fails of its own with no edit in it."""
+        name = self.room.crate.name
+        changed = set().union(*(it.functions for it in batch))
+        cycles = {it.cycle for it in changed} - {""}
+        paths = {path: it for it in sorted(self.functions, key=lambda it: bool(it.name)) for path in it.paths(name, said)}
+        for path in said:
+            it = paths.get(path)
+            if "fn" in path.split("::") or it in changed or it and it.cycle in cycles:
+                continue
+            if outcome(path, it.cycle if it else "", said, errors) in REFUSED:
+                self.bad.append(f"{name}: {path} fails of its own, and no edit is in it: {said[path][:300]}")
+
+    def judge(self, each):
+        """Judges every edit."""
+        todo = [([it], 2) for it in self.edits] if each else [(it, 0) for it in self.batches(self.edits, False)]
+        while todo:
+            batch, tries = todo.pop(0)
+            batch, waiting, control = self.with_control(batch)
+            if waiting:
+                todo.append((waiting, tries))
+            open_ones, ways, sound = self.try_batch(batch, control)
+            if not open_ones:
+                continue
+            if len(batch) > 1 and not self.is_reached:  # one edit stops the check of all: halve
+                todo += [(batch[: len(batch) // 2], tries), (batch[len(batch) // 2 :], tries)]
+            elif not sound and self.is_reached and control and len(self.spoiled) < 6:
+                todo.append((batch, tries))
+            elif len(batch) > 1:
+                again = self.batches(open_ones, True) if tries == 0 else [[it] for it in open_ones]
+                todo += [(it, tries + 1) for it in again]
+            else:
+                self.give_up(open_ones[0], ways.get(open_ones[0]))
+
+    def give_up(self, edit, way):
+        name = f"{self.room.crate.name}/{edit.name}"
+        self.verdicts[edit.name] = "not judged"
+        why = "its proof misses a name that the edit took away, which says nothing of the contract" if way == "names" else "no failure of its own"
+        lines = [it for it in self.room.text.split("\n") if re.match(r"(\S+: )?error|\./proofs.*error|fn .*(no proof|not proved|could not)|rattle:|rt:", it)]
+        self.bad.append(f"{name}: NOT JUDGED: {why}: {' | '.join(lines[:4])[:600]}")
 
 
-def copied(room, name, keeps):
-    """A copy of the crate below room, with all crates of the repository beside it and, if wished, their kept work."""
-    top = Path(__file__).resolve().parent.parent
-    shutil.copytree(top / "crates", f"{room}/crates", ignore=None if keeps else shutil.ignore_patterns("out"))
-    shutil.copy(top / "crates.txt", room)
-    return Path(room) / "crates" / name
+class Proved:
+    """The libraries that a run of `rt ci` has proved so far, each copied as soon as the run's log says so."""
+
+    def __init__(self, log, place):
+        self.log, self.place, self.names, self.lost, self.is_over = Path(log), Path(place), set(), set(), False
+        threading.Thread(target=self.watch, daemon=True).start()
+
+    def watch(self):
+        while not self.is_over:
+            text = self.log.read_text(errors="replace") if self.log.exists() else ""
+            ended = re.search(r"^\d+ passed, \d+ failed$", text, re.M)
+            for name in re.findall(r"^rt: (\w+) proved$", text, re.M):
+                made = TOP / "crates" / name / "out/rlib"
+                if name not in self.names and made.is_dir():
+                    shutil.copytree(made, self.place / name)
+                    self.names.add(name)
+            self.lost |= set(re.findall(r"^rt: (\w+) NOT PROVED", text, re.M))
+            self.is_over = bool(ended)
+            time.sleep(2)
+
+    def has(self, names):
+        """Waits until these are proved; returns whether they are."""
+        while not names <= self.names and not names & self.lost and not self.is_over:
+            time.sleep(2)
+        return names <= self.names
 
 
-def checked(crate, edits):
-    """Checks the crate with these edits, takes them back, and returns what was said of each function."""
-    kept = {crate / path: (crate / path).read_text() for _, changes, _ in edits for path, _, _ in changes}
-    for _, changes, _ in edits:
-        for path, old, new in changes:
-            file = crate / path
-            file.write_text(file.read_text().replace(old, new))
-    ran = subprocess.run(["rt", "check"], cwd=crate, capture_output=True, text=True)
-    for file, text in kept.items():
-        file.write_text(text)
-    return ran.stdout + ran.stderr
+def judged(top, name, given, say, proved=None):
+    """Judges a crate's edits, and returns the verdicts, what is wrong, and the number of checks."""
+    bad = []
+    with tempfile.TemporaryDirectory(prefix="bodies-") as place:
+        room = Room(top, name, place, given.jobs, proved)
+        judge = Judge(room, say, given.only, bad)
+        judge.judge(given.each)
+        bad += [f"{name}/{it}: NOT REFUSED" for it, way in judge.verdicts.items() if way == "not refused"]
+        if given.goals:
+            say("\n".join(f"  {name}/{it}: falls at {', '.join(judge.goals[it])}" for it in sorted(judge.goals)))
+        return judge.verdicts, bad, room.checks
 
 
-def is_refused(said, at):
-    """Whether the function was found and not proved."""
-    module, words, name = at
-    for path, verdict in said:
-        parts = path.split("::")
-        if parts[-1].split("+")[0] != name or module not in parts:
-            continue
-        if not words or any(word in parts[-2] for word in words):
-            if verdict != "proved":
-                return True
-    return False
+def report(name, given, proved):
+    """Judges a crate, says what came out, and returns whether all is well."""
+    if proved and not proved.has(below(name, needs_of(TOP))):
+        print(f"{name}: not judged: what it stands on isn't proved", flush=True)
+        return False
+    began = time.monotonic()
+    verdicts, bad, checks = judged(TOP, name, given, lambda text: print(text, flush=True), proved)
+    ways = [*verdicts.values()]
+    counts = f"{ways.count('goal')} at a goal, {ways.count('proof file')} in a proof file"
+    bad.append(
+        f"{name}: {len(ways)} wrong bodies: refused {counts}; {ways.count('not refused')} not refused, "
+        f"{ways.count('not judged')} not judged; {checks} checks, {time.monotonic() - began:.0f} seconds"
+    )
+    print("\n".join(bad), flush=True)
+    return bool(verdicts) and len(bad) == 1
 
 
-def tried(crate, folder):
-    """Tries the wrong bodies of the folder, and returns how many they are and what is wrong with them."""
-    edits, bad = [], []
-    for file in sorted((crate / folder).glob("*.edit")):
-        changes = pairs(file.read_text())
-        try:
-            edits.append((file.stem, changes, place(crate, changes)))
-        except ValueError as error:
-            bad.append(f"{file.stem}: cannot be applied: {error}")
-    for batch in batches(edits):
-        text = checked(crate, batch)
-        said = PROVED.findall(text)
-        if "logic=not-proved" not in text:
-            bad.append(f"a batch of {len(batch)} did not reach the prover: {text.strip()[-300:]}")
-            continue
-        here = [f"{edit}: not refused at {at}" for edit, _, at in batch if not is_refused(said, at)]
-        bad += here
-        print("\n".join([*here, f"{len(batch)} wrong bodies tried, {len(here)} not refused"]), flush=True)
-    return len(edits), bad
+def judge_all(given):
+    """Judges the crates, the lowest first; returns whether all is well."""
+    needs = needs_of(TOP)
+    names = sorted(given.crates, key=lambda it: len(below(it, needs)))
+    with tempfile.TemporaryDirectory(prefix="proved-") as place, ThreadPoolExecutor(given.lanes) as pool:
+        proved = Proved(given.beside, place) if given.beside else None
+        well = [*pool.map(lambda name: report(name, given, proved), names)]
+        if proved:
+            proved.is_over = True
+    used = resource.getrusage(resource.RUSAGE_CHILDREN)
+    print(f"wrong bodies: {used.ru_utime + used.ru_stime:.0f} processor seconds, {well.count(False)} of {len(well)} crates not well")
+    return bool(well) and all(well)
+
+
+def apply_all():
+    """Says whether each edit of each crate can be placed."""
+    bad, count = [], 0
+    for crate in sorted((TOP / "crates").iterdir()):
+        count += len(edits_of(crate, functions(crate), bad))
+    print("\n".join([*bad, f"{count} wrong bodies can be placed, {len(bad)} can't"]))
+    return not bad
 
 
 def main():
-    words = argparse.ArgumentParser(description=__doc__.split("\n")[0])
-    words.add_argument("crate")
-    words.add_argument("folder", nargs="?", default="wrong-bodies")
-    words.add_argument("--kept", action="store_true")
+    words = argparse.ArgumentParser(description=__doc__, formatter_class=argparse.RawDescriptionHelpFormatter)
+    words.add_argument("crates", nargs="*")
+    words.add_argument("--only", default="", help="the edits whose names hold this word alone")
+    words.add_argument("--beside", metavar="LOG", default="")
+    words.add_argument("--jobs", type=int, default=2)
+    words.add_argument("--lanes", type=int, default=1, help="how many crates are judged at a time")
+    for flag in ("apply", "each", "goals", "test"):
+        words.add_argument(f"--{flag}", action="store_true")
     given = words.parse_args()
-    with tempfile.TemporaryDirectory(prefix="bodies-") as room:
-        count, bad = tried(copied(room, given.crate, given.kept), given.folder)
-    print("\n".join([*bad, f"{count} wrong bodies of {given.crate}, {len(bad)} not refused"]))
-    return 1 if bad or not count else 0
+    if given.apply:
+        return 0 if apply_all() else 1
+    if given.test:
+        from bodies_test import tested
+
+        return 0 if tested(given) else 1
+    return 0 if judge_all(given) else 1
 
 
 if __name__ == "__main__":

@@ -4,6 +4,7 @@
 million.script   a million leaves under one node, numbered and shown
 replace.script   ten thousand replacements of one leaf by one of the same length, in a node of a hundred
                  thousand children; base.script is the same without the replacements
+runs.script      the same replacements, each served by a `run` of its own
 mixed.script     a hundred thousand searches and ten thousand replacements, in a tree of a hundred thousand nodes
 """
 import random
@@ -28,12 +29,20 @@ def base(out):
     out.write("run\n")
 
 
-def replace(out):
+def replacements(out, after_each):
     wide(out)
     for i in range(10_000):
         at = i * 10 % 100_000
-        out.write(f"leaf 6 x{i % 10}\nreplace - {at} {at + 1} 1\n")
+        out.write(f"leaf 6 x{i % 10}\nreplace - {at} {at + 1} 1\n{after_each}")
+
+
+def replace(out):
+    replacements(out, "")
     out.write("run\n")
+
+
+def runs(out):
+    replacements(out, "run\n")
 
 
 def mixed(out):
@@ -53,7 +62,7 @@ def mixed(out):
 
 def main():
     folder = Path(sys.argv[1])
-    for write in (million, base, replace, mixed):
+    for write in (million, base, replace, runs, mixed):
         with (folder / f"{write.__name__}.script").open("w") as out:
             write(out)
 

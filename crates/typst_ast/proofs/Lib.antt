@@ -1,8 +1,7 @@
 pub mod Behind
-pub mod BoundNames
 pub mod Ends
 pub mod ExprLists
-pub mod ItemLists
+pub mod ItemViews
 pub mod NamesByRule
 pub mod OperatorBehind
 pub mod PathParts

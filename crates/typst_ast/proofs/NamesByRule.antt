@@ -1,10 +1,11 @@
 -- The names that patterns bind meet the rule, and no others do.
 use Rattle.std.proofs.Common.{◌≡◌, ◌≤◌, ℕ, zero, suc, List, Option, Some, None, sym, ◌∙◌, arith}
-use Rattle.typst_ast.proofs.BoundNames.{names_rule, pattern_same}
 use Rattle.typst_ast.specs.BindingRule.{ByRule, MeetsRule}
-use Rattle.typst_ast.specs.Bindings.{count_in, destructuring_names, destructuring_names_by, let_names, let_names_by, names_bound, pattern_names, pattern_names_by}
+use Rattle.typst_ast.specs.Bindings.{destructuring_names, destructuring_names_by, let_names, let_names_by, pattern_names, pattern_names_by}
 use Rattle.typst_ast.specs.declared.lets.LetBindingKind.{LetBindingKind}
 use Rattle.typst_ast.specs.declared.pattern.Pattern.{Pattern}
+use Rattle.typst_atoms.proofs.BoundNames.{names_rule, pattern_same}
+use Rattle.typst_atoms.specs.Bindings.{count_in, names_bound}
 use Rattle.typst_node.specs.Tree.{Tree}
 
 -- names that meet the rule are the same for the patterns with at most n nodes

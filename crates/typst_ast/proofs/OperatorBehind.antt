@@ -82,7 +82,7 @@ first_operator-hit n t ts h =
     ∙ ap (λ v. operator_of (n || v) (Some t)) (negated-hit t ts h)
     ∙ ap (λ v. operator_of v (Some t)) (or_false n)
 
--- so behind what the flag tells of, it finds the first operator
+-- so after what the flag tells of, it finds the first operator
 behind_is_first : (n : Bool) (ts : List Tree) → binary_operator_behind n ts ≡ first_operator n ts
 behind_is_first n [] = refl
 behind_is_first n (t ∷ ts) =

@@ -13,14 +13,14 @@ last_by : (v : Bool) (o : Option (List ℕ)) (x : List ℕ) (ps : List (List ℕ
 last_by true o x ps = refl
 last_by false o x ps = refl
 
--- the part before the first slash, and what stands behind it
+-- the part before the first slash, and what stands after it
 pub last_before_slash : (o : Option (List ℕ)) (path front back : List ℕ) → position_or_len (λ b. b == 47) path < length path → front ≡ before_first (λ b. b == 47) path → back ≡ after_first (λ b. b == 47) path
     → last_or (cond (is_part front) (Some front) o) (path_parts back) ≡ last_or o (path_parts path)
 last_before_slash o path front back h f b =
     last_by (is_part front) o front (path_parts back)
     ∙ sym (ap (λ (ps : List (List ℕ)). last_or o (filter is_part ps)) (slice_split_first (λ b. b == 47) path 0 h ∙ (λ i. sym f i ∷ slice_split (λ b. b == 47) (sym b i))))
 
--- the part behind the last slash
+-- the part after the last slash
 pub last_without_slash : (o : Option (List ℕ)) (path : List ℕ) → position_or_len (λ b. b == 47) path ≡ length path → cond (is_part path) (Some path) o ≡ last_or o (path_parts path)
 last_without_slash o path h =
     last_by (is_part path) o path []

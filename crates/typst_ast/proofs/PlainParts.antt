@@ -7,11 +7,12 @@ use Rattle.std.specs.Str.Parse.{digits_value}
 use Rattle.typst_ast.specs.Alike.{AreAlike, AreOfOneKind, IsAlike, plain_arg}
 use Rattle.typst_ast.specs.EnumNumbers.{HasNumber, IsFirstNumber, marker_digits}
 use Rattle.typst_ast.specs.Headings.{heading_depth}
-use Rattle.typst_ast.specs.Kinds.{is_arg_kind}
-use Rattle.typst_ast.specs.Lists.{all_but_last, before_last, is_of_kind, of_class, third_of}
-use Rattle.typst_ast.specs.MathArgs.{args_in, ends_in_semicolon}
+use Rattle.typst_ast.specs.Lists.{all_but_last, before_last, of_class, third_of}
 use Rattle.typst_atoms.specs.Children.{all_children, all_in, behind_first, children_in, first_child, first_of, last_child, last_of, second_of}
+use Rattle.typst_atoms.specs.Classes.{is_arg_kind}
 use Rattle.typst_atoms.specs.Kinds.{is_kind}
+use Rattle.typst_atoms.specs.MathItems.{args_in, ends_in_semicolon}
+use Rattle.typst_atoms.specs.Missing.{is_of_kind}
 use Rattle.typst_atoms.specs.Texts.{text_in}
 use Rattle.typst_base.specs.declared.kind.SyntaxKind.{SyntaxKind}
 use Rattle.typst_base.specs.declared.kind.SyntaxKind.TheVariants as kinds

@@ -1,22 +1,23 @@
 -- What typed views read of a node, they read of its plain tree: each definition commutes with taking spans and bounds away.
-use Rattle.std.proofs.Common.{◌≡◌, ◌==◌, ℕ, zero, suc, Bool, true, false, not, ◌&&◌, ◌||◌, cond, unwrap_or, List, [], ◌∷◌, ◌++◌, map, Option, Some, None, option_map, refl, sym, ap, ◌∙◌}
+use Rattle.std.proofs.Common.{◌≡◌, ◌==◌, ℕ, zero, suc, Bool, true, false, ◌&&◌, ◌||◌, cond, unwrap_or, List, [], ◌∷◌, ◌++◌, map, Option, Some, None, option_map, refl, sym, ap, ◌∙◌}
 use Rattle.std.proofs.lemmas.List.{map-append}
 use Rattle.std.specs.List.{flat_map}
 use Rattle.std.specs.Option.{option_to_list}
-use Rattle.typst_ast.proofs.ExprLists.{exprs_in_markup}
-use Rattle.typst_ast.proofs.ItemLists.{items_in_content}
 use Rattle.typst_ast.proofs.OperatorBehind.{behind_nothing_is_in, binary_operator_behind}
-use Rattle.typst_ast.proofs.PlainParts.{all_plain, args_alike, before_last_plain, behind_first_plain, children_alike, children_plain, cond_lists, depth_alike, first_number_alike, first_of_alike, first_plain, is_of_kind_alike, kind_alike, kind_or_plain, kind_plain, kinds_alike, last_plain, lengths_alike, option_list_plain, text_alike, text_in_plain, texts_alike}
+use Rattle.typst_ast.proofs.PlainParts.{all_in_plain, all_plain, args_alike, before_last_plain, behind_first_plain, children_alike, children_plain, cond_lists, depth_alike, first_number_alike, first_of_alike, first_plain, is_of_kind_alike, kind_alike, kind_or_plain, kind_plain, kinds_alike, last_plain, lengths_alike, option_list_plain, text_alike, text_in_plain, texts_alike}
 use Rattle.typst_ast.proofs.PlainPicks.{all_picked, block_alike, deparenthesized_alike, fenced_picked, first_picked, lang_picked, last_before_end_picked, last_picked, name_picked, next_picked, pattern_kind_picked, picked_before, picked_behind, second_picked, third_picked, trimmed_alike, value_picked}
 use Rattle.typst_ast.specs.Alike.{AreAlike, IsAlike, PicksSameKinds, ReadsAlike}
-use Rattle.typst_ast.specs.Bindings.{count_in, names_bound, names_of_item, names_of_pattern, names_within}
-use Rattle.typst_ast.specs.Exprs.{exprs_in, is_expr_or_space_kind, kept, markup_exprs}
-use Rattle.typst_ast.specs.Kinds.{is_arg_kind, is_destructuring_item_kind, is_expr_kind, is_pattern_kind}
+use Rattle.typst_ast.specs.Exprs.{is_expr_or_space_kind, markup_exprs}
 use Rattle.typst_ast.specs.Lists.{before_last}
-use Rattle.typst_ast.specs.MathArgs.{content_items, is_behind_hash, is_item, item_alone, items_in}
 use Rattle.typst_ast.specs.Operators.{binary_operator_at, binary_operator_in, unary_operator_in}
-use Rattle.typst_atoms.specs.Children.{all_children, behind_first, children_in, first_child, last_child}
+use Rattle.typst_atoms.proofs.ItemLists.{items_in_content}
+use Rattle.typst_atoms.proofs.KeptLists.{kept_in_markup}
+use Rattle.typst_atoms.specs.Bindings.{count_in, names_bound, names_of_item, names_of_pattern, names_within}
+use Rattle.typst_atoms.specs.Children.{all_children, all_in, behind_first, children_in, first_child, last_child}
+use Rattle.typst_atoms.specs.Classes.{is_arg_kind, is_destructuring_item_kind, is_expr_kind, is_pattern_kind}
+use Rattle.typst_atoms.specs.KeptNodes.{kept, kept_in, markup_nodes}
 use Rattle.typst_atoms.specs.Kinds.{is_kind}
+use Rattle.typst_atoms.specs.MathItems.{content_items, is_behind_hash, is_item, item_alone, items_in}
 use Rattle.typst_atoms.specs.Texts.{text_in}
 use Rattle.typst_atoms.specs.Trims.{without_leading}
 use Rattle.typst_atoms.specs.UnaryOperators.{unary_operator_of}
@@ -31,18 +32,21 @@ use Rattle.typst_node.specs.Views.{kind_or, node_kind}
 -- the expressions of markup, and the items of arguments in math
 kept_plain : (b : Bool) (t : Tree) → kept b (plain t) ≡ map plain (kept b t)
 kept_plain b t =
-    ap (λ (k : SyntaxKind). cond (is_expr_or_space_kind k && not (b && is_kind kinds.Space k)) (plain t ∷ []) []) (kind_plain t)
-    ∙ cond_lists (is_expr_or_space_kind (node_kind t) && not (b && is_kind kinds.Space (node_kind t))) (t ∷ []) []
+    ap (λ (k : SyntaxKind). cond (b && is_kind kinds.Space k) [] (plain t ∷ [])) (kind_plain t)
+    ∙ cond_lists (b && is_kind kinds.Space (node_kind t)) [] (t ∷ [])
 
-exprs_plain : (d b : Bool) (ts : List Tree) → exprs_in d b (map plain ts) ≡ map plain (exprs_in d b ts)
-exprs_plain d b [] = refl
-exprs_plain d b (t ∷ ts) =
-    (λ i. kept_plain b t i ++ exprs_in d (d && is_stmt_kind (kind_plain t i)) (map plain ts))
-    ∙ ap (λ (us : List Tree). map plain (kept b t) ++ us) (exprs_plain d (d && is_stmt_kind (node_kind t)) ts)
-    ∙ sym (map-append plain (kept b t) (exprs_in d (d && is_stmt_kind (node_kind t)) ts))
+kept_in_plain : (d b : Bool) (ts : List Tree) → kept_in d b (map plain ts) ≡ map plain (kept_in d b ts)
+kept_in_plain d b [] = refl
+kept_in_plain d b (t ∷ ts) =
+    (λ i. kept_plain b t i ++ kept_in d (d && is_stmt_kind (kind_plain t i)) (map plain ts))
+    ∙ ap (λ (us : List Tree). map plain (kept b t) ++ us) (kept_in_plain d (d && is_stmt_kind (node_kind t)) ts)
+    ∙ sym (map-append plain (kept b t) (kept_in d (d && is_stmt_kind (node_kind t)) ts))
+
+markup_nodes_plain : (ts : List Tree) → markup_nodes (map plain ts) ≡ map plain (markup_nodes ts)
+markup_nodes_plain ts = sym (kept_in_markup (map plain ts)) ∙ kept_in_plain true false ts ∙ ap (map plain) (kept_in_markup ts)
 
 markup_plain : (ts : List Tree) → markup_exprs (map plain ts) ≡ map plain (markup_exprs ts)
-markup_plain ts = sym (exprs_in_markup (map plain ts)) ∙ exprs_plain true false ts ∙ ap (map plain) (exprs_in_markup ts)
+markup_plain ts = ap (all_in is_expr_or_space_kind) (markup_nodes_plain ts) ∙ all_in_plain is_expr_or_space_kind (markup_nodes ts)
 
 item_alone_plain : (b : Bool) (t : Tree) → item_alone b (plain t) ≡ map plain (item_alone b t)
 item_alone_plain b t =

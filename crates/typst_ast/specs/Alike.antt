@@ -1,18 +1,19 @@
 -- What typed views answer of nodes that are alike: nodes whose plain trees are equal.
 use Rattle.std.specs.Prelude.{ℕ, ◌≡◌, ◌↔◌, Bool, length, List, Option, Some, map, option_map}
 use Rattle.typst_ast.specs.BareNames.{import_kind, import_source}
-use Rattle.typst_ast.specs.Bindings.{names_bound, names_of_items}
 use Rattle.typst_ast.specs.Closures.{closure_name}
 use Rattle.typst_ast.specs.EnumNumbers.{IsFirstNumber}
 use Rattle.typst_ast.specs.Equations.{is_block_equation, is_deparenthesized}
 use Rattle.typst_ast.specs.Exprs.{markup_exprs}
 use Rattle.typst_ast.specs.Headings.{heading_depth}
 use Rattle.typst_ast.specs.LetBindings.{let_pattern, let_pattern_kind, let_value}
-use Rattle.typst_ast.specs.Lists.{all_but_last, before_last, is_of_kind, last_significant, of_class, third_of}
-use Rattle.typst_ast.specs.MathArgs.{args_in, content_items}
+use Rattle.typst_ast.specs.Lists.{all_but_last, before_last, last_significant, of_class, third_of}
 use Rattle.typst_ast.specs.Operators.{binary_operator_in, unary_operator_in}
 use Rattle.typst_ast.specs.Refs.{ref_target}
+use Rattle.typst_atoms.specs.Bindings.{names_bound, names_of_items}
 use Rattle.typst_atoms.specs.Children.{all_children, all_in, behind_first, children_in, first_child, first_of, last_child, last_of, second_child}
+use Rattle.typst_atoms.specs.MathItems.{args_in, content_items}
+use Rattle.typst_atoms.specs.Missing.{is_of_kind}
 use Rattle.typst_atoms.specs.Raws.{is_fenced, lang_node, trimmed_chars}
 use Rattle.typst_atoms.specs.Texts.{text_in}
 use Rattle.typst_base.specs.declared.kind.SyntaxKind.{SyntaxKind}
@@ -33,7 +34,7 @@ AreAlike ts us = map plain ts ≡ map plain us
 abbrev pub AreOfOneKind : Option Tree → Option Tree → Type 0
 AreOfOneKind a b = (blank : SyntaxKind) → kind_or blank a ≡ kind_or blank b
 
--- the first child of the second class behind the first one of the first class
+-- the first child of the second class after the first one of the first class
 abbrev pub first_behind : Class → Class → Option Tree → Option Tree
 first_behind c d node = first_of (all_in d (behind_first c (children_in node)))
 
@@ -41,7 +42,7 @@ first_behind c d node = first_of (all_in d (behind_first c (children_in node)))
 abbrev pub last_before : Class → Class → Option Tree → Option Tree
 last_before c d node = last_of (all_in d (before_last c (children_in node)))
 
--- the child directly behind the first one of the first class, if its kind lies in the second class
+-- the child directly after the first one of the first class, if its kind lies in the second class
 abbrev pub next_behind : Class → Class → Option Tree → Option Tree
 next_behind c d node = of_class d (first_of (behind_first c (children_in node)))
 
@@ -69,7 +70,7 @@ pub record PicksSameKinds (a b : Option Tree) : Type 0 where
   pub items : map node_kind (content_items (children_in a)) ≡ map node_kind (content_items (children_in b))
 
 -- All that accessors are made of is alike for two nodes: their texts and kinds, the children that they pick, and what lies
--- before and behind these.
+-- before and after these.
 pub record ReadsAlike (a b : Option Tree) : Type 0 where
   pub text : text_in a ≡ text_in b
   pub kind : (blank : _) → kind_or blank a ≡ kind_or blank b

@@ -2,11 +2,11 @@
 use Rattle.std.specs.Prelude.{ℕ, ◌≡◌, Bool, true, false, MatchBool, List, Option, Result, Ok, Err, MatchOption, MatchResult, String, string_bytes}
 use Rattle.std.specs.declared.alloc.AllocError.{AllocError}
 use Rattle.std.specs.declared.alloc.Global.{Global}
-use Rattle.typst_ast.specs.Kinds.{is_expr_kind}
 use Rattle.typst_ast.specs.Paths.{IsFileStemOf}
 use Rattle.typst_ast.specs.declared.bare_names.BareImportError.{BareImportError}
 use Rattle.typst_ast.specs.declared.bare_names.BareImportError.TheVariants.{PathInvalid, PackageInvalid}
 use Rattle.typst_atoms.specs.Children.{first_child}
+use Rattle.typst_atoms.specs.Classes.{is_expr_kind}
 use Rattle.typst_atoms.specs.Strings.{begins_with, IsStringValue}
 use Rattle.typst_base.specs.declared.kind.SyntaxKind.{SyntaxKind}
 use Rattle.typst_base.specs.declared.kind.SyntaxKind.TheVariants as kinds

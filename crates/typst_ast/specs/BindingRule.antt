@@ -1,6 +1,6 @@
 -- The names that patterns bind, by the rule alone.
 use Rattle.std.specs.Prelude.{List, Option, ◌≡◌}
-use Rattle.typst_ast.specs.Bindings.{names_of_pattern}
+use Rattle.typst_atoms.specs.Bindings.{names_of_pattern}
 use Rattle.typst_node.specs.Tree.{Tree}
 
 -- `names` says of each pattern what the rule says of it, where `names` says what the patterns below it bind

@@ -1,8 +1,9 @@
 -- What an equation and the contents of one look like.
 use Rattle.std.specs.Prelude.{Bool, false, ◌&&◌, List, [], ◌∷◌}
-use Rattle.typst_ast.specs.Lists.{all_but_last, is_of_kind}
+use Rattle.typst_ast.specs.Lists.{all_but_last}
 use Rattle.typst_atoms.specs.Children.{second_of, last_of}
 use Rattle.typst_atoms.specs.Kinds.{is_kind}
+use Rattle.typst_atoms.specs.Missing.{is_of_kind}
 use Rattle.typst_base.specs.declared.kind.SyntaxKind.TheVariants as kinds
 use Rattle.typst_node.specs.Tree.{Tree}
 use Rattle.typst_node.specs.Views.{node_kind}

@@ -1,11 +1,11 @@
 -- What a let binding binds, and to what.
 use Rattle.std.specs.Prelude.{Bool, true, false, cond, ◌||◌, Option, ◌≡◌}
 use Rattle.typst_ast.specs.Closures.{closure_name}
-use Rattle.typst_ast.specs.Kinds.{is_expr_kind, is_pattern_kind}
 use Rattle.typst_ast.specs.Pattern.{IsPatternOf}
 use Rattle.typst_ast.specs.declared.lets.LetBindingKind.{LetBindingKind}
 use Rattle.typst_ast.specs.declared.lets.LetBindingKind.TheVariants.{Normal, Closure}
 use Rattle.typst_atoms.specs.Children.{first_child, second_child}
+use Rattle.typst_atoms.specs.Classes.{is_expr_kind, is_pattern_kind}
 use Rattle.typst_atoms.specs.Kinds.{is_kind}
 use Rattle.typst_atoms.specs.View.{node_of as atom_node}
 use Rattle.typst_base.specs.declared.kind.SyntaxKind.{SyntaxKind}

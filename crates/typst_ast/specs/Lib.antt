@@ -12,7 +12,6 @@ pub mod EqualViews
 pub mod Equations
 pub mod Expr
 pub mod Exprs
-pub mod HashEnds
 pub mod Headings
 pub mod Imports
 pub mod Kinds
@@ -26,5 +25,4 @@ pub mod Paths
 pub mod Pattern
 pub mod Refs
 pub mod Roots
-pub mod StmtEnds
 pub mod View

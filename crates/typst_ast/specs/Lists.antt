@@ -1,10 +1,8 @@
 -- Parts of lists of nodes.
-use Rattle.std.specs.Prelude.{Bool, false, not, cond, List, [], ◌∷◌, Option, Some, None}
+use Rattle.std.specs.Prelude.{not, cond, List, [], ◌∷◌, Option, Some, None}
 use Rattle.std.specs.List.{list_any}
 use Rattle.typst_atoms.specs.Children.{all_in, second_of, last_of}
-use Rattle.typst_atoms.specs.Kinds.{is_kind}
 use Rattle.typst_base.specs.KindClasses.{is_trivia_kind}
-use Rattle.typst_base.specs.declared.kind.SyntaxKind.{SyntaxKind}
 use Rattle.typst_node.specs.Tree.{Tree}
 use Rattle.typst_node.specs.Views.{Class, node_kind}
 
@@ -18,11 +16,6 @@ abbrev pub all_but_last : {A : Type 0} → List A → List A
 all_but_last [] = []
 all_but_last (x ∷ []) = []
 all_but_last (x ∷ (y ∷ xs)) = x ∷ all_but_last (y ∷ xs)
-
--- there is a node, and it is of the kind
-abbrev pub is_of_kind : SyntaxKind → Option Tree → Bool
-is_of_kind k (Some t) = is_kind k (node_kind t)
-is_of_kind k None = false
 
 -- the node, if there is one and its kind lies in the class
 abbrev pub of_class : Class → Option Tree → Option Tree

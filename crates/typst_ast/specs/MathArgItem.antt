@@ -1,10 +1,10 @@
 -- What a clause sees of a `MathArgItem` and of a `MathArg`.
 use Rattle.std.specs.Prelude.{Bool, true, ◌==◌, Option, Some}
 use Rattle.typst_ast.specs.Arg.{arg_node, arg_kind}
-use Rattle.typst_ast.specs.Kinds.{is_arg_kind}
 use Rattle.typst_ast.specs.declared.math_args.MathArg.{MathArg}
 use Rattle.typst_ast.specs.declared.math_args.MathArgItem.{MathArgItem}
 use Rattle.typst_ast.specs.declared.math_args.MathArgItem.TheVariants.{Arg, Space, Comma, Semicolon, LeftParen, RightParen}
+use Rattle.typst_atoms.specs.Classes.{is_arg_kind}
 use Rattle.typst_atoms.specs.View.{node_of as atom_node}
 use Rattle.typst_base.specs.declared.kind.SyntaxKind.{SyntaxKind}
 use Rattle.typst_base.specs.declared.kind.SyntaxKind.TheVariants as kinds

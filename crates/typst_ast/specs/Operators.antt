@@ -35,7 +35,7 @@ is_not t = is_kind kinds.Not (node_kind t)
 abbrev pub is_negated : List Tree → Bool
 is_negated ts = list_any is_not (before_first is_binary_operator ts)
 
--- that of the first node that is a binary operator, else `+`; an `in` behind a `not` is `not in`
+-- that of the first node that is a binary operator, else `+`; an `in` after a `not` is `not in`
 abbrev pub binary_operator_in : List Tree → BinOp
 binary_operator_in ts =
     unwrap_or (option_and_then (λ t. binary_operator_at (is_negated ts) (node_kind t)) (find is_binary_operator ts)) Add

@@ -1,5 +1,5 @@
 //! An argument of a function call.
-ghost use Rattle.typst_ast.specs.Kinds.{is_arg_kind};
+ghost use Rattle.typst_atoms.specs.Classes.{is_arg_kind};
 
 use crate::expr::Expr;
 use crate::views::{Named, Spread};

@@ -21,7 +21,7 @@ pub enum BareImportError {
     Dynamic,
     /// The path has no file stem, or the name is no identifier.
     PathInvalid,
-    /// The text behind an `@` names no package.
+    /// The text after an `@` names no package.
     PackageInvalid,
 }
 

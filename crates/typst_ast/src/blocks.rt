@@ -1,15 +1,16 @@
 //! Code, and blocks of it.
 ghost use Rattle.std.specs.Prelude.{◌≡◌};
 ghost use Rattle.typst_ast.specs.Expr.{IsExprOf};
-ghost use Rattle.typst_ast.specs.Kinds.{is_expr_kind, is_pattern_kind};
 ghost use Rattle.typst_ast.specs.Pattern.{IsPatternOf};
 ghost use Rattle.typst_ast.specs.View.{node_of};
 ghost use Rattle.typst_atoms.specs.Children.{all_children, first_child};
+ghost use Rattle.typst_atoms.specs.Classes.{is_expr_kind, is_pattern_kind};
 ghost use Rattle.typst_atoms.specs.Items.{nodes_left};
 ghost use Rattle.typst_atoms.specs.Kinds.{is_kind};
 ghost use Rattle.typst_base.specs.declared.kind.SyntaxKind.TheVariants as kinds;
 
 use crate::expr::Expr;
+use crate::nodes::first_expr;
 use crate::pattern::Pattern;
 use crate::views::{Code, CodeBlock, Contextual, Parenthesized};
 use typst_atoms::{Items, cast_all, cast_first};
@@ -28,7 +29,7 @@ impl<'a> CodeBlock<'a> {
     pub fn body(self) -> Code<'a>
         ensures { node_of result ≡ first_child (is_kind kinds.Code) (node_of self.entry) }
     {
-        cast_first::<Code>(self.node())
+        cast_first(self.node())
     }
 }
 
@@ -37,14 +38,14 @@ impl<'a> Parenthesized<'a> {
     pub fn expr(self) -> Expr<'a>
         ensures { IsExprOf (first_child is_expr_kind (node_of self.entry)) result }
     {
-        cast_first::<Expr>(self.node())
+        first_expr(self.node())
     }
 
     /// The pattern in the parens, where they stand as a pattern.
     pub fn pattern(self) -> Pattern<'a>
         ensures { IsPatternOf (first_child is_pattern_kind (node_of self.entry)) result }
     {
-        cast_first::<Pattern>(self.node())
+        cast_first(self.node())
     }
 }
 
@@ -53,7 +54,6 @@ impl<'a> Contextual<'a> {
     pub fn body(self) -> Expr<'a>
         ensures { IsExprOf (first_child is_expr_kind (node_of self.entry)) result }
     {
-        let context = self.node();
-        cast_first(context)
+        first_expr(self.node())
     }
 }

@@ -1,18 +1,22 @@
 //! Calls of functions, and closures.
 ghost use Rattle.std.specs.Prelude.{◌≡◌};
 ghost use Rattle.typst_ast.specs.Expr.{IsExprOf};
-ghost use Rattle.typst_ast.specs.Kinds.{is_arg_kind, is_expr_kind, is_param_kind};
-ghost use Rattle.typst_ast.specs.Lists.{all_but_last, is_of_kind, last_significant};
+ghost use Rattle.typst_ast.specs.Kinds.{is_param_kind};
+ghost use Rattle.typst_ast.specs.Lists.{all_but_last, last_significant};
 ghost use Rattle.typst_ast.specs.Closures.{closure_name};
 ghost use Rattle.typst_ast.specs.View.{IsOptionalAtom, node_of};
 ghost use Rattle.typst_atoms.specs.Children.{all_children, children_in, first_child, last_child};
+ghost use Rattle.typst_atoms.specs.Classes.{is_arg_kind, is_expr_kind};
 ghost use Rattle.typst_atoms.specs.Items.{nodes_left};
 ghost use Rattle.typst_atoms.specs.Kinds.{is_kind};
+ghost use Rattle.typst_atoms.specs.Missing.{is_of_kind};
 ghost use Rattle.typst_base.specs.declared.kind.SyntaxKind.TheVariants as kinds;
 
 use crate::arg::Arg;
 use crate::expr::Expr;
-use crate::nodes::{all_but_last, first_ident, is_of_kind, last_significant};
+use crate::nodes::{
+    all_but_last, first_expr, first_ident, is_of_kind, last_expr, last_significant,
+};
 use crate::param::Param;
 use crate::views::{Args, Closure, FuncCall, Ident, Params};
 use typst_atoms::nodes::children;
@@ -24,14 +28,14 @@ impl<'a> FuncCall<'a> {
     pub fn callee(self) -> Expr<'a>
         ensures { IsExprOf (first_child is_expr_kind (node_of self.entry)) result }
     {
-        cast_first::<Expr>(self.node())
+        first_expr(self.node())
     }
 
     /// The arguments of the call.
     pub fn args(self) -> Args<'a>
         ensures { node_of result ≡ last_child (is_kind kinds.Args) (node_of self.entry) }
     {
-        cast_last::<Args>(self.node())
+        cast_last(self.node())
     }
 }
 
@@ -40,10 +44,10 @@ impl<'a> Args<'a> {
     pub fn items(self) -> Items<'a, Arg<'a>>
         ensures { nodes_left is_arg_kind result ≡ all_children is_arg_kind (node_of self.entry) }
     {
-        cast_all::<Arg>(self.node())
+        cast_all(self.node())
     }
 
-    /// Whether a comma stands behind the last argument: before the last child, trivia aside, a comma is last.
+    /// Whether a comma stands after the last argument: before the last child, trivia aside, a comma is last.
     pub fn trailing_comma(self) -> bool
         ensures { result
             ≡ is_of_kind kinds.Comma (last_significant (all_but_last (children_in (node_of self.entry)))) }
@@ -65,14 +69,14 @@ impl<'a> Closure<'a> {
     pub fn params(self) -> Params<'a>
         ensures { node_of result ≡ first_child (is_kind kinds.Params) (node_of self.entry) }
     {
-        cast_first::<Params>(self.node())
+        cast_first(self.node())
     }
 
     /// The closure's body.
     pub fn body(self) -> Expr<'a>
         ensures { IsExprOf (last_child is_expr_kind (node_of self.entry)) result }
     {
-        cast_last::<Expr>(self.node())
+        last_expr(self.node())
     }
 }
 
@@ -81,6 +85,6 @@ impl<'a> Params<'a> {
     pub fn children(self) -> Items<'a, Param<'a>>
         ensures { nodes_left is_param_kind result ≡ all_children is_param_kind (node_of self.entry) }
     {
-        cast_all::<Param>(self.node())
+        cast_all(self.node())
     }
 }

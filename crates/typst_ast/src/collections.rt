@@ -1,10 +1,11 @@
 //! Arrays, dictionaries and destructuring patterns, and what they hold.
 ghost use Rattle.std.specs.Prelude.{◌≡◌};
 ghost use Rattle.typst_ast.specs.Expr.{IsExprOf, IsOptionalExprOf};
-ghost use Rattle.typst_ast.specs.Kinds.{is_array_item_kind, is_destructuring_item_kind, is_dict_item_kind, is_expr_kind, is_pattern_kind};
+ghost use Rattle.typst_ast.specs.Kinds.{is_array_item_kind, is_dict_item_kind};
 ghost use Rattle.typst_ast.specs.Pattern.{IsPatternOf};
 ghost use Rattle.typst_ast.specs.View.{IsOptionalAtom, node_of};
 ghost use Rattle.typst_atoms.specs.Children.{all_children, first_child, last_child};
+ghost use Rattle.typst_atoms.specs.Classes.{is_destructuring_item_kind, is_expr_kind, is_pattern_kind};
 ghost use Rattle.typst_atoms.specs.Items.{nodes_left};
 ghost use Rattle.typst_atoms.specs.Kinds.{is_kind};
 ghost use Rattle.typst_atoms.specs.View.{node_of as atom_node};
@@ -14,6 +15,7 @@ use crate::array_item::ArrayItem;
 use crate::destructuring_item::DestructuringItem;
 use crate::dict_item::DictItem;
 use crate::expr::Expr;
+use crate::nodes::{first_expr, last_expr};
 use crate::pattern::Pattern;
 use crate::views::{Array, Destructuring, Dict, Ident, Keyed, Named, Spread};
 use typst_atoms::{Items, cast_all, cast_first, cast_last, try_cast_first};
@@ -23,7 +25,7 @@ impl<'a> Array<'a> {
     pub fn items(self) -> Items<'a, ArrayItem<'a>>
         ensures { nodes_left is_array_item_kind result ≡ all_children is_array_item_kind (node_of self.entry) }
     {
-        cast_all::<ArrayItem>(self.node())
+        cast_all(self.node())
     }
 }
 
@@ -32,7 +34,7 @@ impl<'a> Dict<'a> {
     pub fn items(self) -> Items<'a, DictItem<'a>>
         ensures { nodes_left is_dict_item_kind result ≡ all_children is_dict_item_kind (node_of self.entry) }
     {
-        cast_all::<DictItem>(self.node())
+        cast_all(self.node())
     }
 }
 
@@ -41,7 +43,7 @@ impl<'a> Destructuring<'a> {
     pub fn items(self) -> Items<'a, DestructuringItem<'a>>
         ensures { nodes_left is_destructuring_item_kind result ≡ all_children is_destructuring_item_kind (node_of self.entry) }
     {
-        cast_all::<DestructuringItem>(self.node())
+        cast_all(self.node())
     }
 }
 
@@ -50,21 +52,21 @@ impl<'a> Named<'a> {
     pub fn name(self) -> Ident<'a>
         ensures { atom_node result ≡ first_child (is_kind kinds.Ident) (node_of self.entry) }
     {
-        cast_first::<Ident>(self.node())
+        cast_first(self.node())
     }
 
-    /// The expression behind the name. Where the pair stands in a pattern, use [`Self::pattern`].
+    /// The expression after the name. Where the pair stands in a pattern, use [`Self::pattern`].
     pub fn expr(self) -> Expr<'a>
         ensures { IsExprOf (last_child is_expr_kind (node_of self.entry)) result }
     {
-        cast_last::<Expr>(self.node())
+        last_expr(self.node())
     }
 
-    /// The pattern behind the name, where the pair stands in a pattern.
+    /// The pattern after the name, where the pair stands in a pattern.
     pub fn pattern(self) -> Pattern<'a>
         ensures { IsPatternOf (last_child is_pattern_kind (node_of self.entry)) result }
     {
-        cast_last::<Pattern>(self.node())
+        cast_last(self.node())
     }
 }
 
@@ -73,16 +75,14 @@ impl<'a> Keyed<'a> {
     pub fn key(self) -> Expr<'a>
         ensures { IsExprOf (first_child is_expr_kind (node_of self.entry)) result }
     {
-        let pair = self.node();
-        cast_first(pair)
+        first_expr(self.node())
     }
 
-    /// The expression behind the key.
+    /// The expression after the key.
     pub fn expr(self) -> Expr<'a>
         ensures { IsExprOf (last_child is_expr_kind (node_of self.entry)) result }
     {
-        let pair = self.node();
-        cast_last(pair)
+        last_expr(self.node())
     }
 }
 
@@ -92,7 +92,7 @@ impl<'a> Spread<'a> {
     pub fn expr(self) -> Expr<'a>
         ensures { IsExprOf (first_child is_expr_kind (node_of self.entry)) result }
     {
-        cast_first::<Expr>(self.node())
+        first_expr(self.node())
     }
 
     /// The name of the sink, if it has one: the first identifier. It means something only where the spread stands in a
@@ -100,7 +100,7 @@ impl<'a> Spread<'a> {
     pub fn sink_ident(self) -> Option<Ident<'a>>
         ensures { IsOptionalAtom kinds.Ident (first_child (is_kind kinds.Ident) (node_of self.entry)) result }
     {
-        try_cast_first::<Ident>(self.node())
+        try_cast_first(self.node())
     }
 
     /// The expression of the sink, if it has one: the first expression. It means something only where the spread stands in
@@ -108,6 +108,6 @@ impl<'a> Spread<'a> {
     pub fn sink_expr(self) -> Option<Expr<'a>>
         ensures { IsOptionalExprOf (first_child is_expr_kind (node_of self.entry)) result }
     {
-        try_cast_first::<Expr>(self.node())
+        try_cast_first(self.node())
     }
 }

@@ -1,21 +1,19 @@
 //! Conditionals, loops and returns.
-ghost use Rattle.std.specs.Prelude.{◌≡◌};
 ghost use Rattle.typst_ast.specs.Expr.{IsExprOf, IsOptionalExprOf};
-ghost use Rattle.typst_ast.specs.Kinds.{is_expr_kind, is_pattern_kind};
 ghost use Rattle.typst_ast.specs.Pattern.{IsPatternOf};
 ghost use Rattle.typst_ast.specs.Lists.{third_of};
 ghost use Rattle.typst_ast.specs.View.{node_of};
 ghost use Rattle.typst_atoms.specs.Children.{all_children, all_in, behind_first, children_in, first_child, first_of, last_child, second_child};
+ghost use Rattle.typst_atoms.specs.Classes.{is_expr_kind, is_pattern_kind};
 ghost use Rattle.typst_atoms.specs.Kinds.{is_kind};
 ghost use Rattle.typst_base.specs.declared.kind.SyntaxKind.TheVariants as kinds;
 
 use crate::expr::Expr;
-use crate::nodes::{second_expr, third_expr};
+use crate::nodes::{first_expr, first_expr_in, last_expr, second_expr, third_expr};
 use crate::pattern::Pattern;
 use crate::views::{Conditional, ForLoop, FuncReturn, WhileLoop};
-use typst_atoms::casts::first_in;
 use typst_atoms::nodes::{behind, children};
-use typst_atoms::{cast_first, cast_last, try_cast_last};
+use typst_atoms::{cast_first, try_cast_last};
 use typst_base::SyntaxKind;
 use typst_node::AstNode;
 
@@ -24,8 +22,7 @@ impl<'a> Conditional<'a> {
     pub fn condition(self) -> Expr<'a>
         ensures { IsExprOf (first_child is_expr_kind (node_of self.entry)) result }
     {
-        let conditional = self.node();
-        cast_first(conditional)
+        first_expr(self.node())
     }
 
     /// What is evaluated where the condition holds: the second expression.
@@ -51,16 +48,14 @@ impl<'a> WhileLoop<'a> {
     pub fn condition(self) -> Expr<'a>
         ensures { IsExprOf (first_child is_expr_kind (node_of self.entry)) result }
     {
-        let while_loop = self.node();
-        cast_first(while_loop)
+        first_expr(self.node())
     }
 
     /// The loop's body.
     pub fn body(self) -> Expr<'a>
         ensures { IsExprOf (last_child is_expr_kind (node_of self.entry)) result }
     {
-        let while_loop = self.node();
-        cast_last(while_loop)
+        last_expr(self.node())
     }
 }
 
@@ -69,18 +64,17 @@ impl<'a> ForLoop<'a> {
     pub fn pattern(self) -> Pattern<'a>
         ensures { IsPatternOf (first_child is_pattern_kind (node_of self.entry)) result }
     {
-        let for_loop = self.node();
-        cast_first(for_loop)
+        cast_first(self.node())
     }
 
-    /// What is gone over: the first expression behind the first `in`.
+    /// What the loop goes through: the first expression after the first `in`.
     pub fn iterable(self) -> Expr<'a>
         ensures { IsExprOf
             (first_of (all_in is_expr_kind
             (behind_first (is_kind kinds.In) (children_in (node_of self.entry)))))
             result }
     {
-        match first_in(behind(self.node(), SyntaxKind::In)) {
+        match first_expr_in(behind(self.node(), SyntaxKind::In)) {
             Some(expr) => expr,
             None => Expr::placeholder(),
         }
@@ -90,8 +84,7 @@ impl<'a> ForLoop<'a> {
     pub fn body(self) -> Expr<'a>
         ensures { IsExprOf (last_child is_expr_kind (node_of self.entry)) result }
     {
-        let for_loop = self.node();
-        cast_last(for_loop)
+        last_expr(self.node())
     }
 }
 

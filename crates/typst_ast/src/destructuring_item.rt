@@ -1,5 +1,5 @@
 //! An item of a destructuring pattern.
-ghost use Rattle.typst_ast.specs.Kinds.{is_destructuring_item_kind};
+ghost use Rattle.typst_atoms.specs.Classes.{is_destructuring_item_kind};
 
 use crate::pattern::Pattern;
 use crate::views::{Named, Spread};

@@ -34,7 +34,7 @@ fn marker_number(text: &str) -> Option<u64>
 impl<'a> EnumItem<'a> {
     /// The number that the item is given explicitly, if any: that of its first marker which writes one.
     ///
-    /// A marker writes a number by an optional `+` and decimal digits, with any `.` behind, where a `u64` holds the value.
+    /// A marker writes a number by an optional `+` and decimal digits, with any `.` after them, where a `u64` holds the value.
     pub fn number(self) -> Option<u64>
         ensures { IsFirstNumber (all_children (is_kind kinds.EnumMarker) (node_of self.entry)) result }
     {

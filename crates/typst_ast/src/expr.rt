@@ -1,6 +1,7 @@
 //! Expressions.
 ghost use Rattle.std.specs.Prelude.{◌≡◌};
-ghost use Rattle.typst_ast.specs.Kinds.{is_expr_kind, is_hash_kind, is_literal_kind};
+ghost use Rattle.typst_ast.specs.Kinds.{is_hash_kind, is_literal_kind};
+ghost use Rattle.typst_atoms.specs.Classes.{is_expr_kind};
 
 use crate::views as of;
 use typst_base::{Span, SyntaxKind};
@@ -8,8 +9,9 @@ use typst_node::{AstNode, SyntaxNode, span_of};
 
 /// An expression in markup, math or code.
 ///
-/// Each variant holds the view of the kind of its own name.
-#[derive(Clone, Copy, Debug, PartialEq, Eq, Hash)]
+/// Each variant holds the view of the kind of its own name. Expressions are equal where kind and node are, spans and bounds
+/// included.
+#[derive(Clone, Copy)]
 pub enum Expr<'a> {
     /// Plain text without markup.
     Text(of::Text<'a>),
@@ -376,7 +378,7 @@ impl<'a> AstNode<'a> for Expr<'a> {
 impl<'a> Expr<'a> {
     ghost use Rattle.typst_ast.specs.Expr.{expr_kind};
 
-    /// Whether it may stand behind a hash in markup.
+    /// Whether it may stand after a hash in markup.
     pub fn hash(self) -> bool
         ensures { result ≡ is_hash_kind (expr_kind self.entry) }
     {

@@ -1,19 +1,24 @@
 //! Let bindings and assignments of parts.
+ghost use Rattle.std.specs.Prelude.{◌≡◌};
+ghost use Rattle.std.specs.Option.{option_copied};
 ghost use Rattle.typst_ast.specs.Expr.{IsExprOf, IsOptionalExprOf};
-ghost use Rattle.typst_ast.specs.Kinds.{is_expr_kind, is_pattern_kind};
-ghost use Rattle.typst_ast.specs.LetBindings.{IsLetBindingKindOf, let_value};
+ghost use Rattle.typst_ast.specs.LetBindings.{IsLetBindingKindOf, is_no_expr_besides, let_value};
 ghost use Rattle.typst_ast.specs.Pattern.{IsPatternOf};
 ghost use Rattle.typst_ast.specs.View.{node_of};
 ghost use Rattle.typst_atoms.specs.Children.{first_child, last_child};
+ghost use Rattle.typst_atoms.specs.Classes.{is_expr_kind, is_pattern_kind};
+ghost use Rattle.typst_base.specs.declared.kind.SyntaxKind.TheVariants as kinds;
+ghost use Rattle.typst_node.specs.Views.{kind_or};
 
 use crate::expr::Expr;
-use crate::nodes::{first_ident, second_expr};
+use crate::nodes::{first_ident, last_expr, second_expr};
 use crate::pattern::Pattern;
 use crate::views::{DestructAssignment, Ident, LetBinding};
+use typst_atoms::bindings::first_pattern;
 use typst_atoms::nodes::children;
-use typst_atoms::{cast_first, cast_last, try_cast_first};
+use typst_atoms::{cast_first, try_cast_first};
 use typst_base::SyntaxKind;
-use typst_node::AstNode;
+use typst_node::{AstNode, SyntaxNode};
 
 /// What a let binding binds.
 #[derive(Clone, Copy, Debug, PartialEq, Eq, Hash)]
@@ -22,6 +27,19 @@ pub enum LetBindingKind<'a> {
     Normal(Pattern<'a>),
     /// The name of a closure: `let f(x) = 1`.
     Closure(Ident<'a>),
+}
+
+// Whether the pattern is no expression besides the value: it is a closure, which is the value, a `_` or a destructuring.
+fn is_no_expr_besides(pattern: Option<&SyntaxNode>) -> bool
+    ensures { result ≡ is_no_expr_besides (kind_or kinds.None (option_copied pattern.entry)) }
+{
+    match pattern {
+        Some(pattern) => matches!(
+            pattern.kind(),
+            SyntaxKind::Closure | SyntaxKind::Underscore | SyntaxKind::Destructuring
+        ),
+        None => false,
+    }
 }
 
 impl<'a> LetBinding<'a> {
@@ -41,16 +59,11 @@ impl<'a> LetBinding<'a> {
     }
 
     /// The value that is bound: the second expression where the pattern is an expression besides the value. A closure is the
-    /// value itself, and behind a `_` or a destructuring it is the first expression.
+    /// value itself, and after a `_` or a destructuring it is the first expression.
     pub fn init(self) -> Option<Expr<'a>>
         ensures { IsOptionalExprOf (let_value (node_of self.entry)) result }
     {
-        let pattern: Pattern<'a> = cast_first(self.node());
-        let kind = pattern.kind();
-        if kind == SyntaxKind::Closure
-            || kind == SyntaxKind::Underscore
-            || kind == SyntaxKind::Destructuring
-        {
+        if is_no_expr_besides(first_pattern(self.node())) {
             try_cast_first(self.node())
         } else {
             second_expr(children(self.node()))
@@ -70,6 +83,6 @@ impl<'a> DestructAssignment<'a> {
     pub fn value(self) -> Expr<'a>
         ensures { IsExprOf (last_child is_expr_kind (node_of self.entry)) result }
     {
-        cast_last(self.node())
+        last_expr(self.node())
     }
 }

@@ -19,8 +19,7 @@ impl<'a> Strong<'a> {
     pub fn body(self) -> Markup<'a>
         ensures { node_of result ≡ first_child (is_kind kinds.Markup) (node_of self.entry) }
     {
-        let strong = self.node();
-        cast_first(strong)
+        cast_first(self.node())
     }
 }
 
@@ -29,8 +28,7 @@ impl<'a> Emph<'a> {
     pub fn body(self) -> Markup<'a>
         ensures { node_of result ≡ first_child (is_kind kinds.Markup) (node_of self.entry) }
     {
-        let emph = self.node();
-        cast_first(emph)
+        cast_first(self.node())
     }
 }
 
@@ -39,8 +37,7 @@ impl<'a> ContentBlock<'a> {
     pub fn body(self) -> Markup<'a>
         ensures { node_of result ≡ first_child (is_kind kinds.Markup) (node_of self.entry) }
     {
-        let block = self.node();
-        cast_first(block)
+        cast_first(self.node())
     }
 }
 
@@ -49,8 +46,7 @@ impl<'a> ListItem<'a> {
     pub fn body(self) -> Markup<'a>
         ensures { node_of result ≡ first_child (is_kind kinds.Markup) (node_of self.entry) }
     {
-        let list_item = self.node();
-        cast_first(list_item)
+        cast_first(self.node())
     }
 }
 
@@ -59,16 +55,14 @@ impl<'a> TermItem<'a> {
     pub fn term(self) -> Markup<'a>
         ensures { node_of result ≡ first_child (is_kind kinds.Markup) (node_of self.entry) }
     {
-        let term_item = self.node();
-        cast_first(term_item)
+        cast_first(self.node())
     }
 
     /// The description of the term.
     pub fn description(self) -> Markup<'a>
         ensures { node_of result ≡ last_child (is_kind kinds.Markup) (node_of self.entry) }
     {
-        let term_item = self.node();
-        cast_last(term_item)
+        cast_last(self.node())
     }
 }
 
@@ -77,8 +71,7 @@ impl<'a> Heading<'a> {
     pub fn body(self) -> Markup<'a>
         ensures { node_of result ≡ first_child (is_kind kinds.Markup) (node_of self.entry) }
     {
-        let heading = self.node();
-        cast_first(heading)
+        cast_first(self.node())
     }
 
     /// The section depth: the bytes of the marker, 1 where the marker is empty or missing.

@@ -2,22 +2,23 @@
 ghost use Rattle.std.specs.Prelude.{◌≡◌};
 ghost use Rattle.typst_ast.specs.Equations.{is_block_equation, is_deparenthesized};
 ghost use Rattle.typst_ast.specs.Expr.{IsExprOf, IsOptionalExprOf};
-ghost use Rattle.typst_ast.specs.Kinds.{is_expr_kind};
 ghost use Rattle.typst_ast.specs.Lists.{of_class};
 ghost use Rattle.typst_ast.specs.Roots.{IsRootIndex};
 ghost use Rattle.typst_ast.specs.View.{IsOptionalAtom, node_of};
 ghost use Rattle.typst_atoms.specs.Children.{all_in, behind_first, children_in, first_of, first_child, last_child};
+ghost use Rattle.typst_atoms.specs.Classes.{is_expr_kind};
 ghost use Rattle.typst_atoms.specs.Kinds.{is_kind, is_math_access_kind};
 ghost use Rattle.typst_atoms.specs.MathAccess.{IsMathAccessOf};
 ghost use Rattle.typst_atoms.specs.Texts.{text_in};
 ghost use Rattle.typst_base.specs.declared.kind.SyntaxKind.TheVariants as kinds;
 
 use crate::expr::Expr;
-use crate::nodes::{all_but_last, behind_first_expr, is_of_kind, last, second};
+use crate::nodes::{
+    all_but_last, behind_first_expr, first_expr, first_expr_in, is_of_kind, last, last_expr, second,
+};
 use crate::views::{
     Equation, Math, MathArgs, MathAttach, MathCall, MathDelimited, MathFrac, MathPrimes, MathRoot,
 };
-use typst_atoms::casts::first_in;
 use typst_atoms::nodes::{behind, children};
 use typst_atoms::{MathAccess, cast_first, cast_last};
 use typst_base::SyntaxKind;
@@ -28,8 +29,7 @@ impl<'a> Equation<'a> {
     pub fn body(self) -> Math<'a>
         ensures { node_of result ≡ first_child (is_kind kinds.Math) (node_of self.entry) }
     {
-        let equation = self.node();
-        cast_first(equation)
+        cast_first(self.node())
     }
 
     /// Whether it is a block of its own: its second and its last but one child are spaces.
@@ -63,14 +63,14 @@ impl<'a> MathCall<'a> {
     pub fn callee(self) -> MathAccess<'a>
         ensures { IsMathAccessOf (first_child is_math_access_kind (node_of self.entry)) result }
     {
-        cast_first::<MathAccess>(self.node())
+        cast_first(self.node())
     }
 
     /// The arguments of the call.
     pub fn args(self) -> MathArgs<'a>
         ensures { node_of result ≡ last_child (is_kind kinds.MathArgs) (node_of self.entry) }
     {
-        cast_last::<MathArgs>(self.node())
+        cast_last(self.node())
     }
 }
 
@@ -79,21 +79,21 @@ impl<'a> MathDelimited<'a> {
     pub fn open(self) -> Expr<'a>
         ensures { IsExprOf (first_child is_expr_kind (node_of self.entry)) result }
     {
-        cast_first::<Expr>(self.node())
+        first_expr(self.node())
     }
 
     /// The contents, the delimiters not included.
     pub fn body(self) -> Math<'a>
         ensures { node_of result ≡ first_child (is_kind kinds.Math) (node_of self.entry) }
     {
-        cast_first::<Math>(self.node())
+        cast_first(self.node())
     }
 
     /// The closing delimiter.
     pub fn close(self) -> Expr<'a>
         ensures { IsExprOf (last_child is_expr_kind (node_of self.entry)) result }
     {
-        cast_last::<Expr>(self.node())
+        last_expr(self.node())
     }
 }
 
@@ -113,31 +113,30 @@ impl<'a> MathAttach<'a> {
     pub fn base(self) -> Expr<'a>
         ensures { IsExprOf (first_child is_expr_kind (node_of self.entry)) result }
     {
-        let attach = self.node();
-        cast_first(attach)
+        first_expr(self.node())
     }
 
-    /// The bottom attachment: the first expression behind the first underscore.
+    /// The bottom attachment: the first expression after the first underscore.
     pub fn bottom(self) -> Option<Expr<'a>>
         ensures { IsOptionalExprOf
             (first_of (all_in is_expr_kind
             (behind_first (is_kind kinds.Underscore) (children_in (node_of self.entry)))))
             result }
     {
-        first_in(behind(self.node(), SyntaxKind::Underscore))
+        first_expr_in(behind(self.node(), SyntaxKind::Underscore))
     }
 
-    /// The top attachment: the first expression behind the first hat.
+    /// The top attachment: the first expression after the first hat.
     pub fn top(self) -> Option<Expr<'a>>
         ensures { IsOptionalExprOf
             (first_of (all_in is_expr_kind
             (behind_first (is_kind kinds.Hat) (children_in (node_of self.entry)))))
             result }
     {
-        first_in(behind(self.node(), SyntaxKind::Hat))
+        first_expr_in(behind(self.node(), SyntaxKind::Hat))
     }
 
-    /// The primes, if they stand directly behind the base.
+    /// The primes, if they stand directly after the base.
     pub fn primes(self) -> Option<MathPrimes<'a>>
         ensures { IsOptionalAtom kinds.MathPrimes
             (of_class (is_kind kinds.MathPrimes)
@@ -153,16 +152,14 @@ impl<'a> MathFrac<'a> {
     pub fn num(self) -> Expr<'a>
         ensures { IsExprOf (first_child is_expr_kind (node_of self.entry)) result }
     {
-        let fraction = self.node();
-        cast_first(fraction)
+        first_expr(self.node())
     }
 
     /// The denominator.
     pub fn denom(self) -> Expr<'a>
         ensures { IsExprOf (last_child is_expr_kind (node_of self.entry)) result }
     {
-        let fraction = self.node();
-        cast_last(fraction)
+        last_expr(self.node())
     }
 }
 
@@ -185,7 +182,6 @@ impl<'a> MathRoot<'a> {
     pub fn radicand(self) -> Expr<'a>
         ensures { IsExprOf (first_child is_expr_kind (node_of self.entry)) result }
     {
-        let root = self.node();
-        cast_first(root)
+        first_expr(self.node())
     }
 }

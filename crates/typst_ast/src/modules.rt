@@ -1,19 +1,18 @@
 //! Imports and includes of modules.
-ghost use Rattle.std.specs.Prelude.{◌≡◌};
-ghost use Rattle.typst_ast.specs.Expr.{IsExprOf, IsOptionalExprOf};
+ghost use Rattle.typst_ast.specs.Expr.{IsExprOf};
 ghost use Rattle.typst_ast.specs.Imports.{IsImportsOf, is_imports_kind};
-ghost use Rattle.typst_ast.specs.Kinds.{is_expr_kind};
 ghost use Rattle.typst_ast.specs.View.{IsOptionalAtom, node_of};
 ghost use Rattle.typst_atoms.specs.Children.{all_in, behind_first, children_in, first_child, first_of, last_child};
+ghost use Rattle.typst_atoms.specs.Classes.{is_expr_kind};
 ghost use Rattle.typst_atoms.specs.Kinds.{is_kind};
 ghost use Rattle.typst_base.specs.declared.kind.SyntaxKind.TheVariants as kinds;
 
 use crate::expr::Expr;
 use crate::imports::Imports;
+use crate::nodes::{first_expr, last_expr};
 use crate::views::{Ident, ImportItems, ModuleImport, ModuleInclude};
 use typst_atoms::casts::first_in;
 use typst_atoms::nodes::{behind, children};
-use typst_atoms::{cast_first, cast_last};
 use typst_base::SyntaxKind;
 
 impl<'a> ModuleImport<'a> {
@@ -21,7 +20,7 @@ impl<'a> ModuleImport<'a> {
     pub fn source(self) -> Expr<'a>
         ensures { IsExprOf (first_child is_expr_kind (node_of self.entry)) result }
     {
-        cast_first(self.node())
+        first_expr(self.node())
     }
 
     /// What is imported from the module, if anything is named: the first child that is a star or import items.
@@ -42,7 +41,7 @@ impl<'a> ModuleImport<'a> {
         None
     }
 
-    /// The name that the module gets: the first identifier behind the first `as`.
+    /// The name that the module gets: the first identifier after the first `as`.
     pub fn new_name(self) -> Option<Ident<'a>>
         ensures { IsOptionalAtom kinds.Ident
             (first_of (all_in (is_kind kinds.Ident)
@@ -58,6 +57,6 @@ impl<'a> ModuleInclude<'a> {
     pub fn source(self) -> Expr<'a>
         ensures { IsExprOf (last_child is_expr_kind (node_of self.entry)) result }
     {
-        cast_last(self.node())
+        last_expr(self.node())
     }
 }

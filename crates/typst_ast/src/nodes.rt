@@ -1,17 +1,19 @@
 //! Parts of lists of nodes.
 ghost use Rattle.std.specs.Prelude.{◌≡◌};
 ghost use Rattle.std.specs.Option.{option_copied};
-ghost use Rattle.typst_ast.specs.Expr.{IsOptionalExprOf};
-ghost use Rattle.typst_ast.specs.Kinds.{is_expr_kind};
-ghost use Rattle.typst_ast.specs.Lists.{all_but_last, before_last, is_of_kind, last_significant, of_class, third_of};
+ghost use Rattle.typst_ast.specs.Expr.{IsExprOf, IsOptionalExprOf};
+ghost use Rattle.typst_ast.specs.Lists.{all_but_last, before_last, last_significant, of_class, third_of};
 ghost use Rattle.typst_ast.specs.View.{IsOptionalAtom};
-ghost use Rattle.typst_atoms.specs.Children.{all_in, behind_first, first_of, last_of, second_of};
+ghost use Rattle.typst_atoms.specs.Children.{all_in, behind_first, first_child, first_of, last_child, last_of, second_of};
+ghost use Rattle.typst_atoms.specs.Classes.{is_expr_kind};
 ghost use Rattle.typst_atoms.specs.Kinds.{is_kind};
+ghost use Rattle.typst_atoms.specs.Missing.{is_of_kind};
 ghost use Rattle.typst_base.specs.declared.kind.SyntaxKind.TheVariants as kinds;
 
 use crate::expr::Expr;
 use crate::views::Ident;
-use typst_atoms::casts::first_in;
+use typst_atoms::casts::{cast_first, cast_last, first_in};
+use typst_atoms::classes::is_expr;
 use typst_base::SyntaxKind;
 use typst_node::{AstNode, SyntaxNode};
 
@@ -36,7 +38,7 @@ pub(crate) fn second(nodes: &[SyntaxNode]) -> Option<&SyntaxNode>
 }
 
 // The last node.
-#[tactic(auto, using(crate::proofs::Ends::last_of_append))]
+#[tactic(auto, using(typst_atoms::proofs::Ends::last_of_append))]
 pub(crate) fn last(nodes: &[SyntaxNode]) -> Option<&SyntaxNode>
     ensures { option_copied result ≡ last_of nodes.now }
 {
@@ -57,14 +59,14 @@ pub(crate) fn all_but_last(nodes: &[SyntaxNode]) -> &[SyntaxNode]
     }
 }
 
-// The nodes behind the first expression.
+// The nodes after the first expression.
 pub(crate) fn behind_first_expr(nodes: &[SyntaxNode]) -> &[SyntaxNode]
     ensures { result.now ≡ behind_first is_expr_kind nodes.now }
 {
     let mut rest = nodes;
     while let [first, more @ ..] = rest {
         rest = more;
-        if first.is::<Expr>() {
+        if is_expr(first.kind()) {
             break;
         }
     }
@@ -111,11 +113,32 @@ pub(crate) fn last_significant(nodes: &[SyntaxNode]) -> Option<&SyntaxNode>
     None
 }
 
+// The first child that is an expression, or the placeholder of expressions.
+pub(crate) fn first_expr<'a>(node: Option<&'a SyntaxNode>) -> Expr<'a>
+    ensures { IsExprOf (first_child is_expr_kind (option_copied node.entry)) result }
+{
+    cast_first(node)
+}
+
+// The last child that is an expression, or the placeholder of expressions.
+pub(crate) fn last_expr<'a>(node: Option<&'a SyntaxNode>) -> Expr<'a>
+    ensures { IsExprOf (last_child is_expr_kind (option_copied node.entry)) result }
+{
+    cast_last(node)
+}
+
+// The first of these nodes that is an expression.
+pub(crate) fn first_expr_in<'a>(nodes: &'a [SyntaxNode]) -> Option<Expr<'a>>
+    ensures { IsOptionalExprOf (first_of (all_in is_expr_kind nodes.now)) result }
+{
+    first_in(nodes)
+}
+
 // The second node that is an expression.
 pub(crate) fn second_expr<'a>(nodes: &'a [SyntaxNode]) -> Option<Expr<'a>>
     ensures { IsOptionalExprOf (second_of (all_in is_expr_kind nodes.now)) result }
 {
-    first_in(behind_first_expr(nodes))
+    first_expr_in(behind_first_expr(nodes))
 }
 
 // The third node that is an expression.
@@ -124,5 +147,5 @@ pub(crate) fn third_expr<'a>(nodes: &'a [SyntaxNode]) -> Option<Expr<'a>>
 {
     let behind_one = behind_first_expr(nodes);
     let behind_two = behind_first_expr(behind_one);
-    first_in(behind_two)
+    first_expr_in(behind_two)
 }

@@ -1,18 +1,19 @@
 //! Operations with operators, and accesses of fields.
 ghost use Rattle.std.specs.Prelude.{◌≡◌};
 ghost use Rattle.typst_ast.specs.Expr.{IsExprOf};
-ghost use Rattle.typst_ast.specs.Kinds.{is_expr_kind};
 ghost use Rattle.typst_ast.specs.Operators.{binary_operator_in, unary_operator_in};
 ghost use Rattle.typst_ast.specs.View.{node_of};
 ghost use Rattle.typst_atoms.specs.Children.{children_in, first_child, last_child};
+ghost use Rattle.typst_atoms.specs.Classes.{is_expr_kind};
 ghost use Rattle.typst_atoms.specs.Kinds.{is_kind};
 ghost use Rattle.typst_atoms.specs.View.{node_of as atom_node};
 ghost use Rattle.typst_base.specs.declared.kind.SyntaxKind.TheVariants as kinds;
 
 use crate::expr::Expr;
+use crate::nodes::{first_expr, last_expr};
 use crate::views::{Binary, FieldAccess, Ident, Unary};
 use typst_atoms::nodes::children;
-use typst_atoms::{BinOp, UnOp, cast_first, cast_last};
+use typst_atoms::{BinOp, UnOp, cast_last};
 use typst_base::SyntaxKind;
 
 impl<'a> Unary<'a> {
@@ -34,13 +35,12 @@ impl<'a> Unary<'a> {
     pub fn expr(self) -> Expr<'a>
         ensures { IsExprOf (last_child is_expr_kind (node_of self.entry)) result }
     {
-        let unary = self.node();
-        cast_last(unary)
+        last_expr(self.node())
     }
 }
 
 impl<'a> Binary<'a> {
-    /// The operator: that of the first child that is one, `+` where there is none. An `in` behind a `not` is `not in`.
+    /// The operator: that of the first child that is one, `+` where there is none. An `in` after a `not` is `not in`.
     #[tactic(auto, using(crate::proofs::OperatorBehind::behind_nothing_is_in))]
     pub fn op(self) -> BinOp
         ensures { result ≡ binary_operator_in (children_in (node_of self.entry)) }
@@ -65,16 +65,14 @@ impl<'a> Binary<'a> {
     pub fn lhs(self) -> Expr<'a>
         ensures { IsExprOf (first_child is_expr_kind (node_of self.entry)) result }
     {
-        let binary = self.node();
-        cast_first(binary)
+        first_expr(self.node())
     }
 
     /// The right operand.
     pub fn rhs(self) -> Expr<'a>
         ensures { IsExprOf (last_child is_expr_kind (node_of self.entry)) result }
     {
-        let binary = self.node();
-        cast_last(binary)
+        last_expr(self.node())
     }
 }
 
@@ -83,15 +81,13 @@ impl<'a> FieldAccess<'a> {
     pub fn target(self) -> Expr<'a>
         ensures { IsExprOf (first_child is_expr_kind (node_of self.entry)) result }
     {
-        let access = self.node();
-        cast_first(access)
+        first_expr(self.node())
     }
 
     /// The field's name.
     pub fn field(self) -> Ident<'a>
         ensures { atom_node result ≡ last_child (is_kind kinds.Ident) (node_of self.entry) }
     {
-        let access = self.node();
-        cast_last(access)
+        cast_last(self.node())
     }
 }

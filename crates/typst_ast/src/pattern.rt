@@ -1,5 +1,5 @@
 //! What a binding binds: a single name, or parts of a value.
-ghost use Rattle.typst_ast.specs.Kinds.{is_pattern_kind};
+ghost use Rattle.typst_atoms.specs.Classes.{is_pattern_kind};
 
 use crate::expr::Expr;
 use crate::views as of;

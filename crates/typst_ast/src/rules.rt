@@ -1,19 +1,19 @@
 //! Rules for sets and shows.
 ghost use Rattle.std.specs.Prelude.{◌≡◌};
 ghost use Rattle.typst_ast.specs.Expr.{IsExprOf, IsOptionalExprOf};
-ghost use Rattle.typst_ast.specs.Kinds.{is_expr_kind};
 ghost use Rattle.typst_ast.specs.Lists.{before_last};
 ghost use Rattle.typst_ast.specs.View.{node_of};
 ghost use Rattle.typst_atoms.specs.Children.{all_in, behind_first, children_in, first_child, first_of, last_child, last_of};
+ghost use Rattle.typst_atoms.specs.Classes.{is_expr_kind};
 ghost use Rattle.typst_atoms.specs.Kinds.{is_kind};
 ghost use Rattle.typst_base.specs.declared.kind.SyntaxKind.TheVariants as kinds;
 
 use crate::expr::Expr;
-use crate::nodes::before_last;
+use crate::nodes::{before_last, first_expr, first_expr_in, last_expr};
 use crate::views::{Args, SetRule, ShowRule};
-use typst_atoms::casts::{first_in, last_in};
+use typst_atoms::cast_last;
+use typst_atoms::casts::last_in;
 use typst_atoms::nodes::{behind, children};
-use typst_atoms::{cast_first, cast_last};
 use typst_base::SyntaxKind;
 
 impl<'a> SetRule<'a> {
@@ -21,24 +21,24 @@ impl<'a> SetRule<'a> {
     pub fn target(self) -> Expr<'a>
         ensures { IsExprOf (first_child is_expr_kind (node_of self.entry)) result }
     {
-        cast_first(self.node())
+        first_expr(self.node())
     }
 
     /// The arguments that become the defaults.
     pub fn args(self) -> Args<'a>
         ensures { node_of result ≡ last_child (is_kind kinds.Args) (node_of self.entry) }
     {
-        cast_last::<Args>(self.node())
+        cast_last(self.node())
     }
 
-    /// The condition under which the rule holds: the first expression behind the first `if`.
+    /// The condition under which the rule holds: the first expression after the first `if`.
     pub fn condition(self) -> Option<Expr<'a>>
         ensures { IsOptionalExprOf
             (first_of (all_in is_expr_kind
             (behind_first (is_kind kinds.If) (children_in (node_of self.entry)))))
             result }
     {
-        first_in(behind(self.node(), SyntaxKind::If))
+        first_expr_in(behind(self.node(), SyntaxKind::If))
     }
 }
 
@@ -57,6 +57,6 @@ impl<'a> ShowRule<'a> {
     pub fn transform(self) -> Expr<'a>
         ensures { IsExprOf (last_child is_expr_kind (node_of self.entry)) result }
     {
-        cast_last::<Expr>(self.node())
+        last_expr(self.node())
     }
 }

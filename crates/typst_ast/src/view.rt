@@ -8,15 +8,17 @@ ghost use Rattle.typst_node.specs.Views.{node_kind};
 ghost use denote.Enum.Bare.{true_same};
 
 use std::alloc::AllocError;
+use std::fmt;
 use std::marker::PhantomData;
 use typst_atoms::marker::Kind;
+use typst_atoms::same_views::Parts;
 use typst_base::{Span, SyntaxKind};
 use typst_node::{AstNode, SyntaxNode, span_of};
 
 /// A view of a node of the marker's kind, or the kind's placeholder.
 ///
 /// Views are equal where their nodes are, spans and bounds included; placeholders of one type are equal.
-#[derive_where(PartialEq, Eq, Hash, Debug)]
+#[derive_where(PartialEq, Eq, Hash)]
 pub struct View<'a, M: Kind> {
     node: Option<&'a SyntaxNode>,
     #[derive_where(skip)]
@@ -35,6 +37,17 @@ impl<'a, M: Kind> Clone for View<'a, M> {
 }
 
 impl<'a, M: Kind> Copy for View<'a, M> {}
+
+impl<'a, M: Kind> fmt::Debug for View<'a, M> {
+    /// Writes the name of the kind and the node, as `Heading(Heading: 3 [..])`, or `Heading(placeholder)`.
+    fn fmt<W: fmt::Write>(&self, f: &mut fmt::Formatter<W>) -> fmt::Result {
+        let parts = Parts {
+            kind: M::KIND,
+            node: self.node,
+        };
+        parts.show(f)
+    }
+}
 
 impl<'a, M: Kind> AstNode<'a> for View<'a, M> {
     ghost class = { is_kind M.KIND };

@@ -81,6 +81,19 @@ fn a_computed_source_gives_no_name(rt: HostRuntime) -> Result<(), Fail> {
 }
 
 #[test]
+fn errors_are_shown_by_their_names(rt: HostRuntime) -> Result<(), Fail> {
+    let rows = [
+        (BareImportError::Dynamic, "Dynamic"),
+        (BareImportError::PathInvalid, "PathInvalid"),
+        (BareImportError::PackageInvalid, "PackageInvalid"),
+    ];
+    for (error, shown) in rows {
+        assert_eq!(rt; format!(in rt.alloc(); "{error:?}")?.as_str(), shown);
+    }
+    Ok(())
+}
+
+#[test]
 fn a_name_or_a_field_names_its_module(rt: HostRuntime) -> Result<(), Fail> {
     let tree = import(rt.alloc(), "Ident:x")?;
     let view = cast::<of::ModuleImport>(&tree)?;

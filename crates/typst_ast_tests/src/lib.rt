@@ -19,6 +19,8 @@ mod math;
 mod missing_code;
 #[cfg(test)]
 mod missing_markup;
+#[cfg(test)]
+mod no_parser_makes;
 pub mod trees;
 #[cfg(test)]
 mod variants;

@@ -20,13 +20,13 @@ fn a_semicolon_behind_a_hash_is_no_item(rt: HostRuntime) -> Result<(), Fail> {
     assert!(rt;
         matches!(
             items.next(),
-            Some(MathArgItem::Arg(Arg::Pos(Expr::Ident(_))))
+            Some(MathArgItem::Arg(Arg::Pos(Expr::Ident(x)))) if text(x) == "x"
         )
     );
     assert!(rt;
         matches!(
             items.next(),
-            Some(MathArgItem::Arg(Arg::Pos(Expr::MathText(_))))
+            Some(MathArgItem::Arg(Arg::Pos(Expr::MathText(y)))) if text(y) == "y"
         )
     );
     assert!(rt; matches!(items.next(), Some(MathArgItem::Semicolon(';', _))));
@@ -45,13 +45,13 @@ fn items_of_arguments_are_the_same_from_the_back(rt: HostRuntime) -> Result<(), 
     assert!(rt;
         matches!(
             items.next_back(),
-            Some(MathArgItem::Arg(Arg::Pos(Expr::MathText(_))))
+            Some(MathArgItem::Arg(Arg::Pos(Expr::MathText(y)))) if text(y) == "y"
         )
     );
     assert!(rt;
         matches!(
             items.next_back(),
-            Some(MathArgItem::Arg(Arg::Pos(Expr::Ident(_))))
+            Some(MathArgItem::Arg(Arg::Pos(Expr::Ident(x)))) if text(x) == "x"
         )
     );
     assert!(rt; items.next_back().is_none());

@@ -1,5 +1,9 @@
 pub mod Answered
+pub mod BoundNames
+pub mod Ends
 pub mod HexRuns
+pub mod ItemLists
+pub mod KeptLists
 pub mod Lasts
 pub mod Trims
 pub mod Unescaping

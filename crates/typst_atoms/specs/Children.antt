@@ -39,7 +39,7 @@ second_child c node = second_of (all_children c node)
 abbrev pub last_child : Class → Option Tree → Option Tree
 last_child c node = last_of (all_children c node)
 
--- the nodes behind the first whose kind lies in the class; none where there is no such node
+-- the nodes after the first whose kind lies in the class; none where there is no such node
 abbrev pub behind_first : Class → List Tree → List Tree
 behind_first c [] = []
 behind_first c (t ∷ ts) = cond (c (node_kind t)) ts (behind_first c ts)

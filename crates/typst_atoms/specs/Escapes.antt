@@ -5,11 +5,11 @@ use Rattle.std.specs.Str.{chars}
 use Rattle.std.specs.Str.Parse.{digits_value}
 use Rattle.typst_atoms.specs.CodePoints.{hex_run, char_or_nul, first_or_nul}
 
--- the text behind one leading backslash, which is byte 92
+-- the text after one leading backslash, which is byte 92
 abbrev pub without_backslash : List ℕ → List ℕ
 without_backslash bs = drop (cond (starts_with eqb bs (92 ∷ [])) 1 0) bs
 
--- Behind the backslash, `u{` and hexadecimal digits name the character of that code, and U+0000 where there is none.
+-- After the backslash, `u{` and hexadecimal digits name the character of that code, and U+0000 where there is none.
 -- Anything else names its first character.
 abbrev pub named_char : List ℕ → ℕ
 named_char bs =

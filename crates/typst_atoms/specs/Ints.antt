@@ -10,7 +10,7 @@ base_of bs =
     cond (starts_with eqb bs (codes "0x")) 16
     (cond (starts_with eqb bs (codes "0o")) 8 (cond (starts_with eqb bs (codes "0b")) 2 10))
 
--- what is read is the text behind such a beginning, in base 10 all of it
+-- what is read is the text after such a beginning, in base 10 all of it
 abbrev pub digits_of : List ℕ → List ℕ
 digits_of bs = cond (eqb (base_of bs) 10) bs (drop 2 bs)
 

@@ -1,5 +1,5 @@
 -- The characters that shorthands stand for.
-use Rattle.std.specs.Prelude.{ℕ, cond, ◌==◌, List, [], ◌∷◌, codes}
+use Rattle.std.specs.Prelude.{ℕ, cond, ◌==◌, List, [], ◌∷◌, codes, map}
 use Rattle.std.specs.Cmp.Lexicographic.{pointwise}
 use denote.Ref.{Bor}
 
@@ -12,6 +12,10 @@ char_for (p ∷ ps) bs = cond (pointwise ◌==◌ p.0 bs) p.1 (char_for ps bs)
 abbrev pub char_in : List (Bor (List ℕ) × ℕ) → List ℕ → ℕ
 char_in [] bs = 0
 char_in (p ∷ ps) bs = cond (pointwise ◌==◌ p.0.now bs) p.1 (char_in ps bs)
+
+-- the texts of such a list of references, with their characters
+abbrev pub texts_and_chars : List (Bor (List ℕ) × ℕ) → List (List ℕ × ℕ)
+texts_and_chars ps = map (λ p. (p.0.now, p.1)) ps
 
 -- the shorthands of markup
 abbrev pub markup_shorthands : List (List ℕ × ℕ)

@@ -1,5 +1,5 @@
 //! The children of one class, from both ends.
-ghost use Rattle.std.specs.Prelude.{◌≡◌};
+ghost use Rattle.std.specs.Prelude.{◌≡◌, ⊤};
 ghost use Rattle.std.specs.Iterator.{YieldsFirstBy, YieldsLastBy, item_count};
 ghost use Rattle.std.specs.Option.{option_copied};
 ghost use Rattle.typst_atoms.specs.Children.{all_in, all_children};
@@ -7,6 +7,8 @@ ghost use Rattle.typst_atoms.specs.Items.{nodes_left, told_left};
 ghost use Rattle.typst_node.specs.Views.{told};
 
 use crate::nodes::children;
+use std::alloc::AllocError;
+use std::iter::FusedIterator;
 use std::marker::PhantomData;
 use typst_node::{AstNode, SyntaxNode};
 
@@ -35,6 +37,19 @@ impl<'a, T: AstNode<'a>> Items<'a, T> {
             rest: nodes,
             of: PhantomData,
         }
+    }
+}
+
+impl<'a, T> Clone for Items<'a, T> {
+    ghost is_clone = { λ items copy. copy ≡ items };
+
+    ghost is_infallible = { λ _. ⊤ };
+
+    fn clone(&self) -> Result<Self, AllocError> {
+        Ok(Items {
+            rest: self.rest,
+            of: PhantomData,
+        })
     }
 }
 
@@ -69,3 +84,5 @@ impl<'a, T: AstNode<'a>> DoubleEndedIterator for Items<'a, T> {
         None
     }
 }
+
+impl<'a, T: AstNode<'a>> FusedIterator for Items<'a, T> {}

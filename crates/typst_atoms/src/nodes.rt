@@ -42,7 +42,7 @@ pub fn first_of_kind<'a>(node: Option<&'a SyntaxNode>, kind: SyntaxKind) -> Opti
     None
 }
 
-/// The children behind the first child of the kind; none where there is no such child.
+/// The children after the first child of the kind; none where there is no such child.
 pub fn behind<'a>(node: Option<&'a SyntaxNode>, kind: SyntaxKind) -> &'a [SyntaxNode]
     ensures { result.now ≡ behind_first (is_kind kind) (children_in (option_copied node.entry)) }
 {

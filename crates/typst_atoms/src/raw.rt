@@ -17,7 +17,7 @@ use crate::views::{Raw, RawLang, Text};
 use typst_base::SyntaxKind;
 use typst_node::SyntaxNode;
 
-// The first character, and the text behind it.
+// The first character, and the text after it.
 fn split_first_char(text: &str) -> Option<(char, &str)>
     ensures chars { MatchOption result (chars text.now ≡ [])
         (λ parts. chars text.now ≡ parts.0 ∷ chars parts.1.now) }
@@ -45,7 +45,7 @@ fn any_char<F: Fn(char) -> bool>(text: &str, test: &F) -> bool
     false
 }
 
-// The text of the first node of these that was trimmed off a raw text, and the nodes behind it.
+// The text of the first node of these that was trimmed off a raw text, and the nodes after it.
 fn split_first_trimmed(nodes: &[SyntaxNode]) -> Option<(&str, &[SyntaxNode])>
     ensures chars { MatchOption result (trimmed_in nodes.now ≡ [])
         (λ parts. trimmed_in nodes.now ≡ chars parts.0.now ++ trimmed_in parts.1.now) }

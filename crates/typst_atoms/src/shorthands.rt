@@ -1,6 +1,6 @@
 //! The characters that shorthands stand for.
 ghost use Rattle.std.specs.Prelude.{◌≡◌};
-ghost use Rattle.typst_atoms.specs.Shorthands.{char_for, char_in, markup_shorthands, math_shorthands};
+ghost use Rattle.typst_atoms.specs.Shorthands.{char_for, char_in, markup_shorthands, math_shorthands, texts_and_chars};
 ghost use Rattle.typst_atoms.specs.Texts.{text_in};
 ghost use Rattle.typst_atoms.specs.View.{node_of};
 
@@ -30,6 +30,13 @@ impl<'a> Shorthand<'a> {
         ("---", '\u{2014}'),
         ("-?", '\u{00AD}'),
     ];
+
+    /// [`LIST`](Self::LIST).
+    pub fn list() -> &'static [(&'static str, char)]
+        ensures { texts_and_chars result.now ≡ markup_shorthands }
+    {
+        Self::LIST
+    }
 
     /// The character that it stands for. It is U+0000 where the text is no shorthand.
     pub fn get(self) -> char
@@ -81,6 +88,13 @@ impl<'a> MathShorthand<'a> {
         ("|]", '⟧'),
         ("||", '‖'),
     ];
+
+    /// [`LIST`](Self::LIST).
+    pub fn list() -> &'static [(&'static str, char)]
+        ensures { texts_and_chars result.now ≡ math_shorthands }
+    {
+        Self::LIST
+    }
 
     /// The character that it stands for. It is U+0000 where the text is no shorthand.
     pub fn get(self) -> char

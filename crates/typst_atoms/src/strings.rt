@@ -137,7 +137,11 @@ impl<'a> Str<'a> {
         ensures { IfOk result
             (λ value. IsStringValue (text_in (node_of self.entry)) (string_bytes value)) }
     {
-        let all = char_list(alloc, string_body(self.leaf_text()))?;
+        let body = string_body(self.leaf_text());
+        if !body.as_bytes().contains(&b'\\') {
+            return String::from_str(alloc, body);
+        }
+        let all = char_list(alloc, body)?;
         let mut out = String::with_capacity(alloc, all.len())?;
         push_unescaped(&mut out, all.as_slice())?;
         Ok(out)

@@ -1,6 +1,11 @@
 //! The views of one kind.
+ghost use Rattle.std.specs.Prelude.{◌≡◌};
+ghost use Rattle.typst_base.specs.declared.kind.SyntaxKind.TheVariants as named;
+
 use crate::marker as kinds;
 use crate::view::View;
+use typst_base::SyntaxKind;
+use typst_node::AstNode;
 
 /// A line comment: `// ..`.
 pub type LineComment<'a> = View<'a, kinds::LineCommentKind>;
@@ -103,3 +108,24 @@ pub type LoopBreak<'a> = View<'a, kinds::LoopBreakKind>;
 
 /// A continue in a loop: `continue`.
 pub type LoopContinue<'a> = View<'a, kinds::LoopContinueKind>;
+
+/// The kind of [`LineComment`].
+pub fn line_comment_kind() -> SyntaxKind
+    ensures { result ≡ named.LineComment }
+{
+    LineComment::placeholder().kind()
+}
+
+/// The kind of [`BlockComment`].
+pub fn block_comment_kind() -> SyntaxKind
+    ensures { result ≡ named.BlockComment }
+{
+    BlockComment::placeholder().kind()
+}
+
+/// The kind of [`RawDelim`].
+pub fn raw_delim_kind() -> SyntaxKind
+    ensures { result ≡ named.RawDelim }
+{
+    RawDelim::placeholder().kind()
+}

@@ -161,7 +161,7 @@ kept_ranges kept rs e = ap ranges e ∙ ranges-running 0 rs
 pub kept_runs : (kept : List Segment) (rs : List (Range ℕ)) → kept ≡ running 0 rs → kept ≡ running 0 (ranges kept)
 kept_runs kept rs e = e ∙ ap (running 0) (sym (kept_ranges kept rs e))
 
--- ---- segments are valid behind a place, and so behind each place before it
+-- ---- segments are valid after a place, and so after each place before it
 nat_lt-above : (a b : ℕ) → nat_lt a b ≡ false → b ≤ a
 nat_lt-above a b e = grind (arith, nat_tests)
 
@@ -169,7 +169,7 @@ pub first_invalid_below : (low high : ℕ) (rs : List (Range ℕ)) → low ≤ h
 first_invalid_below low high [] le e = refl
 first_invalid_below low high (r ∷ rest) le e = grind (arith, nat_tests, e)
 
--- behind a segment the others are valid behind as many bytes as were kept
+-- after a segment the others are valid after as many bytes as were kept
 pub first_invalid_behind : (upto : ℕ) (r : Range ℕ) (rest : List (Range ℕ)) → first_invalid upto (r ∷ rest) ≡ None → first_invalid (upto + (r.end - r.start)) rest ≡ None
 first_invalid_behind upto r rest e =
     elim (leb_tells (suc r.end) r.start) [

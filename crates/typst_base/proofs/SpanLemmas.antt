@@ -7,7 +7,7 @@ passed_over : (b : Bool) (x : SpanParts) (xs ys : List SpanParts) → b ≡ poin
 passed_over true x xs ys n e rest = rest e
 passed_over false x xs ys n e rest = let here : points_nowhere x ≡ true = ap points_nowhere e in cc
 
--- behind spans that all point nowhere, the first that points somewhere is sought in the rest
+-- after spans that all point nowhere, the first that points somewhere is sought in the rest
 pub first_attached-append : (xs ys : List SpanParts) → first_attached xs ≡ detached → first_attached (xs ++ ys) ≡ first_attached ys
 first_attached-append [] ys e = refl
 first_attached-append (x ∷ xs) ys e =

@@ -1,39 +1,60 @@
 -- What a diagnostic span is seen as.
-use Rattle.std.specs.Prelude.{ℕ, ◌+◌, ◌-◌, ◌*◌, ◌/◌, ◌%◌, ◌^◌, min, nat_lt, if◌then◌else◌, refl, Option, Some, None}
-use Rattle.std.specs.Coded.{Coded, code_by, coded×, coded_ℕ}
+use Rattle.std.specs.Prelude.{ℕ, ◌≡◌, ◌+◌, ◌-◌, ◌*◌, ◌/◌, ◌%◌, ◌^◌, ◌==◌, ◌&&◌, Bool, not, min, nat_lt, if◌then◌else◌, refl, Option, Some, None}
+use Rattle.std.specs.Coded.{Coded, code_by, coded×, coded⊎, coded_ℕ, coded_option}
 use Rattle.std.specs.declared.ops.Range.{Range as Interval}
-use Rattle.typst_base.specs.Span.{SpanParts, parts_code}
+use Rattle.std.proofs.Common.{◌⊎◌, inl, inr}
+use Rattle.typst_base.specs.Span.{SpanParts, parts_code, range_base}
 use Rattle.typst_base.specs.SubRange.{interval}
 
--- a diagnostic span's two parts: a span, and a word that stands for a part of it or is the end of an external range
-pub record DiagParts : Type 0 where
-  pub span : SpanParts
-  pub word : ℕ
+-- a diagnostic span: a span with an optional part of it, or a range of a file that isn't a source file, an external range
+pub data DiagPlace : Type 0 where
+  OfSpan : SpanParts → Option (Interval ℕ) → DiagPlace
+  External : ℕ → Interval ℕ → DiagPlace
 
--- a diagnostic span is stored as the pair of its parts
-abbrev pub diag_code : Coded DiagParts
-diag_code =
-    code_by (SpanParts × ℕ) (coded× parts_code coded_ℕ) (λ d. (d.span, d.word)) (λ p. record { span = p.0; word = p.1 }) (λ _. refl)
+-- the span that is kept: of an external range that of its file, with its start above 2 ^ 47
+abbrev pub span_of : DiagPlace → SpanParts
+span_of (OfSpan span part) = span
+span_of (External id range) = record { file = id; low = 2 ^ 47 + range.start }
+
+-- whether a span of a file has a low value that stands for the start of an external range
+abbrev pub is_external : SpanParts → Bool
+is_external s = not (s.file == 0) && (not (nat_lt s.low (2 ^ 47)) && nat_lt s.low range_base)
 
 -- the word of a part: both ends, 32 bits each; 0 for no part
 abbrev pub sub_range_word : Option (Interval ℕ) → ℕ
 sub_range_word None = 0
 sub_range_word (Some part) = part.start * 2 ^ 32 + part.end
 
--- the part that a word stands for: there is one where the first end is below the second
-abbrev pub sub_range_of : ℕ → Option (Interval ℕ)
-sub_range_of word =
-    if nat_lt (word / 2 ^ 32) (word % 2 ^ 32) then Some (interval (word / 2 ^ 32) (word % 2 ^ 32)) else None
-
--- a span with an optional part of it
-abbrev pub of_span : SpanParts → Option (Interval ℕ) → DiagParts
-of_span span part = record { span = span; word = sub_range_word part }
+-- a span with an optional part of it; one with the low value of an external range is that range, up to the word of the part
+abbrev pub of_span : SpanParts → Option (Interval ℕ) → DiagPlace
+of_span span part =
+    if is_external span then External span.file (interval (span.low - 2 ^ 47) (sub_range_word part)) else OfSpan span part
 
 -- an end of an external range as it is kept: at most 2 ^ 46 - 1
 abbrev pub cut_external_end : ℕ → ℕ
 cut_external_end e = min e (2 ^ 46 - 1)
 
--- an external range of this file: the start above 2 ^ 47 in the span, the end in the word
-abbrev pub external : ℕ → ℕ → ℕ → DiagParts
-external id start end =
-    record { span = record { file = id; low = 2 ^ 47 + cut_external_end start }; word = cut_external_end end }
+-- an external range of this file, both ends cut
+abbrev pub external : ℕ → ℕ → ℕ → DiagPlace
+external id start end = External id (interval (cut_external_end start) (cut_external_end end))
+
+abbrev range_code : Coded (Interval ℕ)
+range_code = code_by (ℕ × ℕ) (coded× coded_ℕ coded_ℕ) (λ r. (r.start, r.end)) (λ p. record { start = p.0; end = p.1 }) (λ _. refl)
+
+abbrev place_parts : DiagPlace → (SpanParts × Option (Interval ℕ)) ⊎ (ℕ × Interval ℕ)
+place_parts (OfSpan span part) = inl (span, part)
+place_parts (External id range) = inr (id, range)
+
+abbrev of_parts : (SpanParts × Option (Interval ℕ)) ⊎ (ℕ × Interval ℕ) → DiagPlace
+of_parts (inl p) = OfSpan p.0 p.1
+of_parts (inr p) = External p.0 p.1
+
+pub of_parts_back : (d : DiagPlace) → of_parts (place_parts d) ≡ d
+of_parts_back (OfSpan span part) = refl
+of_parts_back (External id range) = refl
+
+-- a diagnostic span is stored by its case
+abbrev pub diag_code : Coded DiagPlace
+diag_code =
+    code_by ((SpanParts × Option (Interval ℕ)) ⊎ (ℕ × Interval ℕ))
+    (coded⊎ (coded× parts_code (coded_option range_code)) (coded× coded_ℕ range_code)) place_parts of_parts of_parts_back

@@ -1,7 +1,7 @@
 -- What a diagnostic span points to.
-use Rattle.std.specs.Prelude.{ℕ, ◌-◌, ◌^◌, ◌==◌, nat_lt, if◌then◌else◌, Option, Some, None}
+use Rattle.std.specs.Prelude.{ℕ, ◌^◌, ◌==◌, nat_lt, if◌then◌else◌, Option, Some, None}
 use Rattle.std.specs.declared.ops.Range.{Range as Interval}
-use Rattle.typst_base.specs.DiagSpan.{DiagParts, sub_range_of}
+use Rattle.typst_base.specs.DiagSpan.{DiagPlace, OfSpan, External}
 use Rattle.typst_base.specs.Span.{range_base, range_of}
 use Rattle.typst_base.specs.SubRange.{interval, moved}
 use Rattle.typst_base.specs.declared.diag_span.DiagSpanKind.{DiagSpanKind}
@@ -20,10 +20,10 @@ abbrev pub part_of : Interval ℕ → Option (Interval ℕ) → Interval ℕ
 part_of range None = range
 part_of range (Some part) = moved part range.start
 
--- nothing without a file; else a node below 2 ^ 47, an external range below the lowest low value of ranges, a range from there on
-abbrev pub diag_kind_of : DiagParts → DiagSpanKind
-diag_kind_of d =
-    if d.span.file == 0 then Detached
-    else (if nat_lt d.span.low (2 ^ 47) then to_number_part d.span.file d.span.low (sub_range_of d.word)
-    else (if nat_lt d.span.low range_base then to_bytes d.span.file (interval (d.span.low - 2 ^ 47) d.word)
-    else to_bytes d.span.file (part_of (range_of d.span.low) (sub_range_of d.word))))
+-- an external range is its bytes; a span is nothing without a file, a node below 2 ^ 47, and a range of the file from the lowest low value of ranges on
+abbrev pub diag_kind_of : DiagPlace → DiagSpanKind
+diag_kind_of (External id range) = to_bytes id range
+diag_kind_of (OfSpan span part) =
+    if span.file == 0 then Detached
+    else (if nat_lt span.low (2 ^ 47) then to_number_part span.file span.low part
+    else to_bytes span.file (part_of (range_of span.low) part))

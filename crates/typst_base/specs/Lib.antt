@@ -1,5 +1,6 @@
 pub mod DiagSpan
 pub mod DiagSpanKind
+pub mod DiagWord
 pub mod Flags
 pub mod KindClasses
 pub mod KindMode

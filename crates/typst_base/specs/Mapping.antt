@@ -35,7 +35,7 @@ first_invalid before (segment ∷ rest) =
     if nat_lt segment.end segment.start || nat_lt segment.start before then Some segment
     else first_invalid segment.end rest
 
--- the original range of a range of mapped bytes: from its first byte's position to behind its last byte's; an empty range maps to the place behind the byte before it, or to the first position
+-- the original range of a range of mapped bytes: from its first byte's position to after its last byte's; an empty range maps to the place after the byte before it, or to the first position
 abbrev pub mapped : Mapping → Range ℕ → Range ℕ
 mapped m range =
     let behind = slice_index m.positions (range.end - 1) + 1 in

@@ -1,7 +1,8 @@
 // Spans of diagnostics.
 ghost use Rattle.std.specs.Prelude.{◌≡◌, ◌≢◌, ◌<◌, ◌↔◌, IsTrue, None, SomeIff};
-ghost use Rattle.typst_base.specs.DiagSpan.{cut_external_end, external, of_span, sub_range_of};
+ghost use Rattle.typst_base.specs.DiagSpan.{cut_external_end, external, of_span, span_of};
 ghost use Rattle.typst_base.specs.DiagSpanKind.{diag_kind_of, to_bytes};
+ghost use Rattle.typst_base.specs.DiagWord.{sub_range_of, word_of};
 ghost use Rattle.typst_base.specs.Span.{detached};
 ghost use Rattle.typst_base.specs.SubRange.{interval};
 
@@ -15,24 +16,30 @@ use std::ops::Range;
 #[derive(Clone, Copy, Debug, PartialEq, Eq, Hash)]
 pub struct DiagSpan {
     span: Span,
+    // The end of an external range, or both ends of a part of any other span, 32 bits each, or 0 for no part.
     word: u64,
 }
 
 impl Model for DiagSpan {
     ghost use Rattle.std.specs.Prelude.{ℕ};
-    ghost use Rattle.typst_base.specs.DiagSpan.{DiagParts, diag_code};
+    ghost use Rattle.typst_base.specs.DiagSpan.{DiagPlace, diag_code, span_of};
+    ghost use Rattle.typst_base.specs.DiagWord.{IsWord, place_keeps_span, place_keeps_word, place_of, word_of};
 
-    ghost Value = { DiagParts };
+    ghost Value = { DiagPlace };
 
     ghost coded = { diag_code };
 
-    ghost view = { λ a. record { span = a.span; word = a.word } };
+    ghost view = { λ a. place_of a.span a.word };
 
-    ghost inverse = { λ d. record { span = d.span; word = d.word } };
+    ghost invariant = { λ a. IsWord a.span a.word };
+
+    ghost inverse = { λ d. record { span = span_of d; word = word_of d } };
+
+    ghost inverse_ok = { λ a h. Prim.rw (place_keeps_span a.span a.word, place_keeps_word a.span a.word h) };
 }
 
 /// What a diagnostic span points to.
-#[derive(Debug, PartialEq, Eq, Hash, Drop)]
+#[derive(Clone, Debug, PartialEq, Eq, Hash, Drop)]
 pub enum DiagSpanKind {
     /// No place at all.
     Detached,
@@ -93,7 +100,7 @@ impl DiagSpan {
     /// This span, or the given part of it.
     pub fn from_span(span: Span, sub_range: Option<SubRange>) -> DiagSpan
         ensures is { result ≡ of_span span sub_range }
-        ensures part_comes_back { sub_range_of result.word ≡ sub_range }
+        ensures part_comes_back { sub_range_of (word_of result) ≡ sub_range }
     {
         let word = match sub_range {
             Some(part) => {
@@ -110,14 +117,14 @@ impl DiagSpan {
 impl DiagSpan {
     /// Whether its span points nowhere.
     pub fn is_detached(self) -> bool
-        ensures { IsTrue result ↔ (self.span ≡ detached) }
+        ensures { IsTrue result ↔ (span_of self ≡ detached) }
     {
         self.span.is_detached()
     }
 
     /// The file, or `None` for a span without one.
     pub fn id(self) -> Option<FileId>
-        ensures { SomeIff result (0 < self.span.file) self.span.file }
+        ensures { SomeIff result (0 < (span_of self).file) (span_of self).file }
     {
         self.span.id()
     }
@@ -155,15 +162,15 @@ impl DiagSpan {
 
     /// The part that the word stands for.
     fn sub_range(self) -> Option<SubRange>
-        ensures { result ≡ sub_range_of self.word }
+        ensures { result ≡ sub_range_of (word_of self) }
     {
         SubRange::new((self.word >> 32) as usize, (self.word % (1 << 32)) as usize)
     }
 
     /// This diagnostic span, or the other one if this one is detached.
     pub fn or(self, other: DiagSpan) -> DiagSpan
-        ensures detached_gives_other { self.span ≡ detached → result ≡ other }
-        ensures else_itself { self.span ≢ detached → result ≡ self }
+        ensures detached_gives_other { span_of self ≡ detached → result ≡ other }
+        ensures else_itself { span_of self ≢ detached → result ≡ self }
     {
         if self.is_detached() { other } else { self }
     }
@@ -179,6 +186,3 @@ impl From<Span> for DiagSpan {
         DiagSpan::from_span(span, None)
     }
 }
-
-#[cfg(test)]
-mod tests;

@@ -553,6 +553,3 @@ impl SyntaxKind {
         )
     }
 }
-
-#[cfg(test)]
-mod tests;

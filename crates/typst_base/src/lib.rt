@@ -1,6 +1,6 @@
 //! Kinds and spans of a syntax tree's nodes.
 //!
-//! - [`SyntaxKind`] says what a node is; it has a name, classes and a rule for the mode behind the
+//! - [`SyntaxKind`] says what a node is; it has a name, classes and a rule for the mode after the
 //!   node ([`ModeAfter`]). [`SyntaxSet`] is a set of kinds, and [`named_sets`] has those that a
 //!   parser asks for.
 //! - [`Span`] is a place in a file, in one word: the number of a node, or a range of bytes.
@@ -10,7 +10,7 @@
 //!   the bytes of the original.
 //!
 //! ```
-//! let id = FileId::new(1).unwrap();
+//! let id = FileId::FIRST;
 //! let span = Span::from_number(id, SpanNumber(5));
 //! let first_two = DiagSpan::from_span(span, SubRange::new(0, 2));
 //! match first_two.get() {

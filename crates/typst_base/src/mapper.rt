@@ -109,8 +109,8 @@ impl RangeMapper {
 
     /// The original range of these bytes of the text.
     ///
-    /// It goes from the first byte's position to behind the last byte's, across the gaps between
-    /// segments. An empty range maps to the place behind the byte before it, also at the border of
+    /// It goes from the first byte's position to after the last byte's, across the gaps between
+    /// segments. An empty range maps to the place after the byte before it, also at the border of
     /// two segments; at the start of the text, to the start of the first segment.
     /// Takes time in proportion to the logarithm of the number of segments.
     pub fn map(&self, range: Range<usize>) -> Range<usize>
@@ -193,6 +193,3 @@ fn find_invalid(segments: &[Range<usize>]) -> Option<&Range<usize>>
     }
     None
 }
-
-#[cfg(test)]
-mod tests;

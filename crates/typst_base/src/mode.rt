@@ -11,7 +11,7 @@ pub enum SyntaxMode {
     Markup,
     /// An equation, as between two dollar signs.
     Math,
-    /// Keywords, literals and operators, as behind a hash.
+    /// Keywords, literals and operators, as after a hash.
     Code,
 }
 
@@ -24,7 +24,7 @@ pub enum ModeAfter {
     Known(SyntaxMode),
     /// Its parent's.
     Parent,
-    /// No mode: nothing is read behind the node.
+    /// No mode: nothing is read after the node.
     None,
     /// None below a `Raw`, else markup.
     Text,
@@ -34,7 +34,7 @@ pub enum ModeAfter {
     Dollar,
     /// Math below an `Equation`, else its parent's.
     Space,
-    /// Code directly behind a `Hash`, else its parent's.
+    /// Code directly after a `Hash`, else its parent's.
     Embeddable,
 }
 

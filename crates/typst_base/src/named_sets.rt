@@ -171,6 +171,3 @@ pub fn destructuring_item() -> SyntaxSet
     let item = pattern();
     item.add(SyntaxKind::Dots)
 }
-
-#[cfg(test)]
-mod tests;

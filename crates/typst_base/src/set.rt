@@ -5,12 +5,13 @@ ghost use Rattle.typst_base.specs.KindSet.{holds, is_kind};
 ghost use Rattle.typst_base.specs.declared.kind.SyntaxKind.{SyntaxKind};
 
 use crate::kind::SyntaxKind;
+use std::fmt;
 use std::marker::Model;
 
 /// A set of kinds, in two words.
 ///
 /// It takes no memory, and each call takes constant time.
-#[derive(Clone, Copy)]
+#[derive(Clone, Copy, PartialEq, Eq)]
 pub struct SyntaxSet {
     low: u128,
     high: u16,
@@ -128,5 +129,20 @@ impl Default for SyntaxSet {
 
     fn default() -> SyntaxSet {
         SyntaxSet::new()
+    }
+}
+
+impl fmt::Debug for SyntaxSet {
+    /// Writes the kinds of the set in the order of their numbers, as `{Text, Space}`.
+    fn fmt<W: fmt::Write>(&self, f: &mut fmt::Formatter<W>) -> fmt::Result {
+        let mut kinds = f.debug_set();
+        for number in 0..=u8::MAX {
+            if let Some(kind) = SyntaxKind::from_u8(number)
+                && self.contains(kind)
+            {
+                kinds.entry(&kind);
+            }
+        }
+        kinds.finish()
     }
 }

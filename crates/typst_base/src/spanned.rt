@@ -33,7 +33,7 @@ impl SpanDetached for DiagSpan {
 
 /// A value with the span of the place that it came from.
 #[derive(Clone, Copy, PartialEq, Eq, Hash, Drop)]
-pub struct Spanned<T, S = Span> {
+pub struct Spanned<T, S: Copy + SpanDetached = Span> {
     /// The value.
     pub v: T,
     /// The place that it came from.
@@ -60,7 +60,7 @@ impl<T, S: Copy + SpanDetached> Spanned<T, S> {
         }
     }
 
-    /// The value behind a reference, with its span.
+    /// The value after a reference, with its span.
     pub fn as_ref(&self) -> Spanned<&T, S>
         ensures value { result.v.now ≡ self.now.v }
         ensures place { result.span ≡ self.now.span }
@@ -82,12 +82,9 @@ impl<T, S: Copy + SpanDetached> Spanned<T, S> {
     }
 }
 
-impl<T: fmt::Debug, S> fmt::Debug for Spanned<T, S> {
+impl<T: fmt::Debug, S: Copy + SpanDetached> fmt::Debug for Spanned<T, S> {
     /// Writes the value alone.
     fn fmt<W: fmt::Write>(&self, f: &mut fmt::Formatter<W>) -> fmt::Result {
         self.v.fmt(f)
     }
 }
-
-#[cfg(test)]
-mod tests;

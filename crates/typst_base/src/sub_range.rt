@@ -71,6 +71,3 @@ impl SubRange {
         self.start as usize + offset..self.end as usize + offset
     }
 }
-
-#[cfg(test)]
-mod tests;

@@ -19,7 +19,7 @@ use Rattle.typst_linked.specs.declared.cursor.Side.TheVariants.{Before, After}
 use Rattle.typst_linked.proofs.Covers.{child_begin, child_there}
 use Rattle.typst_node.proofs.FirstMatch.{bool_cases}
 use Rattle.typst_linked.proofs.Found.{option_cases, find_passes, is_there_value, last_there}
-use Rattle.typst_linked.proofs.LeafCovers.{childless_true, covers_tells, covers_when, covering_none, offset-append, text_within}
+use Rattle.typst_linked.proofs.LeafCovers.{childless_true, covers_tells, covers_when, covering_none, offset-append, place_covers, text_within}
 use Rattle.typst_linked.proofs.LeafWays.{some_and}
 use Rattle.typst_linked.proofs.Searching.{found_at, below-nothing}
 use Rattle.typst_node.proofs.Steps.{at-append}
@@ -208,3 +208,9 @@ pub last_there_is : (ts : List Tree) → (length ts ≡ 0 → ⊥) → (i : ℕ)
 last_there_is ts h =
     let c = child_there ts (length ts - 1) (omega arith) in
     (length ts - 1, c.0, c.1, omega arith)
+
+-- where a node begins it covers nothing before that
+pub start_uncovered : (p : Place) (t : Tree) → subtree p ≡ Some t → CoversCursor Before (begin_of p) p → ⊥
+start_uncovered p t h cover =
+    let own = covers_tells Before (begin_of p) (begin_of p) (begin_of p + length (text t)) (place_covers Before (begin_of p) p t h cover) in
+    omega (arith, own.0)

@@ -72,20 +72,22 @@ covering_next Before cursor p i cover = inl cover
 covering_next After cursor p i cover = cover
 
 -- the search ends here
-pub way_end : (side : Side) (cursor old new : ℕ) (p : Place) (t : Tree) → subtree p ≡ Some t → new ≤ old + binary_digits (length (trees t.children)) → HasWay side cursor p old new
-way_end side cursor old new p t h cost = record {
+pub way_end : (side : Side) (cursor old new : ℕ) (p : Place) (t : Tree) → subtree p ≡ Some t → new ≤ old + binary_digits (length (trees t.children)) → old ≤ new → HasWay side cursor p old new
+way_end side cursor old new p t h cost grows = record {
   path = [];
   way = tt;
   most = λ u hu. subst (λ (v : Tree). new ≤ old + weight_along binary_digits [] v) (same_node t u p h hu) (omega (arith, cost, weight_along-root binary_digits t));
+  each = λ cover. omega (arith, grows);
 }
 
 -- the search goes on at a child
 pub way_on : (side : Side) (cursor old mid new i : ℕ) (p child : Place) (t c : Tree) → subtree p ≡ Some t → slice_get (trees t.children) i ≡ Some c → subtree child ≡ Some c → child ≡ child_place p i →
-    IsNextChild side cursor p i → mid ≤ old + binary_digits (length (trees t.children)) → HasWay side cursor child mid new → HasWay side cursor p old new
-way_on side cursor old mid new i p child t c h s hc e next cost more = record {
+    IsNextChild side cursor p i → mid ≤ old + binary_digits (length (trees t.children)) → (CoversCursor side cursor p → (old < mid) × CoversCursor side cursor child) → HasWay side cursor child mid new → HasWay side cursor p old new
+way_on side cursor old mid new i p child t c h s hc e next cost one more = record {
   path = i ∷ more.path;
   way = (next, subst (λ (q : Place). IsWay side cursor q more.path) e more.way);
   most = λ u hu. subst (λ (v : Tree). new ≤ old + weight_along binary_digits (i ∷ more.path) v) (same_node t u p h hu) (omega (arith, cost, more.most c hc, weight_along-cons binary_digits i more.path t c s));
+  each = λ cover. let step = one cover in omega (arith, step.0, more.each step.1);
 }
 
 -- ---- what is found

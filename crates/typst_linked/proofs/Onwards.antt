@@ -34,7 +34,7 @@ drop_all zero (x ∷ xs) h = absurd (omega arith)
 drop_all (suc n) [] h = refl
 drop_all (suc n) (x ∷ xs) h = drop_all n xs (omega arith)
 
--- the paths of a node's children behind the one with an index
+-- the paths of a node's children after the one with an index
 abbrev later : ℕ → Tree → List (List ℕ)
 later i m = paths_from (i + 1) (forest (drop (i + 1) (trees m.children)))
 
@@ -42,7 +42,7 @@ nothing_behind : (o : Option Tree) → listed_of (paths_behind []) o ≡ []
 nothing_behind None = refl
 nothing_behind (Some t) = refl
 
--- behind a child stand its later siblings, and then what is behind its parent
+-- after a child stand its later siblings, and then what is after its parent
 behind-push : (p : List ℕ) (i : ℕ) (t m : Tree) → at p t ≡ Some m → paths_behind (p ++ i ∷ []) t ≡ map (λ q. p ++ q) (later i m) ++ paths_behind p t
 behind-push [] i t m h =
     let h : Some t ≡ Some m = h in
@@ -66,7 +66,7 @@ behind_child parent m i h =
     ∙ (map-append there (map (λ q. parent.path ++ q) (later i m)) (paths_behind parent.path parent.root)
     ∙ ap (λ ps. ps ++ places_behind parent) (map_map there (λ q. parent.path ++ q) (later i m)))
 
--- a list of a child's paths and those of its later siblings is followed by what is behind the parent
+-- a list of a child's paths and those of its later siblings is followed by what is after the parent
 from_child : (parent : Place) (m e : Tree) (i : ℕ) (here : List (List ℕ)) → subtree parent ≡ Some m → slice_get (trees m.children) i ≡ Some e → here ≡ map (λ p. i ∷ p) (paths e) ++ later i m →
     map (below parent) here ++ places_behind parent ≡ places_from (child_place parent i)
 from_child parent m e i here hm he split =
@@ -96,13 +96,13 @@ first-more (tree l d r) c s =
     let same : record { label = l; children = d } ≡ c = cc in
     λ k. map (λ p. 0 ∷ p) (paths (same k)) ++ paths_from 1 (sym (forest-trees r) k)
 
--- a place, and then all behind it
+-- a place, and then all after it
 head_first : (place : Place) (m : Tree) → subtree place ≡ Some m → places_from place ≡ place ∷ (map (below place) (paths_from 0 m.children) ++ places_behind place)
 head_first place m h =
     ap (λ o. listed_of (λ t. map (below place) (paths t)) o ++ places_behind place) h
     ∙ (λ k. record { root = place.root; path = append-nil place.path k } ∷ (map (below place) (paths_from 0 m.children) ++ places_behind place))
 
--- behind a node with children comes its first child
+-- after a node with children comes its first child
 pub onwards_child : (place next : Place) (m : Tree) (kids : List Tree) → subtree place ≡ Some m → kids ≡ trees m.children → 0 < length kids → next ≡ child_place place 0 → places_from place ≡ place ∷ places_from next
 onwards_child place next m kids h e some is =
     let s : slice_get (trees m.children) 0 ≡ Some (get_or (trees m.children) 0 no_tree) = slice_get-get_or (trees m.children) 0 no_tree (omega (arith, ap length e)) in
@@ -113,26 +113,26 @@ no_item : {A : Type 0} (xs : List A) → length xs ≡ 0 → xs ≡ []
 no_item [] h = refl
 no_item (x ∷ xs) h = absurd (omega arith)
 
--- behind a node without children comes what is behind its subtree
+-- after a node without children comes what is after its subtree
 pub onwards_leaf : (place : Place) (m : Tree) (kids : List Tree) → subtree place ≡ Some m → kids ≡ trees m.children → length kids ≡ 0 → places_from place ≡ place ∷ places_behind place
 onwards_leaf place m kids h e empty =
     let bare : m.children ≡ none = sym (forest-trees m.children) ∙ ap forest (sym e ∙ no_item kids empty) in
     head_first place m h ∙ ap (λ f. place ∷ (map (below place) (paths_from 0 f) ++ places_behind place)) bare
 
--- behind a child's subtree comes the next child
+-- after a child's subtree comes the next child
 pub beyond_sibling : (place parent next : Place) (m : Tree) (kids : List Tree) (i : ℕ) → subtree parent ≡ Some m → kids ≡ trees m.children → place ≡ child_place parent i → i + 1 < length kids → next ≡ child_place parent (i + 1) → places_behind place ≡ places_from next
 beyond_sibling place parent next m kids i h e here within is =
     let s : slice_get (trees m.children) (i + 1) ≡ Some (get_or (trees m.children) (i + 1) no_tree) = slice_get-get_or (trees m.children) (i + 1) no_tree (omega (arith, ap length e)) in
     ap places_behind here ∙ (behind_child parent m i h
     ∙ (from_child parent m (get_or (trees m.children) (i + 1) no_tree) (i + 1) (later i m) h s (later-more m (get_or (trees m.children) (i + 1) no_tree) i s) ∙ ap places_from (sym is)))
 
--- and behind the last one what is behind the parent's subtree
+-- and after the last one what is after the parent's subtree
 pub beyond_parent : (place parent : Place) (m : Tree) (kids : List Tree) (i : ℕ) → subtree parent ≡ Some m → kids ≡ trees m.children → place ≡ child_place parent i → length kids ≤ i + 1 → places_behind place ≡ places_behind parent
 beyond_parent place parent m kids i h e here past =
     ap places_behind here ∙ (behind_child parent m i h
     ∙ ap (λ us. map (below parent) (paths_from (i + 1) (forest us)) ++ places_behind parent) (drop_all (i + 1) (trees m.children) (omega (arith, ap length e))))
 
--- what comes behind a place without children is the first place behind its subtree
+-- what comes after a place without children is the first place after its subtree
 pub behind_leaf : (place : Place) (result : Result (Option Place) AllocError) → places_from place ≡ place ∷ places_behind place →
     IfOk result (λ next. MatchOption next (places_behind place ≡ []) (λ p. places_behind place ≡ places_from p)) →
     IfOk result (λ next. MatchOption next (places_from place ≡ place ∷ []) (λ p. places_from place ≡ place ∷ places_from p))

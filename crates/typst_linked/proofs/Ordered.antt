@@ -12,7 +12,7 @@ use Rattle.typst_node.proofs.Within.{within_le}
 use Rattle.typst_node.proofs.Ordered.{within_from_numbered}
 use Rattle.typst_node.proofs.Steps.{if_some_value}
 
--- the children of a node are numbered one behind the other, up to its bound
+-- the children of a node are numbered one after the other, up to its bound
 abbrev pub IsInOrder : ℕ → Tree → Type 0
 IsInOrder file t = IsWithin file (number t.label + 1) (bound t.label) t.children
 

@@ -1,4 +1,4 @@
--- The stops behind and before a path, one level after the other.
+-- The stops after and before a path, one level after the other.
 use Rattle.std.proofs.Common.{◌≡◌, ℕ, suc, zero, ◌+◌, ◌≤◌, List, [], ◌∷◌, ◌++◌, length, map, drop, Option, None, Some, Bool, true, false, ◌&&◌, cond, inl, inr, refl, sym, ◌∙◌, ap, arith, add-one, drop-cons}
 use Rattle.std.specs.Prelude.{slice_get}
 use Rattle.std.proofs.lemmas.Option.{slice_get_within, get_or_from_slice_get}
@@ -22,7 +22,7 @@ use Rattle.typst_node.proofs.SamePaths.{any_below, none_below, same_below}
 use Rattle.typst_node.proofs.Listed.{listed}
 use Rattle.typst_linked.proofs.Found.{find_none, option_cases}
 
--- the trees behind an index, with the index of the first of them
+-- the trees after an index, with the index of the first of them
 abbrev paths_behind : ℕ → Forest → ℕ → List (List ℕ)
 paths_behind k f i = paths_from (k + i + 1) (forest (drop (i + 1) (trees f)))
 
@@ -38,7 +38,7 @@ behind_later k l d r i =
     let n : suc (i + 1) ≡ suc i + 1 = omega arith in
     ap (λ j. paths_from j (forest (drop (i + 1) (trees r)))) e ∙ ap (λ j. paths_from (k + suc i + 1) (forest (drop j (trees (tree l d r))))) n
 
--- what is listed behind a path: what is listed behind the rest of it below its first step, and the trees behind that
+-- what is listed after a path: what is listed after the rest of it below its first step, and the trees after that
 pub after_from : (k : ℕ) (f : Forest) (i : ℕ) (q : List ℕ) (c m : Tree) → slice_get (trees f) i ≡ Some c → at q c ≡ Some m →
     after_first (is_same_path ((k + i) ∷ q)) (paths_from k f) ≡ map (λ p. (k + i) ∷ p) (after_first (is_same_path q) (paths c)) ++ paths_behind k f i
 after_from k none i q c m s h = absurd (let s : None ≡ Some c = s in cc)
@@ -94,11 +94,11 @@ stop_below t c i p q s = elim (eqb_tells i i) [
       ∙ (λ x. solid_below t c i (branch p q) s x && is_there is_good (if_some (at q) (s x)))
 ]
 
--- nothing stands behind a root
+-- nothing stands after a root
 pub stop_behind-root : (t : Tree) → stop_behind t [] ≡ None
 stop_behind-root t = find_none (is_stop t []) (after_first (is_same_path []) (paths t)) (λ q. refl)
 
--- the stop behind a path: that below its first step, else one of the later children
+-- the stop after a path: that below its first step, else one of the later children
 pub stop_behind-cons : (t c m : Tree) (i : ℕ) (q : List ℕ) → slice_get (trees t.children) i ≡ Some c → at q c ≡ Some m → stop_behind t (i ∷ q) ≡ option_or (option_map (λ p. i ∷ p) (stop_behind c q)) (later_from t (i + 1))
 stop_behind-cons t c m i q s h =
     let z : i ≡ 0 + i = omega arith in
@@ -131,7 +131,7 @@ pub map_same : (o : Option (List ℕ)) → option_or None o ≡ option_or (optio
 map_same None = refl
 map_same (Some s) = refl
 
--- the stop behind a child: in a later sibling, else behind the parent
+-- the stop after a child: in a later sibling, else after the parent
 pub stop_behind-push : (p : List ℕ) (i : ℕ) (t m c : Tree) → at p t ≡ Some m → slice_get (trees m.children) i ≡ Some c →
     stop_behind t (p ++ i ∷ []) ≡ option_or (option_map (λ q. p ++ q) (later_from m (i + 1))) (stop_behind t p)
 stop_behind-push [] i t m c h s =
@@ -188,7 +188,7 @@ later_miss p n c start i h s solid sofar e =
 pub later_none : (p : Place) (n : Tree) (start i : ℕ) → subtree p ≡ Some n → length (trees n.children) ≤ i → later_from n start ≡ later_from n i → None ≡ found_below (λ t. later_from t start) p
 later_none p n start i h l sofar = sym (found_at (λ t. later_from t start) p n None h (sofar ∙ later_end n i l))
 
--- the stop behind a child is in a later sibling, or it is that behind the parent
+-- the stop after a child is in a later sibling, or it is that after the parent
 pub next_hit : (p : Place) (i : ℕ) (m c : Tree) (leaf : Place) → subtree p ≡ Some m → slice_get (trees m.children) i ≡ Some c → Some leaf ≡ found_below (λ t. later_from t (i + 1)) p → Some leaf ≡ elsewhere stop_behind (child_place p i)
 next_hit p i m c leaf h s e = elim (option_cases (later_from m (i + 1))) [
   | inl absent ↦

@@ -1,4 +1,4 @@
--- Children whose numbers rise, and the place behind a floor among them.
+-- Children whose numbers rise, and the place after a floor among them.
 use Rattle.std.specs.Prelude.{ℕ, ◌+◌, ◌<◌, ◌≤◌, ◌≡◌, List, Option, None, Some, slice_get}
 use Rattle.typst_node.specs.Tree.{Tree}
 use Rattle.typst_node.specs.Labels.{number}

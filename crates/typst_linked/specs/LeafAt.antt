@@ -11,12 +11,12 @@ use Rattle.typst_linked.specs.Ranges.{begin_of}
 use Rattle.typst_linked.specs.declared.cursor.Side.{Side}
 use Rattle.typst_linked.specs.declared.cursor.Side.TheVariants.{Before, After}
 
--- whether a text with this end reaches the cursor: up to it, or behind it
+-- whether a text with this end reaches the cursor: up to it, or after it
 abbrev pub reaches_cursor : Side → ℕ → ℕ → Bool
 reaches_cursor Before cursor end = nat_le cursor end
 reaches_cursor After cursor end = nat_lt cursor end
 
--- whether a text that begins and ends here covers the cursor: it has the byte before it, or the byte behind it
+-- whether a text that begins and ends here covers the cursor: it has the byte before it, or the byte after it
 abbrev pub covers_cursor : Side → ℕ → ℕ → ℕ → Bool
 covers_cursor Before cursor begin end = nat_lt begin cursor && nat_le cursor end
 covers_cursor After cursor begin end = nat_le begin cursor && nat_lt cursor end

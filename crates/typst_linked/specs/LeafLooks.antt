@@ -25,12 +25,13 @@ abbrev pub IsWay : Side → ℕ → Place → List ℕ → Type 0
 IsWay side cursor place [] = Unit {0}
 IsWay side cursor place (i ∷ path) = IsNextChild side cursor place i × IsWay side cursor (child_place place i) path
 
--- Since so many looks, the search has read at most as many ends as the numbers of children of the nodes on its way have
--- binary digits.
+-- Since so many looks, the search has read at most as many ends as the numbers of children of the nodes on its way, down to
+-- the last one that it reached, have binary digits. Where the first of them covers the cursor, each step took at least one.
 pub record HasWay (side : Side) (cursor : ℕ) (place : Place) (old new : ℕ) : Type 0 where
   pub path : List ℕ
   pub way : IsWay side cursor place path
   pub most : ForSome (subtree place) (λ t. new ≤ old + weight_along binary_digits path t)
+  pub each : CoversCursor side cursor place → old + length path ≤ new
 
 -- an answer that covers the cursor takes at least one look a step
 abbrev pub HasLookEachCover : Side → ℕ → Place → ℕ → Option Place → Type 0

@@ -38,7 +38,7 @@ leads_to_solid t (Some b) = is_there is_solid (at b t)
 abbrev pub is_stop : Tree → List ℕ → List ℕ → Bool
 is_stop t path other = leads_to_solid t (branch path other) && is_there is_good (at other t)
 
--- the first stop behind a path in preorder, and the last one before it
+-- the first stop after a path in preorder, and the last one before it
 abbrev pub stop_behind : Tree → List ℕ → Option (List ℕ)
 stop_behind t path = find (is_stop t path) (after_first (is_same_path path) (paths t))
 

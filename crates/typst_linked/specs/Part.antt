@@ -1,4 +1,4 @@
--- The first of some trees, one behind the other, whose text ends at or behind a goal.
+-- The first of some trees, one after the other, whose text ends at or after a goal.
 use Rattle.std.specs.Prelude.{ℕ, ◌+◌, ◌<◌, ◌≤◌, ◌≡◌, List, length, take, Some, slice_get}
 use Rattle.typst_node.specs.Tree.{Tree, trees}
 use Rattle.typst_node.specs.Text.{own_text, text_of_all}
@@ -8,7 +8,7 @@ use Rattle.typst_linked.specs.declared.floor.Part.{Part}
 abbrev pub begin_at : List Tree → ℕ → ℕ
 begin_at ts i = length (text_of_all (take i ts))
 
--- this tree's text ends at or behind the goal, and that of each tree before it ends before the goal
+-- this tree's text ends at or after the goal, and that of each tree before it ends before the goal
 pub record IsFirstEnding (goal : ℕ) (ts : List Tree) (part : Part) : Type 0 where
   pub within : part.index < length ts
   pub begin_is : part.begin ≡ begin_at ts part.index

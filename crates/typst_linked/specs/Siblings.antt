@@ -40,8 +40,8 @@ parent_tree place = parent_at place.root place.path
 abbrev pub siblings : Place → List Tree
 siblings place = children_of (parent_tree place)
 
--- The index of another tree of a list, seen from an index: of the tree directly before, of the one directly behind,
--- of the nearest before whose kind isn't trivia, and of the nearest behind.
+-- The index of another tree of a list, seen from an index: of the tree directly before, of the one directly after,
+-- of the nearest before whose kind isn't trivia, and of the nearest after.
 abbrev pub before_it : ℕ → List Tree → Option ℕ
 before_it zero ts = None
 before_it (suc i) ts = Some i

@@ -6,6 +6,7 @@ ghost use Rattle.typst_linked.specs.Children.{IsAllOf, GivesFirst, GivesLast};
 
 use crate::node::LinkedNode;
 use std::alloc::AllocError;
+use std::iter::FusedIterator;
 use std::marker::Model;
 use std::rc::Rc;
 
@@ -91,3 +92,5 @@ impl<'a> ExactSizeIterator for LinkedChildren<'a> {
         self.to - self.from
     }
 }
+
+impl<'a> FusedIterator for LinkedChildren<'a> {}

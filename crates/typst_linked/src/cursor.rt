@@ -20,7 +20,7 @@ use std::ops::Range;
 pub enum Side {
     /// The leaf that has the byte before the cursor.
     Before,
-    /// The leaf that has the byte behind the cursor.
+    /// The leaf that has the byte after the cursor.
     After,
 }
 
@@ -70,7 +70,7 @@ impl Side {
 /// # The leaf at a cursor
 impl<'a> LinkedNode<'a> {
     /// The leaf at a cursor, in bytes from the beginning of the root's text: the node without children below this one
-    /// that has the byte before the cursor, or behind it.
+    /// that has the byte before the cursor, or after it.
     ///
     /// For [`Side::Before`] where there is no such byte in this node's text, it is the last node without children, if
     /// that begins at the cursor. Trivia and errors aren't skipped. If this node has no children, it is asked alone, and
@@ -100,6 +100,7 @@ impl<'a> LinkedNode<'a> {
         ensures steps { IfOk result (HasLookEachCover side cursor self.now looks.new) }
     {
         *looks = Looks::new();
+        // Read for the proof: the node count is a usize, so no count of looks along one path passes a u64.
         let _count = self.get().descendants();
         let range = self.range();
         if self.get().child_slice().is_empty() {

@@ -71,7 +71,7 @@ impl<'a> LinkedNode<'a> {
         ensures steps { IfOk result (HasLookEachStep self.now looks.new) }
     {
         *looks = Looks::new();
-        // The looks can be counted as the nodes can.
+        // Read for the proof: the node count is a usize, so no count of looks along one path passes a u64.
         let _count = self.get().descendants();
         let own = looks.number_of(self.get());
         if own == wanted {
@@ -91,7 +91,7 @@ impl<'a> LinkedNode<'a> {
     }
 
     /// The node with this range, in bytes from the beginning of the root's text: this node if its range is exactly that,
-    /// else what is found below the first child whose range covers it, else `None`. An empty node behind a nonempty
+    /// else what is found below the first child whose range covers it, else `None`. An empty node after a nonempty
     /// sibling is missed.
     pub fn find_range(
         &self,
@@ -109,6 +109,7 @@ impl<'a> LinkedNode<'a> {
         ensures { (t : Tree) → subtree self.now ≡ Some t → (IsTrue result ↔ ((begin_of self.now ≡ start) × (begin_of self.now + length (text t) ≡ end))) }
     {
         let range = self.range();
+        // Read for the proof: a node stands at this place, whose length gives the range's end.
         let _node = self.get();
         range.start == start && range.end == end
     }

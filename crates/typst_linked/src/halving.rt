@@ -38,7 +38,7 @@ pub(crate) fn last_up_to(nodes: &[SyntaxNode], wanted: u64, looks: &mut Looks) -
     floor
 }
 
-// The first child whose text ends at or behind a goal, in bytes from the beginning of the children's text, and where it
+// The first child whose text ends at or after a goal, in bytes from the beginning of the children's text, and where it
 // begins. No end is read twice.
 pub(crate) fn first_ending(node: &SyntaxNode, goal: usize, looks: &mut Looks) -> Option<Part>
     requires { looks.old + length (trees node.now.children) < 2 ^ 64 }

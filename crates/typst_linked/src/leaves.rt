@@ -69,11 +69,12 @@ impl<'a> LinkedNode<'a> {
         Ok(None)
     }
 
-    /// The first good leaf behind this node's subtree, among the later siblings, then among those of the parent, and so
+    /// The first good leaf after this node's subtree, among the later siblings, then among those of the parent, and so
     /// on outwards. A sibling whose kind is trivia is passed over whole.
     pub fn next_leaf(&self, alloc: Global) -> Result<Option<Self>, AllocError>
         ensures { IfOk result (λ r. r ≡ elsewhere stop_behind self.now) }
     {
+        // Read for the proof: a node stands at this place, and its index is at most the number of its siblings.
         let _node = self.get();
         let _siblings = self.siblings();
         let Some(parent) = self.shared_parent() else {
@@ -91,6 +92,7 @@ impl<'a> LinkedNode<'a> {
     pub fn prev_leaf(&self, alloc: Global) -> Result<Option<Self>, AllocError>
         ensures { IfOk result (λ r. r ≡ elsewhere stop_before self.now) }
     {
+        // Read for the proof: a node stands at this place, and its index is at most the number of its siblings.
         let _node = self.get();
         let _siblings = self.siblings();
         let Some(parent) = self.shared_parent() else {
@@ -113,9 +115,9 @@ impl<'a> LinkedNode<'a> {
         ensures { IfOk result (λ r. r ≡ found_below (λ t. earlier_up t end) parent.now.value) }
     {
         let children = parent.get().child_slice();
-        for index in (0..end).rev() {
-            if !children[index].kind().is_trivia() {
-                let child = LinkedNode::nth_child(parent, index)?;
+        for before in (0..end).rev() {
+            if !children[before].kind().is_trivia() {
+                let child = LinkedNode::nth_child(parent, before)?;
                 if let Some(leaf) = child.into_rightmost(alloc)? {
                     return Ok(Some(leaf));
                 }
@@ -150,6 +152,7 @@ fn is_good_leaf(node: &SyntaxNode) -> bool
     ensures good { IsTrue result ↔ (is_good node.now ≡ true) }
     ensures childless { IsTrue result → trees node.now.children ≡ [] }
 {
+    // Read for the proof: only an inner node has children, and a leaf or an error is none.
     let _children = node.child_slice();
     node.is_leaf() && !node.kind().is_trivia()
 }

@@ -29,5 +29,6 @@ mod leaves;
 mod looks;
 mod modes;
 mod node;
+mod path;
 mod preorder;
 mod siblings;

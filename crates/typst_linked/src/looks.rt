@@ -22,6 +22,16 @@ impl Model for Looks {
     ghost view = { λ a. a.count };
 }
 
+impl Default for Looks {
+    ghost use Rattle.std.specs.Prelude.{◌≡◌};
+
+    ghost is_default = { λ looks. looks ≡ 0 };
+
+    fn default() -> Looks {
+        Looks::new()
+    }
+}
+
 impl Looks {
     /// Nothing was read yet.
     pub fn new() -> Self

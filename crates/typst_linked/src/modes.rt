@@ -1,4 +1,4 @@
-// The mode of the parser behind a node.
+// The mode of the parser after a node.
 ghost use Rattle.std.specs.Prelude.{◌≡◌, Option, unwrap_or};
 ghost use Rattle.typst_base.specs.declared.mode.SyntaxMode.{SyntaxMode};
 ghost use Rattle.typst_linked.specs.Siblings.{before_it, sibling_kind};
@@ -11,7 +11,7 @@ use typst_base::{ModeAfter, SyntaxKind, SyntaxMode};
 ///
 /// They take no memory.
 impl<'a> LinkedNode<'a> {
-    /// The mode in which the text directly behind this node is read, or `None` where none is known.
+    /// The mode in which the text directly after this node is read, or `None` where none is known.
     ///
     /// It follows from the node's kind, as [`SyntaxKind::mode_after`] says. It takes at most one step for each ancestor.
     pub fn mode_after(&self) -> Option<SyntaxMode>
@@ -23,7 +23,7 @@ impl<'a> LinkedNode<'a> {
         self.parent()?.mode_after()
     }
 
-    /// The mode in which the text directly behind the parent is read, or `None` for a root.
+    /// The mode in which the text directly after the parent is read, or `None` for a root.
     pub fn parent_mode(&self) -> Option<SyntaxMode>
         ensures { result ≡ mode_behind_parent self.now }
     {
@@ -31,7 +31,7 @@ impl<'a> LinkedNode<'a> {
         parent.mode_after()
     }
 
-    // The mode behind this node, where it isn't that behind its parent.
+    // The mode after this node, where it isn't that after its parent.
     fn own_mode(&self) -> Option<Option<SyntaxMode>>
         ensures { (outer : Option SyntaxMode) → unwrap_or result outer ≡ mode_from outer self.now }
     {

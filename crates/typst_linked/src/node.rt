@@ -59,6 +59,7 @@ impl<'a> LinkedNode<'a> {
         ensures root { result.root ≡ root.now }
         ensures path { result.path ≡ [] }
     {
+        // Read for the proof: the root's length and node count are usizes, which bounds each offset and index below it.
         let _len = root.len();
         let _count = root.descendants();
         LinkedNode {
@@ -142,7 +143,7 @@ impl<'a> LinkedNode<'a> {
         Ok(LinkedChildren::new(parent))
     }
 
-    // The child with an index, whose text begins `begin` bytes behind the beginning of its parent's.
+    // The child with an index, whose text begins `begin` bytes after the beginning of its parent's.
     pub(crate) fn child_at(parent: Rc<LinkedNode<'a>>, index: usize, begin: usize) -> Self
         requires child { HasChild parent.value index }
         requires begin { BeginsAt parent.value index begin }

@@ -6,6 +6,7 @@ ghost use Rattle.typst_linked.specs.Onwards.{places_behind, places_from};
 
 use crate::node::LinkedNode;
 use std::alloc::{AllocError, Global};
+use std::iter::FusedIterator;
 use std::marker::Model;
 
 /// The nodes of a linked subtree in preorder: each node before its children, children from left to right.
@@ -48,7 +49,7 @@ impl<'a> LinkedNode<'a> {
         })
     }
 
-    // The node that comes behind this one in the preorder of the root.
+    // The node that comes after this one in the preorder of the root.
     fn following(&self, alloc: Global) -> Result<Option<Self>, AllocError>
         ensures { IfOk result (λ next. MatchOption next (places_from self.now ≡ self.now ∷ []) (λ place. places_from self.now ≡ self.now ∷ places_from place)) }
     {
@@ -58,10 +59,11 @@ impl<'a> LinkedNode<'a> {
         Ok(Some(self.clone()?.into_child(alloc, 0)?))
     }
 
-    // The first node behind this node's whole subtree.
+    // The first node after this node's whole subtree.
     fn beyond(&self) -> Result<Option<Self>, AllocError>
         ensures { IfOk result (λ next. MatchOption next (places_behind self.now ≡ []) (λ place. places_behind self.now ≡ places_from place)) }
     {
+        // Read for the proof: the index is at most the number of siblings, so the next one is a usize too.
         let _siblings = self.siblings();
         let Some(parent) = self.shared_parent() else {
             return Ok(None);
@@ -93,3 +95,5 @@ impl<'a> Iterator for LinkedPreorder<'a> {
         Some(Ok(here))
     }
 }
+
+impl<'a> FusedIterator for LinkedPreorder<'a> {}

@@ -20,7 +20,7 @@ impl<'a> LinkedNode<'a> {
         self.sibling_at(last_solid(self.siblings(), self.index()))
     }
 
-    /// The nearest sibling behind this node whose kind isn't trivia.
+    /// The nearest sibling after this node whose kind isn't trivia.
     pub fn next_sibling(&self) -> Result<Option<Self>, AllocError>
         ensures { IfOk result (λ r. r ≡ sibling solid_behind self.now) }
     {
@@ -31,11 +31,12 @@ impl<'a> LinkedNode<'a> {
     pub fn prev_sibling_with_trivia(&self) -> Result<Option<Self>, AllocError>
         ensures { IfOk result (λ r. r ≡ sibling before_it self.now) }
     {
+        // Read for the proof: the index is at most the number of siblings, so the sibling before it is there.
         let _siblings = self.siblings();
         self.sibling_at(self.index().checked_sub(1))
     }
 
-    /// The sibling directly behind this node, trivia or not.
+    /// The sibling directly after this node, trivia or not.
     pub fn next_sibling_with_trivia(&self) -> Result<Option<Self>, AllocError>
         ensures { IfOk result (λ r. r ≡ sibling behind_it self.now) }
     {
@@ -63,7 +64,7 @@ impl<'a> LinkedNode<'a> {
         Some(siblings[index].kind())
     }
 
-    /// The kind of the nearest sibling behind this node whose kind isn't trivia.
+    /// The kind of the nearest sibling after this node whose kind isn't trivia.
     pub fn next_sibling_kind(&self) -> Option<SyntaxKind>
         ensures { result ≡ sibling_kind solid_behind self.now }
     {
@@ -86,7 +87,7 @@ impl<'a> LinkedNode<'a> {
     }
 }
 
-// The index behind an index, if a node stands there.
+// The index after an index, if a node stands there.
 fn next_index(nodes: &[SyntaxNode], index: usize) -> Option<usize>
     requires { index ≤ length nodes.now }
     ensures index { result ≡ behind_it index nodes.now }
@@ -113,7 +114,7 @@ fn last_solid(nodes: &[SyntaxNode], index: usize) -> Option<usize>
     None
 }
 
-// The index of the first node behind an index whose kind isn't trivia.
+// The index of the first node after an index whose kind isn't trivia.
 fn first_solid(nodes: &[SyntaxNode], index: usize) -> Option<usize>
     requires { index ≤ length nodes.now }
     ensures index { result ≡ solid_behind index nodes.now }

@@ -1,91 +1,185 @@
 // The leaf at a cursor.
-use crate::trees::{inner, leaf, text_around_nothing, two_texts};
+use crate::asking::{Ask, Row, answer};
 use std::alloc::Global;
 use std::test::Fail;
 use typst_base::SyntaxKind;
+use typst_drawn::{DrawingError, drawn};
 use typst_linked::{LinkedNode, Looks, Side};
 use typst_node::SyntaxNode;
 
+const SPACED: &str = "Markup[ Text:ab Space:~ Text:c ]";
+
+const AROUND_NOTHING: &str = "Markup[ Text:ab Markup[ ] Text:c ]";
+
+/// The text `#let x = 10`.
+const BINDING: &str =
+    "Markup[ Hash:# LetBinding[ Let:let Space:~ Ident:x Space:~ Eq:= Space:~ Int:10 ] ]";
+
+/// The text `#set text(12pt, red)`.
+const RULE: &str =
+    "Markup[ Hash:# SetRule[ Set:set Space:~ Ident:text Args[ LeftParen:( Numeric:12pt Comma:, Space:~ Ident:red RightParen:) ] ] ]";
+
+const CURSORS: [Row; 26] = [
+    (
+        "a leaf ends at a cursor",
+        SPACED,
+        &[],
+        Ask::Before(2),
+        r#"[0] 0..2 Text: "ab""#,
+    ),
+    (
+        "a leaf begins at it",
+        SPACED,
+        &[],
+        Ask::After(2),
+        r#"[1] 2..3 Space: " ""#,
+    ),
+    (
+        "the leaf after it lies over the blank",
+        SPACED,
+        &[0],
+        Ask::NextLeaf,
+        r#"[2] 3..4 Text: "c""#,
+    ),
+    ("nothing before the begin", SPACED, &[], Ask::Before(0), "-"),
+    ("nothing after the end", SPACED, &[], Ask::After(4), "-"),
+    (
+        "a lone leaf stands before its begin",
+        "Markup[ Text:ab ]",
+        &[],
+        Ask::Before(0),
+        r#"[0] 0..2 Text: "ab""#,
+    ),
+    (
+        "an empty child is passed over before",
+        AROUND_NOTHING,
+        &[],
+        Ask::Before(2),
+        r#"[0] 0..2 Text: "ab""#,
+    ),
+    (
+        "and after",
+        AROUND_NOTHING,
+        &[],
+        Ask::After(2),
+        r#"[2] 2..3 Text: "c""#,
+    ),
+    (
+        "the last leaf stands before where all before is empty",
+        "Markup[ Markup[ Text: Text:ab ] ]",
+        &[],
+        Ask::Before(0),
+        r#"[0, 1] 0..2 Text: "ab""#,
+    ),
+    (
+        "but not where the last child goes on",
+        "Markup[ Text: Markup[ Text:ab Text:c ] ]",
+        &[],
+        Ask::Before(0),
+        "-",
+    ),
+    (
+        "a leaf is asked alone: before its begin",
+        SPACED,
+        &[2],
+        Ask::Before(0),
+        r#"[2] 3..4 Text: "c""#,
+    ),
+    (
+        "at its end",
+        SPACED,
+        &[2],
+        Ask::Before(4),
+        r#"[2] 3..4 Text: "c""#,
+    ),
+    ("past its end", SPACED, &[2], Ask::Before(5), "-"),
+    (
+        "within it",
+        SPACED,
+        &[2],
+        Ask::After(3),
+        r#"[2] 3..4 Text: "c""#,
+    ),
+    ("not after its end", SPACED, &[2], Ask::After(4), "-"),
+    (
+        "a blank before a cursor",
+        BINDING,
+        &[],
+        Ask::Before(9),
+        r#"[1, 5] 8..9 Space: " ""#,
+    ),
+    (
+        "and the leaf before it",
+        BINDING,
+        &[1, 5],
+        Ask::PrevLeaf,
+        r#"[1, 4] 7..8 Eq: "=""#,
+    ),
+    (
+        "and after it",
+        BINDING,
+        &[1, 5],
+        Ask::NextLeaf,
+        r#"[1, 6] 9..11 Int: "10""#,
+    ),
+    (
+        "a number after the cursor",
+        BINDING,
+        &[],
+        Ask::After(9),
+        r#"[1, 6] 9..11 Int: "10""#,
+    ),
+    (
+        "and the leaf before that",
+        BINDING,
+        &[1, 6],
+        Ask::PrevLeaf,
+        r#"[1, 4] 7..8 Eq: "=""#,
+    ),
+    ("and none after it", BINDING, &[1, 6], Ask::NextLeaf, "-"),
+    (
+        "a leaf around a cursor is before it",
+        RULE,
+        &[],
+        Ask::Before(7),
+        r#"[1, 2] 5..9 Ident: "text""#,
+    ),
+    (
+        "and after it",
+        RULE,
+        &[],
+        Ask::After(7),
+        r#"[1, 2] 5..9 Ident: "text""#,
+    ),
+    (
+        "its sibling",
+        RULE,
+        &[1, 2],
+        Ask::PrevSibling,
+        r#"[1, 0] 1..4 Set: "set""#,
+    ),
+    (
+        "and the leaf before it",
+        RULE,
+        &[1, 2],
+        Ask::PrevLeaf,
+        r#"[1, 0] 1..4 Set: "set""#,
+    ),
+    (
+        "a cursor three levels deep",
+        RULE,
+        &[],
+        Ask::After(12),
+        r#"[1, 3, 1] 10..14 Numeric: "12pt""#,
+    ),
+];
+
 #[test]
 fn a_leaf_stands_on_each_side_of_a_cursor(rt: HostRuntime) -> Result<(), Fail> {
-    let alloc = rt.alloc();
-    let a = leaf(alloc, SyntaxKind::Text, "ab")?;
-    let space = leaf(alloc, SyntaxKind::Space, " ")?;
-    let c = leaf(alloc, SyntaxKind::Text, "c")?;
-    let tree = inner(alloc, SyntaxKind::Markup, vec![in alloc; a, space, c]?)?;
-    let root = LinkedNode::new(&tree);
-    let before = root.leaf_at(alloc, 2, Side::Before)?.ok_or("no leaf")?;
-    assert_eq!(rt; before.leaf_text(), "ab");
-    assert_eq!(rt; before.next_leaf(alloc)?.ok_or("no leaf")?.leaf_text(), "c");
-    let after = root.leaf_at(alloc, 2, Side::After)?.ok_or("no leaf")?;
-    assert_eq!(rt; after.kind(), SyntaxKind::Space);
-    assert!(rt; root.leaf_at(alloc, 0, Side::Before)?.is_none());
-    assert!(rt; root.leaf_at(alloc, 4, Side::After)?.is_none());
-    Ok(())
-}
-
-#[test]
-fn a_lone_leaf_stands_before_its_begin(rt: HostRuntime) -> Result<(), Fail> {
-    let alloc = rt.alloc();
-    let ab = leaf(alloc, SyntaxKind::Text, "ab")?;
-    let tree = inner(alloc, SyntaxKind::Markup, vec![in alloc; ab]?)?;
-    let root = LinkedNode::new(&tree);
-    let found = root.leaf_at(alloc, 0, Side::Before)?.ok_or("no leaf")?;
-    assert_eq!(rt; found.leaf_text(), "ab");
-    let tree = text_around_nothing(alloc)?;
-    let root = LinkedNode::new(&tree);
-    if tree.child_slice().len() != 3 {
-        return Err("not three children")?;
+    for (shows, drawing, path, ask, wanted) in &CURSORS {
+        let said = answer(rt.alloc(), drawing, path, ask)?;
+        assert_eq!(rt; said.as_str(), *wanted, "{shows}");
     }
-    assert_eq!(rt; tree.child_end(0), 2);
-    assert_eq!(rt; tree.child_end(1), 2);
-    assert_eq!(rt; tree.child_end(2), 3);
-    assert_eq!(rt;
-        root.leaf_at(alloc, 2, Side::Before)?
-            .ok_or("no leaf")?
-            .leaf_text(),
-        "ab"
-    );
-    assert_eq!(rt;
-        root.leaf_at(alloc, 2, Side::After)?
-            .ok_or("no leaf")?
-            .leaf_text(),
-        "c"
-    );
-    Ok(())
-}
-
-#[test]
-fn the_last_leaf_stands_before_where_all_before_is_empty(rt: HostRuntime) -> Result<(), Fail> {
-    let alloc = rt.alloc();
-    let nothing = leaf(alloc, SyntaxKind::Text, "")?;
-    let ab = leaf(alloc, SyntaxKind::Text, "ab")?;
-    let body = inner(alloc, SyntaxKind::Markup, vec![in alloc; nothing, ab]?)?;
-    let tree = inner(alloc, SyntaxKind::Markup, vec![in alloc; body]?)?;
-    let root = LinkedNode::new(&tree);
-    let found = root.leaf_at(alloc, 0, Side::Before)?.ok_or("no leaf")?;
-    assert_eq!(rt; found.leaf_text(), "ab");
-    let nothing = leaf(alloc, SyntaxKind::Text, "")?;
-    let body = two_texts(alloc)?;
-    let tree = inner(alloc, SyntaxKind::Markup, vec![in alloc; nothing, body]?)?;
-    let root = LinkedNode::new(&tree);
-    assert!(rt; root.leaf_at(alloc, 0, Side::Before)?.is_none());
-    Ok(())
-}
-
-#[test]
-fn a_node_without_children_is_asked_alone(rt: HostRuntime) -> Result<(), Fail> {
-    let alloc = rt.alloc();
-    let tree = two_texts(alloc)?;
-    let c = LinkedNode::new(&tree)
-        .rightmost_leaf(alloc)?
-        .ok_or("no leaf")?;
-    assert_eq!(rt; c.range(), 2..3);
-    assert!(rt; c.leaf_at(alloc, 0, Side::Before)?.is_some());
-    assert!(rt; c.leaf_at(alloc, 3, Side::Before)?.is_some());
-    assert!(rt; c.leaf_at(alloc, 4, Side::Before)?.is_none());
-    assert!(rt; c.leaf_at(alloc, 2, Side::After)?.is_some());
-    assert!(rt; c.leaf_at(alloc, 3, Side::After)?.is_none());
     Ok(())
 }
 
@@ -106,138 +200,79 @@ fn plain_leaf(tree: &SyntaxNode, cursor: usize, side: Side) -> Option<usize> {
     None
 }
 
-#[test]
-fn each_cursor_has_its_leaf(rt: HostRuntime) -> Result<(), Fail> {
-    let alloc = rt.alloc();
-    let ab = leaf(alloc, SyntaxKind::Text, "ab")?;
-    let nothing = inner(alloc, SyntaxKind::Markup, Vec::new(alloc))?;
-    let space = leaf(alloc, SyntaxKind::Space, " ")?;
-    let empty = leaf(alloc, SyntaxKind::Text, "")?;
-    let c = leaf(alloc, SyntaxKind::Text, "c")?;
-    let children = vec![in alloc; ab, nothing, space, empty, c]?;
-    let tree = inner(alloc, SyntaxKind::Markup, children)?;
-    let root = LinkedNode::new(&tree);
-    for cursor in 0..6usize {
+/// Whether each cursor below the limit has on either side the leaf that a plain walk finds, by few looks.
+fn are_found(
+    alloc: Global,
+    tree: &SyntaxNode,
+    limit: usize,
+    most: u64,
+) -> Result<bool, DrawingError> {
+    let root = LinkedNode::new(tree);
+    let mut looks = Looks::new();
+    for cursor in 0..limit {
         for side in [Side::Before, Side::After] {
-            let found = root.leaf_at(alloc, cursor, side)?;
+            let found = root.leaf_at_counted(alloc, cursor, side, &mut looks)?;
             let index = found.as_ref().map(|node| node.index());
-            assert_eq!(rt; index, plain_leaf(&tree, cursor, side));
+            let same = root.leaf_at(alloc, cursor, side)?;
+            let again = same.as_ref().map(|node| node.index());
+            let plain = plain_leaf(tree, cursor, side);
+            if index != plain || again != plain || looks.count() > most {
+                return Ok(false);
+            }
         }
     }
+    Ok(true)
+}
+
+#[test]
+fn each_cursor_has_its_leaf(rt: HostRuntime) -> Result<(), Fail> {
+    let tree = drawn(
+        rt.alloc(),
+        "Markup[ Text:ab Markup[ ] Space:~ Text: Text:c ]",
+    )?;
+    assert!(rt; are_found(rt.alloc(), &tree, 6, 3)?);
     Ok(())
 }
 
 /// Markup of a thousand texts `ab`.
-fn thousand_texts(alloc: Global) -> Result<SyntaxNode, Fail> {
+pub(crate) fn thousand_texts(alloc: Global) -> Result<SyntaxNode, DrawingError> {
     let mut leaves = Vec::new(alloc);
     for _ in 0..1000 {
-        leaves.push(leaf(alloc, SyntaxKind::Text, "ab")?)?;
+        leaves.push(SyntaxNode::leaf(alloc, SyntaxKind::Text, "ab")?)?;
     }
-    inner(alloc, SyntaxKind::Markup, leaves)
+    Ok(SyntaxNode::inner(alloc, SyntaxKind::Markup, leaves)?)
 }
 
 #[test]
-fn ends_are_read_by_halving(rt: HostRuntime) -> Result<(), Fail> {
-    let alloc = rt.alloc();
-    let tree = thousand_texts(alloc)?;
+fn each_offset_of_a_thousand_leaves_is_found_by_halving(rt: HostRuntime) -> Result<(), Fail> {
+    let tree = thousand_texts(rt.alloc())?;
     assert_eq!(rt; tree.child_slice().len(), 1000);
     assert_eq!(rt; (tree.child_end(499), tree.child_end(999)), (1000, 2000));
-    let root = LinkedNode::new(&tree);
+    assert!(rt; are_found(rt.alloc(), &tree, 2002, 10)?);
+    Ok(())
+}
+
+/// How many ends a search reads for the leaf at offset 1000, and how many that leaf's own search reads.
+fn looked(alloc: Global, tree: &SyntaxNode, cursor: usize) -> Result<[u64; 2], DrawingError> {
     let mut looks = Looks::new();
-    let found = root
-        .leaf_at_counted(alloc, 1001, Side::Before, &mut looks)?
-        .ok_or("no leaf")?;
-    assert_eq!(rt; found.offset(), 1000);
-    assert!(rt; 1 <= looks.count() && looks.count() <= 10);
-    let ab = found.leaf_at_counted(alloc, 1001, Side::Before, &mut looks)?;
-    assert!(rt; ab.is_some());
-    assert_eq!(rt; looks.count(), 0);
-    Ok(())
-}
-
-#[test]
-fn each_offset_of_a_thousand_leaves_is_found(rt: HostRuntime) -> Result<(), Fail> {
-    let alloc = rt.alloc();
-    let tree = thousand_texts(alloc)?;
-    let root = LinkedNode::new(&tree);
-    let mut looks = Looks::new();
-    for cursor in 0..2002usize {
-        for side in [Side::Before, Side::After] {
-            let found = root.leaf_at_counted(alloc, cursor, side, &mut looks)?;
-            assert!(rt; looks.count() <= 10);
-            let place = found.as_ref().map(|node| (node.index(), node.offset()));
-            let plain = plain_leaf(&tree, cursor, side);
-            assert_eq!(rt; place, plain.map(|index| (index, index.saturating_mul(2))));
-        }
+    let root = LinkedNode::new(tree);
+    let leaf = root.leaf_at_counted(alloc, cursor, Side::Before, &mut looks)?;
+    let leaf = leaf.ok_or(DrawingError::Nodes)?;
+    let first = looks.count();
+    let again = leaf.leaf_at_counted(alloc, cursor, Side::Before, &mut looks)?;
+    if again.map(|leaf| leaf.offset()) != Some(1000) {
+        return Err(DrawingError::Nodes);
     }
-    Ok(())
-}
-
-/// The text `#let x = 10`.
-fn let_binding(alloc: Global) -> Result<SyntaxNode, Fail> {
-    let hash = leaf(alloc, SyntaxKind::Hash, "#")?;
-    let keyword = leaf(alloc, SyntaxKind::Let, "let")?;
-    let first = leaf(alloc, SyntaxKind::Space, " ")?;
-    let x = leaf(alloc, SyntaxKind::Ident, "x")?;
-    let second = leaf(alloc, SyntaxKind::Space, " ")?;
-    let eq = leaf(alloc, SyntaxKind::Eq, "=")?;
-    let third = leaf(alloc, SyntaxKind::Space, " ")?;
-    let ten = leaf(alloc, SyntaxKind::Int, "10")?;
-    let parts = vec![in alloc; keyword, first, x, second, eq, third, ten]?;
-    let binding = inner(alloc, SyntaxKind::LetBinding, parts)?;
-    inner(alloc, SyntaxKind::Markup, vec![in alloc; hash, binding]?)
+    Ok([first, looks.count()])
 }
 
 #[test]
-fn a_space_stands_at_a_cursor(rt: HostRuntime) -> Result<(), Fail> {
-    let alloc = rt.alloc();
-    let tree = let_binding(alloc)?;
-    let root = LinkedNode::new(&tree);
-    let space = root.leaf_at(alloc, 9, Side::Before)?.ok_or("no leaf")?;
-    assert_eq!(rt; space.kind(), SyntaxKind::Space);
-    assert_eq!(rt; space.prev_leaf(alloc)?.ok_or("no leaf")?.leaf_text(), "=");
-    assert_eq!(rt; space.next_leaf(alloc)?.ok_or("no leaf")?.leaf_text(), "10");
-    let ten = root.leaf_at(alloc, 9, Side::After)?.ok_or("no leaf")?;
-    assert_eq!(rt; ten.leaf_text(), "10");
-    assert_eq!(rt; ten.prev_leaf(alloc)?.ok_or("no leaf")?.leaf_text(), "=");
-    assert!(rt; ten.next_leaf(alloc)?.is_none());
-    Ok(())
-}
-
-/// The text `#set text(12pt, red)`.
-fn set_rule(alloc: Global) -> Result<SyntaxNode, Fail> {
-    let hash = leaf(alloc, SyntaxKind::Hash, "#")?;
-    let keyword = leaf(alloc, SyntaxKind::Set, "set")?;
-    let space = leaf(alloc, SyntaxKind::Space, " ")?;
-    let text = leaf(alloc, SyntaxKind::Ident, "text")?;
-    let open = leaf(alloc, SyntaxKind::LeftParen, "(")?;
-    let size = leaf(alloc, SyntaxKind::Numeric, "12pt")?;
-    let comma = leaf(alloc, SyntaxKind::Comma, ",")?;
-    let between = leaf(alloc, SyntaxKind::Space, " ")?;
-    let red = leaf(alloc, SyntaxKind::Ident, "red")?;
-    let close = leaf(alloc, SyntaxKind::RightParen, ")")?;
-    let parts = vec![in alloc; open, size, comma, between, red, close]?;
-    let args = inner(alloc, SyntaxKind::Args, parts)?;
-    let parts = vec![in alloc; keyword, space, text, args]?;
-    let rule = inner(alloc, SyntaxKind::SetRule, parts)?;
-    inner(alloc, SyntaxKind::Markup, vec![in alloc; hash, rule]?)
-}
-
-#[test]
-fn a_leaf_around_a_cursor_is_on_both_sides(rt: HostRuntime) -> Result<(), Fail> {
-    let alloc = rt.alloc();
-    let tree = set_rule(alloc)?;
-    let root = LinkedNode::new(&tree);
-    for side in [Side::Before, Side::After] {
-        let text = root.leaf_at(alloc, 7, side)?.ok_or("no leaf")?;
-        assert_eq!(rt; text.leaf_text(), "text");
-        assert_eq!(rt; text.offset(), 5);
-        let sibling = text.prev_sibling()?.ok_or("no sibling")?;
-        assert_eq!(rt; sibling.leaf_text(), "set");
-        assert_eq!(rt; sibling.offset(), 1);
-        let before = text.prev_leaf(alloc)?.ok_or("no leaf")?;
-        assert_eq!(rt; before.leaf_text(), "set");
-        assert_eq!(rt; before.offset(), 1);
-    }
+fn looks_are_counted_anew(rt: HostRuntime) -> Result<(), Fail> {
+    assert_eq!(rt; Looks::new().count(), 0);
+    let tree = thousand_texts(rt.alloc())?;
+    let [first, again] = looked(rt.alloc(), &tree, 1001)?;
+    assert!(rt; 1 <= first && first <= 10);
+    // A leaf has no ends to read.
+    assert_eq!(rt; again, 0);
     Ok(())
 }

@@ -1,104 +1,462 @@
-// Children, siblings and preorder.
-use crate::trees::{strong_text, text_around_space, two_texts};
-use std::alloc::Global;
-use std::ops::Range;
+// Children, siblings, leaves and modes.
+use crate::asking::{Ask, Row, answer, at, place};
+use std::alloc::{AllocError, Global};
 use std::test::Fail;
-use typst_base::SyntaxKind;
+use typst_drawn::{DrawingError, drawn};
 use typst_linked::LinkedNode;
 
-#[test]
-fn a_child_knows_its_place(rt: HostRuntime) -> Result<(), Fail> {
-    let alloc = rt.alloc();
-    let tree = two_texts(alloc)?;
-    let root = LinkedNode::new(&tree);
-    assert_eq!(rt; root.index(), 0);
-    assert_eq!(rt; root.offset(), 0);
-    assert_eq!(rt; root.range(), 0..3);
-    assert!(rt; root.parent().is_none() && root.parent_kind().is_none());
-    let mut children = root.children(alloc)?;
-    assert_eq!(rt; children.len(), 2);
-    let last = children.next_back().ok_or("no last child")??;
-    let first = children.next().ok_or("no first child")??;
-    assert!(rt; children.next().is_none() && children.next_back().is_none());
-    assert_eq!(rt; first.range(), 0..2);
-    assert_eq!(rt; last.index(), 1);
-    assert_eq!(rt; last.range(), 2..3);
-    assert_eq!(rt; last.get().leaf_text(), "c");
-    assert_eq!(rt; last.leaf_text(), "c");
-    assert_eq!(rt; last.parent_kind(), Some(SyntaxKind::Markup));
-    let copy = last.clone()?;
-    assert_eq!(rt; copy.parent().ok_or("no parent")?.range(), 0..3);
-    Ok(())
-}
+const SPACED: &str = "Markup[ Text:a Space:~ Text:b ]";
+
+const STRONG: &str = "Markup[ Strong[ Star:* Markup[ Text:b ] Star:* ] Text:c ]";
+
+/// A sibling that is trivia, and no leaf.
+const HOLLOWED: &str = "Markup[ Text:a Space[ Text:b ] Text:c ]";
+
+const BROKEN: &str = "Markup[ Hash:# !e: Text:a !m:# Text:b ]";
+
+const SIBLINGS: [Row; 17] = [
+    ("a root has no parent", SPACED, &[], Ask::Parent, "-"),
+    (
+        "a root has no next sibling",
+        SPACED,
+        &[],
+        Ask::NextSibling,
+        "-",
+    ),
+    (
+        "a root has no sibling before it",
+        SPACED,
+        &[],
+        Ask::PrevWithTrivia,
+        "-",
+    ),
+    (
+        "a root's siblings and parent have no kinds",
+        SPACED,
+        &[],
+        Ask::Kinds,
+        "None None below None",
+    ),
+    (
+        "a child knows its place",
+        "Markup[ Text:ab Text:c ]",
+        &[1],
+        Ask::Itself,
+        r#"[1] 2..3 Text: "c""#,
+    ),
+    (
+        "a child knows its parent",
+        "Markup[ Text:ab Text:c ]",
+        &[1],
+        Ask::Parent,
+        r#"[] 0..3 Markup: 3 [Text: "ab", Text: "c"]"#,
+    ),
+    (
+        "a grandchild knows its parent",
+        STRONG,
+        &[0, 1, 0],
+        Ask::Parent,
+        r#"[0, 1] 1..2 Markup: 1 [Text: "b"]"#,
+    ),
+    (
+        "the next sibling passes over trivia",
+        SPACED,
+        &[0],
+        Ask::NextSibling,
+        r#"[2] 2..3 Text: "b""#,
+    ),
+    (
+        "the sibling before passes over trivia",
+        SPACED,
+        &[2],
+        Ask::PrevSibling,
+        r#"[0] 0..1 Text: "a""#,
+    ),
+    (
+        "trivia is a sibling after",
+        SPACED,
+        &[0],
+        Ask::NextWithTrivia,
+        r#"[1] 1..2 Space: " ""#,
+    ),
+    (
+        "trivia is a sibling before",
+        SPACED,
+        &[2],
+        Ask::PrevWithTrivia,
+        r#"[1] 1..2 Space: " ""#,
+    ),
+    (
+        "the first has none before it",
+        SPACED,
+        &[0],
+        Ask::PrevSibling,
+        "-",
+    ),
+    (
+        "the last has none after it",
+        SPACED,
+        &[2],
+        Ask::NextSibling,
+        "-",
+    ),
+    (
+        "kinds beside the first",
+        SPACED,
+        &[0],
+        Ask::Kinds,
+        "None Some(Text) below Some(Markup)",
+    ),
+    (
+        "kinds beside the last",
+        SPACED,
+        &[2],
+        Ask::Kinds,
+        "Some(Text) None below Some(Markup)",
+    ),
+    (
+        "kinds beside a blank",
+        SPACED,
+        &[1],
+        Ask::Kinds,
+        "Some(Text) Some(Text) below Some(Markup)",
+    ),
+    (
+        "siblings below the root stand at their offsets",
+        STRONG,
+        &[0, 0],
+        Ask::NextSibling,
+        r#"[0, 1] 1..2 Markup: 1 [Text: "b"]"#,
+    ),
+];
+
+const LEAVES: [Row; 18] = [
+    (
+        "the first leaf",
+        SPACED,
+        &[],
+        Ask::Leftmost,
+        r#"[0] 0..1 Text: "a""#,
+    ),
+    (
+        "the last leaf",
+        SPACED,
+        &[],
+        Ask::Rightmost,
+        r#"[2] 2..3 Text: "b""#,
+    ),
+    (
+        "the first leaf stands as deep as it is",
+        STRONG,
+        &[],
+        Ask::Leftmost,
+        r#"[0, 0] 0..1 Star: "*""#,
+    ),
+    (
+        "trivia is no leaf to step to",
+        SPACED,
+        &[1],
+        Ask::Leftmost,
+        "-",
+    ),
+    (
+        "the next leaf lies over trivia",
+        SPACED,
+        &[0],
+        Ask::NextLeaf,
+        r#"[2] 2..3 Text: "b""#,
+    ),
+    (
+        "the leaf before lies over trivia",
+        SPACED,
+        &[2],
+        Ask::PrevLeaf,
+        r#"[0] 0..1 Text: "a""#,
+    ),
+    ("no leaf after the last", SPACED, &[2], Ask::NextLeaf, "-"),
+    ("no leaf before the first", SPACED, &[0], Ask::PrevLeaf, "-"),
+    (
+        "the next leaf may lie above",
+        STRONG,
+        &[0, 2],
+        Ask::NextLeaf,
+        r#"[1] 3..4 Text: "c""#,
+    ),
+    (
+        "the leaf before may lie below",
+        STRONG,
+        &[1],
+        Ask::PrevLeaf,
+        r#"[0, 2] 2..3 Star: "*""#,
+    ),
+    (
+        "a sibling of trivia kind is passed over whole",
+        HOLLOWED,
+        &[0],
+        Ask::NextLeaf,
+        r#"[2] 2..3 Text: "c""#,
+    ),
+    (
+        "and backwards",
+        HOLLOWED,
+        &[2],
+        Ask::PrevLeaf,
+        r#"[0] 0..1 Text: "a""#,
+    ),
+    (
+        "what is below it is its own first leaf",
+        HOLLOWED,
+        &[1],
+        Ask::Leftmost,
+        r#"[1, 0] 1..2 Text: "b""#,
+    ),
+    (
+        "a cursor enters it",
+        HOLLOWED,
+        &[],
+        Ask::After(1),
+        r#"[1, 0] 1..2 Text: "b""#,
+    ),
+    (
+        "an error without a text is no leaf",
+        BROKEN,
+        &[0],
+        Ask::NextLeaf,
+        r#"[2] 1..2 Text: "a""#,
+    ),
+    (
+        "an error with a text is stepped to",
+        BROKEN,
+        &[2],
+        Ask::NextLeaf,
+        r##"[3] 2..3 Error: { text: "#", message: "m" }"##,
+    ),
+    (
+        "also backwards",
+        BROKEN,
+        &[4],
+        Ask::PrevLeaf,
+        r##"[3] 2..3 Error: { text: "#", message: "m" }"##,
+    ),
+    (
+        "the first leaf of all",
+        BROKEN,
+        &[],
+        Ask::Leftmost,
+        r##"[0] 0..1 Hash: "#""##,
+    ),
+];
+
+const EQUATION: &str = "Markup[ Equation[ Dollar:$ Math[ ] Dollar:$ ] ]";
+
+const HASHED_EQUATION: &str = "Markup[ Hash:# Equation[ Dollar:$ Math[ ] Dollar:$ ] ]";
+
+const RAW: &str = "Markup[ Raw[ RawDelim:` Text:a RawDelim:` ] ]";
+
+const HASHED_RAW: &str = "Markup[ Hash:# Raw[ RawDelim:` Text:a RawDelim:` ] ]";
+
+const LABEL: &str = "Markup[ Hash:# Space:~ Label:<a> ]";
+
+const MODES: [Row; 14] = [
+    (
+        "an equation opens math",
+        EQUATION,
+        &[0, 0],
+        Ask::Modes,
+        "Some(Math) in Some(Markup)",
+    ),
+    (
+        "and closes it",
+        EQUATION,
+        &[0, 2],
+        Ask::Modes,
+        "Some(Markup) in Some(Markup)",
+    ),
+    (
+        "a root of markup",
+        EQUATION,
+        &[],
+        Ask::Modes,
+        "Some(Markup) in None",
+    ),
+    (
+        "an equation behind a hash is code",
+        HASHED_EQUATION,
+        &[1, 2],
+        Ask::Modes,
+        "Some(Code) in Some(Code)",
+    ),
+    (
+        "raw text has no mode: its first delimiter",
+        RAW,
+        &[0, 0],
+        Ask::Modes,
+        "None in Some(Markup)",
+    ),
+    ("its text", RAW, &[0, 1], Ask::Modes, "None in Some(Markup)"),
+    (
+        "its last delimiter ends it",
+        RAW,
+        &[0, 2],
+        Ask::Modes,
+        "Some(Markup) in Some(Markup)",
+    ),
+    (
+        "raw text behind a hash is code",
+        HASHED_RAW,
+        &[1, 2],
+        Ask::Modes,
+        "Some(Code) in Some(Code)",
+    ),
+    (
+        "a text has the mode of its parent",
+        "Markup[ Text:ab Text:c ]",
+        &[0],
+        Ask::Modes,
+        "Some(Markup) in Some(Markup)",
+    ),
+    (
+        "a label is markup again",
+        LABEL,
+        &[2],
+        Ask::Modes,
+        "Some(Markup) in Some(Markup)",
+    ),
+    (
+        "a blank in markup",
+        LABEL,
+        &[1],
+        Ask::Modes,
+        "Some(Markup) in Some(Markup)",
+    ),
+    (
+        "a hash opens code",
+        LABEL,
+        &[0],
+        Ask::Modes,
+        "Some(Code) in Some(Markup)",
+    ),
+    (
+        "a blank in an equation is math",
+        "Equation[ Space:~ ]",
+        &[0],
+        Ask::Modes,
+        "Some(Math) in None",
+    ),
+    (
+        "an equation's end, with no parent",
+        "Equation[ Space:~ Dollar:$ ]",
+        &[1],
+        Ask::Modes,
+        "None in None",
+    ),
+];
 
 #[test]
 fn siblings_pass_over_trivia(rt: HostRuntime) -> Result<(), Fail> {
-    let alloc = rt.alloc();
-    let tree = text_around_space(alloc)?;
-    let root = LinkedNode::new(&tree);
-    assert!(rt; root.next_sibling()?.is_none() && root.prev_sibling_with_trivia()?.is_none());
-    let mut children = root.children(alloc)?;
-    let first = children.next().ok_or("no first child")??;
-    let second = first.next_sibling()?.ok_or("no sibling")?;
-    assert_eq!(rt; second.range(), 2..3);
-    assert_eq!(rt; second.leaf_text(), "b");
-    assert_eq!(rt; first.next_sibling_kind(), Some(SyntaxKind::Text));
-    let space = first.next_sibling_with_trivia()?.ok_or("no sibling")?;
-    assert_eq!(rt; space.range(), 1..2);
-    assert_eq!(rt;
-        second
-            .prev_sibling_with_trivia()?
-            .ok_or("no sibling")?
-            .index(),
-        1
-    );
-    assert_eq!(rt; second.prev_sibling()?.ok_or("no sibling")?.index(), 0);
-    assert_eq!(rt; second.prev_sibling_kind(), Some(SyntaxKind::Text));
-    assert!(rt; second.next_sibling()?.is_none() && second.next_sibling_kind().is_none());
-    assert!(rt; first.prev_sibling()?.is_none() && first.prev_sibling_kind().is_none());
+    for (shows, drawing, path, ask, wanted) in &SIBLINGS {
+        let said = answer(rt.alloc(), drawing, path, ask)?;
+        assert_eq!(rt; said.as_str(), *wanted, "{shows}");
+    }
     Ok(())
 }
 
 #[test]
-fn a_linked_node_is_shown_as_its_node(rt: HostRuntime) -> Result<(), Fail> {
-    let alloc = rt.alloc();
-    let tree = two_texts(alloc)?;
-    let root = LinkedNode::new(&tree);
-    let mut children = root.children(alloc)?;
-    let last = children.next_back().ok_or("no last child")??;
-    let shown = format!(in alloc; "{last:?}")?;
-    assert_eq!(rt; shown.as_str(), "Text: \"c\"");
-    let shown = format!(in alloc; "{root:?}")?;
-    assert_eq!(rt; shown.as_str(), "Markup: 3 [Text: \"ab\", Text: \"c\"]");
+fn leaves_are_stepped_to(rt: HostRuntime) -> Result<(), Fail> {
+    for (shows, drawing, path, ask, wanted) in &LEAVES {
+        let said = answer(rt.alloc(), drawing, path, ask)?;
+        assert_eq!(rt; said.as_str(), *wanted, "{shows}");
+    }
     Ok(())
 }
 
-/// The ranges of a subtree's nodes, in preorder.
-fn ranges_of(alloc: Global, node: &LinkedNode) -> Result<Vec<Range<usize>>, Fail> {
-    let mut ranges = Vec::new(alloc);
-    for below in node.preorder(alloc)? {
-        ranges.push(below?.range())?;
+#[test]
+fn nodes_have_modes_after_them(rt: HostRuntime) -> Result<(), Fail> {
+    for (shows, drawing, path, ask, wanted) in &MODES {
+        let said = answer(rt.alloc(), drawing, path, ask)?;
+        assert_eq!(rt; said.as_str(), *wanted, "{shows}");
     }
-    Ok(ranges)
+    Ok(())
+}
+
+/// Adds the words for a node.
+fn push_place(
+    alloc: Global,
+    node: Option<&LinkedNode>,
+    said: &mut String,
+) -> Result<(), AllocError> {
+    said.push_str(place(alloc, node)?.as_str())?;
+    said.push_str("; ")
+}
+
+/// The words for the nodes of the subtree at a path, in preorder.
+fn in_preorder(alloc: Global, drawing: &str, path: &[usize]) -> Result<String, DrawingError> {
+    let tree = drawn(alloc, drawing)?;
+    let start = at(alloc, &LinkedNode::new(&tree), path)?;
+    let mut said = String::new(alloc);
+    for below in start.preorder(alloc)? {
+        push_place(alloc, Some(&below?), &mut said)?;
+    }
+    Ok(said)
 }
 
 #[test]
 fn preorder_gives_a_node_before_its_children(rt: HostRuntime) -> Result<(), Fail> {
-    let tree = strong_text(rt.alloc())?;
-    let ranges = ranges_of(rt.alloc(), &LinkedNode::new(&tree))?;
-    let all = [0..4, 0..3, 0..1, 1..2, 1..2, 2..3, 3..4];
-    assert_eq!(rt; ranges.as_slice(), all.as_slice());
+    let tree = "Markup[ Strong[ Star:* Emph[ Text:b ] ] Text:c ]";
+    let below =
+        r#"[0] 0..2 Strong: 2 [Star: "*", Emph: 1 [Text: "b"]]; [0, 0] 0..1 Star: "*"; [0, 1] 1..2 Emph: 1 [Text: "b"]; [0, 1, 0] 1..2 Text: "b"; "#;
+    let said = in_preorder(rt.alloc(), tree, &[0])?;
+    assert_eq!(rt; said.as_str(), below);
+    let said = in_preorder(rt.alloc(), tree, &[])?;
+    assert!(rt; said.as_str().starts_with("[] 0..3 Markup: 3 "));
+    assert!(rt; said.as_str().contains(below));
+    assert!(rt; said.as_str().ends_with(r#"; [1] 2..3 Text: "c"; "#));
+    Ok(())
+}
+
+/// The words for a tree's children, taken from the front for `f` and from the back for `b`, and how many are left.
+fn taken(alloc: Global, drawing: &str, ends: &str) -> Result<String, DrawingError> {
+    let tree = drawn(alloc, drawing)?;
+    let mut children = LinkedNode::new(&tree).children(alloc)?;
+    let mut said = String::new(alloc);
+    for end in ends.chars() {
+        let child = if end == 'f' {
+            children.next()
+        } else {
+            children.next_back()
+        };
+        push_place(alloc, child.transpose()?.as_ref(), &mut said)?;
+    }
+    let left = children.len();
+    said.push_str(format!(in alloc; "{left} left")?.as_str())?;
+    Ok(said)
+}
+
+#[test]
+fn children_come_from_both_ends(rt: HostRuntime) -> Result<(), Fail> {
+    let tree = "Markup[ Text:ab Text:c Text:d ]";
+    let rows = [
+        ("", "3 left"),
+        ("bf", r#"[2] 3..4 Text: "d"; [0] 0..2 Text: "ab"; 1 left"#),
+        (
+            "ffbfb",
+            r#"[0] 0..2 Text: "ab"; [1] 2..3 Text: "c"; [2] 3..4 Text: "d"; -; -; 0 left"#,
+        ),
+    ];
+    for (ends, wanted) in rows {
+        let said = taken(rt.alloc(), tree, ends)?;
+        assert_eq!(rt; said.as_str(), wanted);
+    }
     Ok(())
 }
 
 #[test]
-fn preorder_ends_with_the_subtree(rt: HostRuntime) -> Result<(), Fail> {
+fn a_clone_stands_where_its_node_does(rt: HostRuntime) -> Result<(), Fail> {
     let alloc = rt.alloc();
-    let tree = strong_text(alloc)?;
-    let root = LinkedNode::new(&tree);
-    let strong = root.children(alloc)?.next().ok_or("no child")??;
-    let ranges = ranges_of(alloc, &strong)?;
-    let all = [0..3, 0..1, 1..2, 1..2, 2..3];
-    assert_eq!(rt; ranges.as_slice(), all.as_slice());
+    let tree = drawn(alloc, "Markup[ Text:ab Text:c ]")?;
+    let last = at(alloc, &LinkedNode::new(&tree), &[1])?;
+    let copy = last.clone()?;
+    assert!(rt; copy.index() == 1 && copy.offset() == 2);
+    assert!(rt; *copy.get() == *last.get());
     Ok(())
 }

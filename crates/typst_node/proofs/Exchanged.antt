@@ -18,6 +18,6 @@ module _ {X : Type 0} (xs ys zs : List X) (a b k : ℕ) (low : a + k ≤ b) (hig
   pub splice-shrunk : length ys ≤ k → splice zs (a + k) b [] ≡ splice xs a b ys
   splice-shrunk all = sym (at_drop_all (λ us. take (a + k) zs ++ (us ++ drop b zs)) ys k all) ∙ put_together
 
-  -- the whole part is written over, and what is left of the others comes behind it
+  -- the whole part is written over, and what is left of the others comes after it
   pub splice-grown : b ≡ a + k → splice zs b b (drop k ys) ≡ splice xs a b ys
   splice-grown full = ap (λ n. take n zs ++ (drop k ys ++ drop b zs)) full ∙ put_together

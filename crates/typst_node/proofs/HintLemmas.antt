@@ -19,7 +19,7 @@ hinted_twice a b s [] (AsError text message hints) f = ap (λ hs. tree_with s []
 hinted_twice a b s [] (AsInner kind bound) f = refl
 hinted_twice a b s (w ∷ ws) c f = ap (λ hs. tree_with s (record { sub_range = w.sub_range; message = w.message; hints = hs } ∷ ws) c f) (append_assoc w.hints a b)
 
--- hints that are added one behind the other
+-- hints that are added one after the other
 pub hinted_append : (a b : List HintText) (t : Tree) → hinted b (hinted a t) ≡ hinted (a ++ b) t
 hinted_append a b t = hinted_twice a b t.label.span t.label.warnings t.label.content t.children
 

@@ -29,3 +29,7 @@ pub mod Fed
 pub mod DiagnosticLemmas
 pub mod ConvertedLemmas
 pub mod MappedLemmas
+pub mod MappedPaths
+pub mod SamePlain
+pub mod EntryLemmas
+pub mod TellAlike

@@ -7,9 +7,10 @@ use Rattle.typst_base.specs.Mapping.{Mapping}
 use Rattle.typst_base.specs.Span.{SpanParts, detached}
 use Rattle.typst_base.specs.SubRange.{interval, cut_sub_end, MakesSubRange}
 use Rattle.typst_node.specs.Tree.{HintText, WarningText, Content, AsLeaf, AsError, AsInner, Label, Forest, none, tree, Tree, forest}
-use Rattle.typst_node.specs.Text.{text, text_of_all}
+use Rattle.typst_node.specs.Text.{own_text, text, text_of_all}
 use Rattle.typst_node.specs.Synthesized.{whole_hint, whole_warning, synthesized_content}
-use Rattle.typst_node.specs.Mapped.{part_between, mapped_hint, mapped_warning, mapped_content, mapped_label, bytes_from, mapped_forest, mapped_tree, mapped_trees}
+use Rattle.typst_node.specs.Mapped.{part_between, mapped_hint, mapped_warning, mapped_content, mapped_label, bytes_from}
+use Rattle.typst_node.specs.MappedForest.{mapped_forest, mapped_tree, mapped_trees}
 use Rattle.typst_node.specs.View.{tree_of, shown_warnings}
 use Rattle.typst_node.specs.declared.node.InnerNode.{InnerNode}
 use Rattle.typst_node.specs.declared.node.Node.TheVariants.{Inner}
@@ -40,15 +41,15 @@ bare_of_forest : (m : Mapping) (id at : ℕ) (f : Forest) → relabelled_forest 
 bare_of_forest m id at none = refl
 bare_of_forest m id at (tree l c r) =
     let bytes = bytes_from at record { label = l; children = c } in
-    λ i. tree (bare_of_label m id bytes l i) (bare_of_forest m id at c i) (bare_of_forest m id bytes.end r i)
+    λ i. tree (bare_of_label m id bytes l i) (bare_of_forest m id (at + length (own_text l)) c i) (bare_of_forest m id bytes.end r i)
 
 -- the places change nothing else
 pub bare_of_mapped : (m : Mapping) (id at : ℕ) (t : Tree) → relabelled bare (mapped_tree m id at t) ≡ relabelled bare t
-bare_of_mapped m id at t = λ i. record { label = bare_of_label m id (bytes_from at t) t.label i; children = bare_of_forest m id at t.children i }
+bare_of_mapped m id at t = λ i. record { label = bare_of_label m id (bytes_from at t) t.label i; children = bare_of_forest m id (at + length (own_text t.label)) t.children i }
 
 pub forest_mapped : (m : Mapping) (id at : ℕ) (ts : List Tree) → forest (mapped_trees m id at ts) ≡ mapped_forest m id at (forest ts)
 forest_mapped m id at [] = refl
-forest_mapped m id at (t ∷ ts) = ap (λ f. tree (mapped_label m id (bytes_from at t) t.label) (mapped_forest m id at t.children) f) (forest_mapped m id (at + length (text t)) ts)
+forest_mapped m id at (t ∷ ts) = ap (λ f. tree (mapped_label m id (bytes_from at t) t.label) (mapped_forest m id (at + length (own_text t.label)) t.children) f) (forest_mapped m id (at + length (text t)) ts)
 
 -- an inner node, after its children get their places
 pub mapped_inner : (m : Mapping) (id at : ℕ) (span : SpanParts) (a : Inside) (b : Box InnerNode Global) (t : Tree) (new : InnerNode) (ws : List WarningText) → a.node ≡ Inner b → tree_of a ≡ t
@@ -57,8 +58,9 @@ pub mapped_inner : (m : Mapping) (id at : ℕ) (span : SpanParts) (a : Inside) (
     → record { label = record { span = span; warnings = ws; content = AsInner new.kind new.upper }; children = forest new.children.items } ≡ mapped_tree m id at t
 mapped_inner m id at span a b t new ws is view place kind upper warned below =
     let whole : tree_of record { node = Inner b; span = a.span; warnings = a.warnings } ≡ t = sym (ap (λ n. tree_of record { node = n; span = a.span; warnings = a.warnings }) is) ∙ view in
-    (λ i. record { label = record { span = place i; warnings = warned i; content = AsInner (kind i) ((upper ∙ ap (λ s. s.low) place) i) }; children = (ap forest below ∙ forest_mapped m id at b.value.children.items) i })
-    ∙ ap (λ u. record { label = record { span = (mapped_label m id (bytes_from at t) t.label).span; warnings = map (mapped_warning m (bytes_from at t)) u.label.warnings; content = mapped_content m (bytes_from at t) (mapped_label m id (bytes_from at t) t.label).span.low u.label.content }; children = mapped_forest m id at u.children }) whole
+    let start : at ≡ at + 0 = omega arith in
+    (λ i. record { label = record { span = place i; warnings = warned i; content = AsInner (kind i) ((upper ∙ ap (λ s. s.low) place) i) }; children = (ap forest below ∙ (forest_mapped m id at b.value.children.items ∙ ap (λ n. mapped_forest m id n (forest b.value.children.items)) start)) i })
+    ∙ ap (λ u. record { label = record { span = (mapped_label m id (bytes_from at t) t.label).span; warnings = map (mapped_warning m (bytes_from at t)) u.label.warnings; content = mapped_content m (bytes_from at t) (mapped_label m id (bytes_from at t) t.label).span.low u.label.content }; children = mapped_forest m id (at + length (own_text u.label)) u.children }) whole
 
 -- the trees before a place have their places, and those from it on are to get them
 abbrev pub so_far : Mapping → ℕ → ℕ → ℕ → List Tree → List Tree

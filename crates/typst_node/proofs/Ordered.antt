@@ -1,4 +1,4 @@
--- Trees numbered one behind the other are those whose numbers are in order and whose bounds hold.
+-- Trees numbered one after the other are those whose numbers are in order and whose bounds hold.
 use Rattle.std.proofs.Common.{◌≡◌, ℕ, ◌+◌, ◌<◌, ◌≤◌, ◌^◌, List, [], ◌∷◌, ◌++◌, map, sym, ap, subst, arith, append-nil}
 use Rattle.std.specs.List.{AllByRecursion}
 use Rattle.typst_node.specs.Tree.{Label, Forest, none, tree, Tree}

@@ -6,7 +6,7 @@ use Rattle.typst_node.specs.Tree.{Content, AsLeaf, AsError, AsInner, Label, Fore
 use Rattle.typst_node.specs.Preorder.{preorder}
 use Rattle.typst_node.specs.Text.{content_text, own_text, joined, text, text_of_all}
 use Rattle.typst_node.specs.Count.{count, count_of_all}
-use Rattle.typst_node.specs.Diagnosis.{is_error_content, is_error, is_warned}
+use Rattle.typst_node.specs.Diagnosis.{is_error_content, is_error, is_warned, has_error, has_warning}
 use Rattle.typst_node.specs.Plain.{unbounded, plain_label, plain_forest, plain}
 use Rattle.typst_node.specs.View.{ends_from, IsMeasured, IsKept, tree_of, below}
 use Rattle.typst_node.specs.declared.node.Node.TheVariants.{Inner}
@@ -59,6 +59,12 @@ text_plain t = (λ i. text_unbounded t.label.content i ++ joined (preorder_plain
 
 pub count_plain : (t : Tree) → count (plain t) ≡ count t
 count_plain t = ap suc (ap length (preorder_plain t.children) ∙ length_plain (preorder t.children))
+
+pub has_error_plain : (t : Tree) → has_error (plain t) ≡ has_error t
+has_error_plain t = (λ i. error_unbounded t.label.content i || list_any is_error (preorder_plain t.children i)) ∙ ap (λ b. is_error t.label || b) (any_error_plain (preorder t.children))
+
+pub has_warning_plain : (t : Tree) → has_warning (plain t) ≡ has_warning t
+has_warning_plain t = ap (λ b. is_warned t.label || b) (ap (list_any is_warned) (preorder_plain t.children) ∙ any_warned_plain (preorder t.children))
 
 ends_plain : (at : ℕ) (ts : List Tree) → ends_from at (map plain ts) ≡ ends_from at ts
 ends_plain at [] = refl

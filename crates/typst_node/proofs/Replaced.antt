@@ -1,4 +1,4 @@
--- What a replacement leaves: the parts before and behind a window, and numbers in order.
+-- What a replacement leaves: the parts before and after a window, and numbers in order.
 use Rattle.std.proofs.Common.{◌≡◌, ℕ, ◌+◌, ◌-◌, ◌*◌, ◌/◌, ◌<◌, ◌≤◌, List, [], ◌∷◌, ◌++◌, length, take, drop, min, sym, ap, subst, ◌∙◌, arith, append_assoc, length-append, length-take, length-drop}
 use Rattle.std.proofs.lemmas.List.{take-append-drop, take-append-le, drop-append-le}
 use Rattle.std.proofs.lemmas.List.Folds.{drop_split}

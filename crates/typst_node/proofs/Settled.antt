@@ -129,7 +129,7 @@ can_shift a gone added (t ∷ ts) h =
       subst (λ n. AllByRecursion (λ e. (gone ≤ e) × (e - gone + added < 2 ^ 64)) (ends_from n ts)) one (can_shift (a + length (text t)) gone added ts (omega (arith, length-text_of_all-cons t ts))),
     )
 
--- the ends of the trees behind a place
+-- the ends of the trees after a place
 pub drop_ends : (at : ℕ) (ts : List Tree) (n : ℕ) → n ≤ length ts → drop n (ends_from at ts) ≡ ends_from (at + length (text_of_all (take n ts))) (drop n ts)
 drop_ends at ts zero h = ap (λ m. ends_from m ts) (omega arith)
 drop_ends at [] (suc n) h = absurd (omega arith)
@@ -137,7 +137,7 @@ drop_ends at (t ∷ ts) (suc n) h =
     drop_ends (at + length (text t)) ts n (omega arith)
     ∙ ap (λ m. ends_from m (drop n ts)) (let e : at + length (text t) + length (text_of_all (take n ts)) ≡ at + length (text_of_all (t ∷ take n ts)) = omega (arith, length-text_of_all-cons t (take n ts)) in e)
 
--- the ends before a place, and those behind it
+-- the ends before a place, and those after it
 pub ends_whole : (es tail : List ℕ) (ts : List Tree) (from to added : ℕ) → from ≤ to → to ≤ length ts → take to es ≡ take to (ends_from 0 ts) → added ≡ length (text_of_all (slice_range ts from to))
     → tail ≡ ends_from (length (text_of_all (take from ts)) + added) (drop to ts) → take to es ++ tail ≡ ends_from 0 ts
 ends_whole es tail ts from to added order inside same is left =

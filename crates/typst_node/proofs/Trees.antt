@@ -44,7 +44,7 @@ child_end_is ts i d h = rw add-one (omega (arith, end_at_any 0 ts i d h))
 pub drop_next : (ts : List Tree) (i : ℕ) (d : Tree) → i < length ts → drop i ts ≡ get_or ts i d ∷ drop (i + 1) ts
 drop_next ts i d h = rw add-one (drop-cons ts i d h)
 
--- the tree at a place, and those behind it
+-- the tree at a place, and those after it
 pub count_drop : (ts : List Tree) (i : ℕ) (d : Tree) → i < length ts → count_of_all (drop i ts) ≡ count (get_or ts i d) + count_of_all (drop (i + 1) ts)
 count_drop ts i d h = ap count_of_all (drop_next ts i d h) ∙ count_of_all-cons (get_or ts i d) (drop (i + 1) ts)
 

@@ -1,4 +1,4 @@
--- Trees that are numbered one behind the other.
+-- Trees that are numbered one after the other.
 use Rattle.std.proofs.Common.{ℕ, ◌+◌, ◌≤◌, List, [], ◌∷◌, ◌++◌, arith}
 use Rattle.typst_node.specs.Tree.{Forest, none, tree, Tree, forest}
 use Rattle.typst_node.specs.Labels.{number, bound}

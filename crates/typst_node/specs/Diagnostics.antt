@@ -3,24 +3,24 @@ use Rattle.std.specs.Prelude.{ℕ, Bool, true, false, List, [], ◌∷◌, map, 
 use Rattle.std.specs.declared.ops.Range.{Range}
 use Rattle.std.specs.List.{flat_map}
 use Rattle.typst_base.specs.Span.{SpanParts, detached}
-use Rattle.typst_base.specs.DiagSpan.{DiagParts, of_span}
+use Rattle.typst_base.specs.DiagSpan.{DiagPlace, of_span}
 use Rattle.typst_node.specs.Tree.{HintText, WarningText, Content, AsLeaf, AsError, AsInner, Label, Tree}
 use Rattle.typst_node.specs.Preorder.{nodes}
 
 -- a hint of a report: its text, and the place that it is about
 pub record PlacedHint : Type 0 where
   pub text : List ℕ
-  pub place : DiagParts
+  pub place : DiagPlace
 
 -- what is reported of a node: whether it is an error or a warning, the place that it is about, its message and its hints
 pub record Report : Type 0 where
   pub is_error : Bool
-  pub place : DiagParts
+  pub place : DiagPlace
   pub message : List ℕ
   pub hints : List PlacedHint
 
 -- a hint is about no place, or about a part of the node
-abbrev pub hint_place : SpanParts → Option (Range ℕ) → DiagParts
+abbrev pub hint_place : SpanParts → Option (Range ℕ) → DiagPlace
 hint_place span None = of_span detached None
 hint_place span (Some part) = of_span span (Some part)
 
@@ -58,10 +58,10 @@ errors_at l = error_reports l.span l.content
 abbrev pub warnings_at : Label → List Report
 warnings_at l = map (warning_report l.span) l.warnings
 
--- the errors of a tree's nodes, in preorder
+-- what the errors of a tree's nodes report, one node after the other
 abbrev pub errors_of : Tree → List Report
 errors_of t = flat_map errors_at (nodes t)
 
--- the warnings of a tree's nodes, in preorder, at each node the outermost first
+-- what the warnings of a tree's nodes report, one node after the other
 abbrev pub warnings_of : Tree → List Report
 warnings_of t = flat_map warnings_at (nodes t)

@@ -21,6 +21,6 @@ HasNoFirst s = (k : ℕ) → ¬ (IsFirst s k)
 abbrev pub IsFoundSoon : Site → ℕ → Type 0
 IsFoundSoon s tried = (digits : ℕ) → max (length s.before) (length s.behind) < 2 ^ digits → tried ≤ 2 + digits
 
--- the open numbers of the whole parent, behind its own and below its bound, are fewer than its new nodes, and those are more than itself
+-- the open numbers of the whole parent, after its own and below its bound, are fewer than its new nodes, and those are more than itself
 abbrev pub IsCrowded : Site → Type 0
 IsCrowded s = (s.end - s.first < new_count s) × (1 < new_count s)

@@ -31,7 +31,10 @@ pub mod Warnings
 pub mod Hints
 pub mod Synthesized
 pub mod Diagnostics
+pub mod Entries
+pub mod Tells
 pub mod Hashed
 pub mod Reported
 pub mod Converted
 pub mod Mapped
+pub mod MappedForest

@@ -1,11 +1,13 @@
 -- Trees whose nodes have the places of the bytes that a mapper maps their texts to.
-use Rattle.std.specs.Prelude.{ℕ, ◌+◌, ◌-◌, ◌^◌, ◌&&◌, nat_lt, if◌then◌else◌, List, [], ◌∷◌, map, length, slice_index, Option, Some, None}
+use Rattle.std.specs.Prelude.{ℕ, ◌≡◌, ◌+◌, ◌-◌, ◌^◌, ◌&&◌, nat_lt, if◌then◌else◌, List, map, length, slice_index, Option, Some, None}
+use Rattle.std.specs.Option.{option_map}
 use Rattle.std.specs.declared.ops.Range.{Range}
 use Rattle.typst_base.specs.Mapping.{Mapping, mapped}
 use Rattle.typst_base.specs.Span.{ranged}
 use Rattle.typst_base.specs.SubRange.{interval, cut_sub_end}
-use Rattle.typst_node.specs.Tree.{HintText, WarningText, Content, AsLeaf, AsError, AsInner, Label, Forest, none, tree, Tree}
-use Rattle.typst_node.specs.Text.{text}
+use Rattle.typst_node.specs.Tree.{HintText, WarningText, Content, AsLeaf, AsError, AsInner, Label, Tree}
+use Rattle.typst_node.specs.Preorder.{at}
+use Rattle.typst_node.specs.Text.{text, offset}
 
 -- the part between two ends, the upper one cut, where that isn't empty
 abbrev pub part_between : ℕ → ℕ → Option (Range ℕ)
@@ -51,23 +53,17 @@ mapped_label m id bytes l =
 
 -- the bytes of a tree whose text begins at this offset
 abbrev pub bytes_from : ℕ → Tree → Range ℕ
-bytes_from at t = interval at (at + length (text t))
+bytes_from start t = interval start (start + length (text t))
 
--- the trees whose joined text begins at this offset, each node with the place of its bytes
-abbrev pub mapped_forest : Mapping → ℕ → ℕ → Forest → Forest
-mapped_forest m id at none = none
-mapped_forest m id at (tree l c r) =
-    let bytes = bytes_from at record { label = l; children = c } in
-    tree (mapped_label m id bytes l) (mapped_forest m id at c) (mapped_forest m id bytes.end r)
+-- the label that the node at a path of a tree gets: its bytes are those of its text
+abbrev pub mapped_there : Mapping → ℕ → Tree → List ℕ → Tree → Label
+mapped_there m id whole path t = mapped_label m id (bytes_from (offset path whole) t) t.label
 
--- the tree whose text begins at this offset, each node with the place of its bytes, its number as an inner node's bound, and its sub-ranges mapped
-abbrev pub mapped_tree : Mapping → ℕ → ℕ → Tree → Tree
-mapped_tree m id at t = record {
-  label = mapped_label m id (bytes_from at t) t.label;
-  children = mapped_forest m id at t.children;
-}
+abbrev pub label_of : Tree → Label
+label_of t = t.label
 
--- the same for a list of trees, one behind the other
-abbrev pub mapped_trees : Mapping → ℕ → ℕ → List Tree → List Tree
-mapped_trees m id at [] = []
-mapped_trees m id at (t ∷ ts) = mapped_tree m id at t ∷ mapped_trees m id (at + length (text t)) ts
+-- At each path there is a node exactly if there was one, with its label but for the place of its bytes, its number as an inner
+-- node's bound, and its sub-ranges mapped.
+abbrev pub IsMapped : Mapping → ℕ → Tree → Tree → Type 0
+IsMapped m id old new =
+    (path : List ℕ) → option_map label_of (at path new) ≡ option_map (mapped_there m id old path) (at path old)

@@ -19,8 +19,8 @@ abbrev pub IsAtMostFirst : ℕ → List Label → Type 0
 IsAtMostFirst n [] = Unit {0}
 IsAtMostFirst n (l ∷ ls) = n ≤ number l
 
--- The bounds of these trees. `limits` are the bounds of their ancestors and 2^47, and `behind` are the nodes behind all of them in preorder.
--- Each bound is above every number of its subtree, at most the number of the first node behind the subtree, and at most each limit.
+-- The bounds of these trees. `limits` are the bounds of their ancestors and 2^47, and `behind` are the nodes after all of them in preorder.
+-- Each bound is above every number of its subtree, at most the number of the first node after the subtree, and at most each limit.
 abbrev pub BoundsHold : List ℕ → List Label → Forest → Type 0
 BoundsHold limits behind none = Unit {0}
 BoundsHold limits behind (tree l c r) =
@@ -31,7 +31,7 @@ BoundsHold limits behind (tree l c r) =
     × BoundsHold limits behind r
 
 -- A tree that is numbered for a file: every span is of the file with a number of 2..2^47, numbers strictly increase in preorder,
--- and each bound is above its subtree, at most what comes behind it, and at most each ancestor's bound and 2^47.
+-- and each bound is above its subtree, at most what comes after it, and at most each ancestor's bound and 2^47.
 pub record IsNumberedFor (file : ℕ) (t : Tree) : Type 0 where
   pub in_file : AllByRecursion (IsNumberOf file) (nodes t)
   pub in_order : Rise (map number (nodes t))

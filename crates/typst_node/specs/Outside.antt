@@ -11,7 +11,7 @@ IsInWindow [] from to (j ∷ q) = (from ≤ j) × (j < to)
 IsInWindow (i ∷ p) from to [] = ⊥
 IsInWindow (i ∷ p) from to (j ∷ q) = (i ≡ j) × IsInWindow p from to q
 
--- The index that a child had before: behind the window it differs by the change in the number of children, from `old` to `new`.
+-- The index that a child had before: after the window it differs by the change in the number of children, from `old` to `new`.
 abbrev pub old_index : ℕ → ℕ → ℕ → ℕ → ℕ
 old_index to old new j = if nat_lt j to then j else j + old - new
 

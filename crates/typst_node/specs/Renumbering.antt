@@ -14,7 +14,7 @@ use Rattle.typst_node.specs.declared.node.replace.Renumbered.{Renumbered}
 abbrev pub AreIn : ℕ → ℕ → List Tree → Type 0
 AreIn start end ts = AllByRecursion (λ l. (start ≤ number l) × (number l < end)) (preorder (forest ts))
 
--- The answer is the place of the first window and how many were tried. The trees before and behind it stay, and where its open numbers
+-- The answer is the place of the first window and how many were tried. The trees before and after it stay, and where its open numbers
 -- are at least twice its nodes, all its numbers are in their first half.
 pub record IsRenumbering (s : Site) (r : Renumbered) (new : List Tree) : Type 0 where
   pub tried : 1 ≤ r.tried

@@ -1,12 +1,12 @@
 -- What a diagnostic says.
 use Rattle.std.specs.Prelude.{map, string_bytes, String}
 use Rattle.std.specs.declared.alloc.Global.{Global}
-use Rattle.typst_base.specs.DiagSpan.{DiagParts}
+use Rattle.typst_base.specs.DiagSpan.{DiagPlace}
 use Rattle.typst_base.specs.declared.spanned.Spanned.{Spanned}
 use Rattle.typst_node.specs.Diagnostics.{PlacedHint, Report}
 use Rattle.typst_node.specs.declared.node.diagnostics.SyntaxDiagnostic.{SyntaxDiagnostic}
 
-abbrev pub placed_hint : Spanned (String Global) DiagParts → PlacedHint
+abbrev pub placed_hint : Spanned (String Global) DiagPlace → PlacedHint
 placed_hint h = record { text = string_bytes h.v; place = h.span }
 
 -- the report that a diagnostic is

@@ -28,7 +28,7 @@ pub record Label : Type 0 where
   pub warnings : List WarningText
   pub content : Content
 
--- trees side by side: none, or the first tree's label and children, and the trees behind it
+-- trees side by side: none, or the first tree's label and children, and the trees after it
 pub data Forest : Type 0 where
   none : Forest
   tree : Label → Forest → Forest → Forest

@@ -11,7 +11,7 @@ use Rattle.typst_node.specs.declared.node.Hint.{Hint}
 use Rattle.typst_node.specs.declared.node.Warning.{Warning}
 use Rattle.typst_node.specs.declared.node.InnerNode.{InnerNode}
 use Rattle.typst_node.specs.declared.node.Node.{Node}
-use Rattle.typst_node.specs.declared.node.Node.TheVariants.{Leaf, Inner, Error}
+use Rattle.typst_node.specs.declared.node.Node.TheVariants.{Short, Long, Inner, Error}
 use Rattle.typst_node.specs.declared.node.SyntaxNode.TheInside.{Inside}
 
 abbrev pub hint_text : Hint → HintText
@@ -25,13 +25,15 @@ abbrev pub shown_warnings : List Warning → List WarningText
 shown_warnings ws = reverse (map warning_text ws)
 
 abbrev pub content : Node → Content
-content (Leaf kind text) = AsLeaf kind (string_bytes text)
+content (Short kind text) = AsLeaf kind text
+content (Long b) = AsLeaf b.value.kind (string_bytes b.value.text)
 content (Inner b) = AsInner b.value.kind b.value.upper
 content (Error b) = AsError (string_bytes b.value.text) (string_bytes b.value.message) (map hint_text b.value.hints.items)
 
 -- the node's children
 abbrev pub below : Node → List Tree
-below (Leaf kind text) = []
+below (Short kind text) = []
+below (Long b) = []
 below (Inner b) = b.value.children.items
 below (Error b) = []
 
@@ -56,6 +58,7 @@ pub record IsMeasured (inner : InnerNode) : Type 0 where
   pub ends : inner.ends.items ≡ ends_from 0 inner.children.items
 
 abbrev pub IsKept : Node → Type 0
-IsKept (Leaf kind text) = kind ≢ kinds.Error
+IsKept (Short kind text) = kind ≢ kinds.Error
+IsKept (Long b) = b.value.kind ≢ kinds.Error
 IsKept (Inner b) = IsMeasured b.value
 IsKept (Error b) = Unit {0}

@@ -4,8 +4,8 @@ use Rattle.typst_node.specs.Tree.{Tree, trees}
 use Rattle.typst_node.specs.Labels.{number, bound}
 use Rattle.typst_node.specs.ChangedChildren.{kept_first, kept_last}
 
--- The new child list: the neighbours before the changed children, the changed children, and the neighbours behind them.
--- All of them may have numbers from `first` up to `end`: from behind the parent's own number up to its bound.
+-- The new child list: the neighbours before the changed children, the changed children, and the neighbours after them.
+-- All of them may have numbers from `first` up to `end`: from after the parent's own number up to its bound.
 pub record Site : Type 0 where
   pub before : List Tree
   pub changed : List Tree
@@ -54,6 +54,6 @@ trees_before s w = take (length s.before - w) s.before
 abbrev pub trees_in : Site → ℕ → List Tree
 trees_in s w = drop (length s.before - w) s.before ++ (s.changed ++ take w s.behind)
 
--- the trees behind it
+-- the trees after it
 abbrev pub trees_behind : Site → ℕ → List Tree
 trees_behind s w = drop w s.behind

@@ -3,11 +3,11 @@ use Rattle.std.specs.Prelude.{ℕ, ◌-◌}
 use Rattle.typst_node.specs.OpenNumbers.{open_from, open_to}
 use Rattle.typst_node.specs.Window.{Site, trees_before, trees_behind}
 
--- they begin at the bound of the child before the window, or behind the parent's number
+-- they begin at the bound of the child before the window, or after the parent's number
 abbrev pub open_start : Site → ℕ → ℕ
 open_start s w = open_from s.first (trees_before s w)
 
--- they end below the number of the child behind the window, or below the parent's bound
+-- they end below the number of the child after the window, or below the parent's bound
 abbrev pub open_end : Site → ℕ → ℕ
 open_end s w = open_to s.end (trees_behind s w)
 

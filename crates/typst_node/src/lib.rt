@@ -26,3 +26,4 @@ pub mod ast_node;
 pub mod diagnosis;
 mod exchange;
 pub mod node;
+mod short_text;

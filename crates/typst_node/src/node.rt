@@ -3,10 +3,12 @@ ghost use Rattle.std.specs.Prelude.{◌≡◌, ◌+◌, ◌<◌, ◌==◌, ◌++
 ghost use Rattle.typst_node.specs.Tree.{trees, kind_of, IsInner, IsLeaf};
 ghost use Rattle.typst_node.specs.Text.{text, own_text, text_of_all};
 ghost use Rattle.typst_node.specs.Count.{count};
-ghost use Rattle.typst_node.specs.Diagnosis.{has_error, has_warning};
+ghost use Rattle.typst_base.specs.declared.kind.SyntaxKind.TheVariants.{Error};
+ghost use Rattle.typst_node.specs.Diagnosis.{has_error, has_warning, is_error};
 ghost use Rattle.typst_node.specs.Labels.{bound};
 
 use crate::diagnosis::Diagnosis;
+use crate::short_text::ShortText;
 use std::alloc::{AllocError, Global};
 use std::marker::Model;
 use std::slice;
@@ -45,11 +47,12 @@ pub struct SyntaxNode {
     warnings: Vec<Warning>,
 }
 
-/// A node without its span and its warnings. The kind of a leaf is never `Error`.
+/// A node without its span and its warnings. A leaf is `Short` or `Long`, and its kind is never `Error`.
 #[cycle(node)]
 #[derive(Drop)]
 enum Node {
-    Leaf(SyntaxKind, String),
+    Short(SyntaxKind, ShortText),
+    Long(Box<LongLeaf>),
     Inner(Box<InnerNode>),
     Error(Box<ErrorNode>),
 }
@@ -69,6 +72,13 @@ struct InnerNode {
     children: Vec<SyntaxNode>,
     // At each place the joined length of the children up to and with the one there.
     ends: Vec<usize>,
+}
+
+/// A leaf with a text that isn't kept in the node itself. Its kind is never `Error`.
+#[derive(Drop)]
+struct LongLeaf {
+    kind: SyntaxKind,
+    text: String,
 }
 
 /// What is said of a text that is no syntax.
@@ -118,12 +128,14 @@ impl Model for SyntaxNode {
 
 /// # What the node is
 impl SyntaxNode {
-    /// The node's kind, whatever its warnings.
+    /// The node's kind, whatever its warnings. It is `Error` for errors alone.
     pub fn kind(&self) -> SyntaxKind
-        ensures { result ≡ kind_of self.now.label.content }
+        ensures kind { result ≡ kind_of self.now.label.content }
+        ensures error { (result ≡ Error) ↔ IsTrue (is_error self.now.label) }
     {
         match &self.node {
-            Node::Leaf(kind, _) => *kind,
+            Node::Short(kind, _) => *kind,
+            Node::Long(leaf) => leaf.kind,
             Node::Inner(inner) => inner.kind,
             Node::Error(_) => SyntaxKind::Error,
         }
@@ -134,7 +146,7 @@ impl SyntaxNode {
         ensures { IsTrue result ↔ IsLeaf self.now.label.content }
     {
         match &self.node {
-            Node::Leaf(..) => true,
+            Node::Short(..) | Node::Long(_) => true,
             Node::Inner(_) => false,
             Node::Error(error) => !error.text.is_empty(),
         }
@@ -161,7 +173,7 @@ impl SyntaxNode {
     {
         match &self.node {
             Node::Inner(inner) => inner.upper,
-            Node::Leaf(..) | Node::Error(_) => self.span.number() + 1,
+            Node::Short(..) | Node::Long(_) | Node::Error(_) => self.span.number() + 1,
         }
     }
 }
@@ -173,7 +185,8 @@ impl SyntaxNode {
         ensures { result ≡ length (text self.now) }
     {
         match &self.node {
-            Node::Leaf(_, text) => text.len(),
+            Node::Short(_, text) => text.len(),
+            Node::Long(leaf) => leaf.text.len(),
             Node::Inner(inner) => inner.len,
             Node::Error(error) => error.text.len(),
         }
@@ -192,7 +205,7 @@ impl SyntaxNode {
     {
         match &self.node {
             Node::Inner(inner) => inner.descendants,
-            Node::Leaf(..) | Node::Error(_) => 1,
+            Node::Short(..) | Node::Long(_) | Node::Error(_) => 1,
         }
     }
 
@@ -202,7 +215,7 @@ impl SyntaxNode {
         ensures warnings { result.warnings ≡ has_warning self.now }
     {
         let below = match &self.node {
-            Node::Leaf(..) => Diagnosis {
+            Node::Short(..) | Node::Long(_) => Diagnosis {
                 errors: false,
                 warnings: false,
             },
@@ -223,7 +236,8 @@ impl SyntaxNode {
         ensures { result.now ≡ own_text self.now.label }
     {
         match &self.node {
-            Node::Leaf(_, text) => text.as_str(),
+            Node::Short(_, text) => text.as_str(),
+            Node::Long(leaf) => leaf.text.as_str(),
             Node::Inner(_) => "",
             Node::Error(error) => error.text.as_str(),
         }
@@ -243,7 +257,8 @@ impl SyntaxNode {
         ensures { OnOk result (string_bytes out.new ≡ string_bytes out.old ++ text self.now) }
     {
         match &self.node {
-            Node::Leaf(_, text) => out.push_str(text.as_str()),
+            Node::Short(_, text) => out.push_str(text.as_str()),
+            Node::Long(leaf) => out.push_str(leaf.text.as_str()),
             Node::Inner(inner) => {
                 for child in &inner.children {
                     child.push_text(out)?;
@@ -270,7 +285,7 @@ impl SyntaxNode {
     {
         match &self.node {
             Node::Inner(inner) => &inner.children,
-            Node::Leaf(..) | Node::Error(_) => &[],
+            Node::Short(..) | Node::Long(_) | Node::Error(_) => &[],
         }
     }
 
@@ -283,7 +298,7 @@ impl SyntaxNode {
     {
         match &self.node {
             Node::Inner(inner) => inner.ends[index],
-            Node::Leaf(..) | Node::Error(_) => unreachable!(),
+            Node::Short(..) | Node::Long(_) | Node::Error(_) => unreachable!(),
         }
     }
 }

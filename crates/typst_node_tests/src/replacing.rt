@@ -1,384 +1,365 @@
+// Replacements, and the numbers after them.
+use crate::numbering::is_of;
+use crate::reading::diagnosed;
 use std::alloc::Global;
 use std::ops::Range;
 use std::test::Fail;
-use typst_base::{FileId, SyntaxKind};
+use typst_base::FileId;
+use typst_drawn::{DrawingError, drawn, drawn_all, labels, numbered, sizes};
 use typst_node::{Renumbered, ReplaceError, SyntaxNode};
 
-/// Leaves of kind `Text`.
-fn texts(alloc: Global, all: &[&str]) -> Result<Vec<SyntaxNode>, Fail> {
-    let mut nodes = Vec::new(alloc);
-    for one in all {
-        nodes.push(SyntaxNode::leaf(alloc, SyntaxKind::Text, one)?)?;
-    }
-    Ok(nodes)
-}
-
-/// Markup of texts, numbered within a range for a file.
-fn markup(alloc: Global, all: &[&str], file: u16, within: Range<u64>) -> Result<SyntaxNode, Fail> {
-    let mut tree = SyntaxNode::inner(alloc, SyntaxKind::Markup, texts(alloc, all)?)?;
-    number(&mut tree, file, within)?;
-    Ok(tree)
-}
-
-fn number(tree: &mut SyntaxNode, file: u16, within: Range<u64>) -> Result<(), Fail> {
-    let id = FileId::new(file).ok_or("no file id")?;
-    if within.start < 2 || within.end > 1 << 47 {
-        return Err("no range of node numbers")?;
-    }
-    tree.numberize(id, within).ok().ok_or("refused")?;
-    Ok(())
-}
-
-/// Markup of Strong, which holds Markup of `b` between two stars, and of `c`.
-fn strong(alloc: Global) -> Result<SyntaxNode, Fail> {
-    let inside = SyntaxNode::inner(alloc, SyntaxKind::Markup, texts(alloc, &["b"])?)?;
-    let star = SyntaxNode::leaf(alloc, SyntaxKind::Star, "*")?;
-    let other = SyntaxNode::leaf(alloc, SyntaxKind::Star, "*")?;
-    let strong = SyntaxNode::inner(
-        alloc,
-        SyntaxKind::Strong,
-        vec![in alloc; star, inside, other]?,
-    )?;
-    let last = SyntaxNode::leaf(alloc, SyntaxKind::Text, "c")?;
-    let mut tree = SyntaxNode::inner(alloc, SyntaxKind::Markup, vec![in alloc; strong, last]?)?;
-    number(&mut tree, 1, 2..30)?;
-    Ok(tree)
-}
-
-/// The numbers of all nodes of a tree of at most four levels, in preorder.
-fn numbers(alloc: Global, node: &SyntaxNode) -> Result<Vec<u64>, Fail> {
-    let mut numbers = Vec::new(alloc);
-    numbers.push(node.span().number())?;
-    for child in node.child_slice() {
-        numbers.push(child.span().number())?;
-        for below in child.child_slice() {
-            numbers.push(below.span().number())?;
-            for last in below.child_slice() {
-                numbers.push(last.span().number())?;
-            }
-        }
-    }
-    Ok(numbers)
-}
-
-/// Replaces children of the node itself, once the conditions have been tested.
-fn replace(
-    alloc: Global,
-    tree: &mut SyntaxNode,
+/// A replacement, and what comes of it.
+struct Row {
+    shows: &'static str,
+    tree: &'static str,
+    within: Range<u64>,
+    path: &'static [usize],
     range: Range<usize>,
-    others: Vec<SyntaxNode>,
-) -> Result<Result<Renumbered, ReplaceError>, Fail> {
-    if tree.is_inner() && (range.start > range.end || range.end > tree.child_slice().len()) {
-        return Err("the range does not fit")?;
-    }
-    if tree.span().id().is_some() && !tree.is_numbered() {
-        return Err("the tree is not numbered")?;
-    }
-    Ok(tree.replace_children(alloc, range, others))
+    others: &'static str,
+    /// The answer and the tree's text.
+    answer: &'static str,
+    labels: &'static str,
+    sizes: &'static str,
 }
 
-/// Replaces children of the node at a path of a numbered tree, once the conditions have been tested.
-fn replace_at(
+const TWO: &str = "Markup[ Text:ab Text:c ]";
+
+const STRONG: &str = "Markup[ Strong[ Star:* Markup[ Text:b ] Star:* ] Text:c ]";
+
+const EIGHT: &str = "Markup[ Text:a Text:b Text:c Text:d Text:e Text:f Text:g Text:h ]";
+
+const EDITS: [Row; 15] = [
+    Row {
+        shows: "inserting between widens the window",
+        tree: TWO,
+        within: 2..14,
+        path: &[],
+        range: 1..1,
+        others: "Text:x",
+        answer: "window 0..3 tried 2 <abxc>",
+        labels: "3..14[4..5 5..6 6..7]",
+        sizes: "4/4(2 3 4)[2/1 1/1 1/1]",
+    },
+    Row {
+        shows: "removing leaves the other numbers",
+        tree: TWO,
+        within: 2..14,
+        path: &[],
+        range: 0..1,
+        others: "",
+        answer: "window 0..0 tried 1 <c>",
+        labels: "3..14[7..8]",
+        sizes: "1/2(1)[1/1]",
+    },
+    Row {
+        shows: "equal nodes keep their numbers",
+        tree: TWO,
+        within: 2..14,
+        path: &[],
+        range: 0..2,
+        others: "Text:ab Text:c",
+        answer: "window 2..2 tried 1 <abc>",
+        labels: "3..14[5..6 7..8]",
+        sizes: "3/3(2 3)[2/1 1/1]",
+    },
+    Row {
+        shows: "without room nothing changes",
+        tree: "Markup[ Text:a ]",
+        within: 2..4,
+        path: &[],
+        range: 0..1,
+        others: "Text:z",
+        answer: "Unnumberable unchanged <a>",
+        labels: "2..4[3..4]",
+        sizes: "1/2(1)[1/1]",
+    },
+    Row {
+        shows: "a leaf stays",
+        tree: "Text:a",
+        within: 2..4,
+        path: &[],
+        range: 3..1,
+        others: "Text:z",
+        answer: "window 0..0 tried 0 <a>",
+        labels: "3..4",
+        sizes: "1/1",
+    },
+    Row {
+        shows: "an insertion in the middle widens the window by powers of two",
+        tree: EIGHT,
+        within: 2..20,
+        path: &[],
+        range: 4..4,
+        others: "Text:x",
+        answer: "window 0..9 tried 4 <abcdxefgh>",
+        labels: "2..20[3..4 4..5 5..6 6..7 7..8 8..9 9..10 10..11 11..12]",
+        sizes: "9/10(1 2 3 4 5 6 7 8 9)[1/1 1/1 1/1 1/1 1/1 1/1 1/1 1/1 1/1]",
+    },
+    Row {
+        shows: "an insertion at the front widens the window to the right",
+        tree: EIGHT,
+        within: 2..20,
+        path: &[],
+        range: 0..0,
+        others: "Text:x",
+        answer: "window 0..9 tried 5 <xabcdefgh>",
+        labels: "2..20[3..4 4..5 5..6 6..7 7..8 8..9 9..10 10..11 11..12]",
+        sizes: "9/10(1 2 3 4 5 6 7 8 9)[1/1 1/1 1/1 1/1 1/1 1/1 1/1 1/1 1/1]",
+    },
+    Row {
+        shows: "an insertion at the end has room at once",
+        tree: EIGHT,
+        within: 2..20,
+        path: &[],
+        range: 8..8,
+        others: "Text:x",
+        answer: "window 8..9 tried 1 <abcdefghx>",
+        labels: "2..20[3..4 4..5 5..6 6..7 7..8 8..9 9..10 10..11 13..14]",
+        sizes: "9/10(1 2 3 4 5 6 7 8 9)[1/1 1/1 1/1 1/1 1/1 1/1 1/1 1/1 1/1]",
+    },
+    Row {
+        shows: "equal neighbours of a change stay as they are",
+        tree: EIGHT,
+        within: 2..20,
+        path: &[],
+        range: 0..8,
+        others: "Text:a Text:b Text:c Text:y Text:e Text:f Text:g Text:h",
+        answer: "window 0..8 tried 4 <abcyefgh>",
+        labels: "2..20[3..4 4..5 5..6 6..7 7..8 8..9 9..10 10..11]",
+        sizes: "8/9(1 2 3 4 5 6 7 8)[1/1 1/1 1/1 1/1 1/1 1/1 1/1 1/1]",
+    },
+    Row {
+        shows: "two nodes have no room in the innermost one",
+        tree: STRONG,
+        within: 2..30,
+        path: &[0, 1],
+        range: 0..1,
+        others: "Text:x Text:y",
+        answer: "Unnumberable unchanged <*b*c>",
+        labels: "3..30[4..14[5..6 6..8[7..8] 8..9] 15..16]",
+        sizes: "4/7(3 4)[3/5(1 2 3)[1/1 1/2(1)[1/1] 1/1] 1/1]",
+    },
+    Row {
+        shows: "replacing below renumbers the node around, and corrects what is above",
+        tree: STRONG,
+        within: 2..30,
+        path: &[0],
+        range: 1..2,
+        others: "Markup[ Text:x Text:y ]",
+        answer: "window 0..3 tried 2 <*xy*c>",
+        labels: "3..30[4..14[5..6 6..9[7..8 8..9] 9..10] 15..16]",
+        sizes: "5/8(4 5)[4/6(1 3 4)[1/1 2/3(1 2)[1/1 1/1] 1/1] 1/1]",
+    },
+    Row {
+        shows: "a leaf below stays, whatever the range",
+        tree: STRONG,
+        within: 2..30,
+        path: &[1],
+        range: 7..3,
+        others: "Text:z",
+        answer: "window 0..0 tried 0 <*b*c>",
+        labels: "3..30[4..14[5..6 6..8[7..8] 8..9] 15..16]",
+        sizes: "4/7(3 4)[3/5(1 2 3)[1/1 1/2(1)[1/1] 1/1] 1/1]",
+    },
+    Row {
+        shows: "a growth three levels deep is accepted where there is room, and corrects all above",
+        tree: "Markup[ Strong[ Markup[ Text:a ] Star:* ] Text:c ]",
+        within: 2..200,
+        path: &[0, 0],
+        range: 1..1,
+        others: "Text:bb",
+        answer: "window 1..2 tried 1 <abb*c>",
+        labels: "10..200[22..82[28..42[32..33 35..36] 46..47] 90..91]",
+        sizes: "5/7(4 5)[4/5(3 4)[3/3(1 3)[1/1 2/1] 1/1] 1/1]",
+    },
+    Row {
+        shows: "a replaced error is reported no more",
+        tree: "Markup[ Strong[ !m:# ] Text:c ]",
+        within: 2..18,
+        path: &[0],
+        range: 0..1,
+        others: "Text:b",
+        answer: "window 0..1 tried 1 <bc>",
+        labels: "3..18[4..8[5..6] 9..10]",
+        sizes: "2/4(1 2)[1/2(1)[1/1] 1/1]",
+    },
+    Row {
+        shows: "a shorter text keeps its node's warning, whose part is then beyond it",
+        tree: "Strong[ Text:abcd ] ^0..4@m",
+        within: 2..100,
+        path: &[],
+        range: 0..1,
+        others: "Text:a",
+        answer: "window 0..1 tried 1 <a>",
+        labels: "14..100[36..37]",
+        sizes: "1/2(1)[1/1]",
+    },
+];
+
+/// The words for an answer, and for whether an edit that was refused changed the tree.
+fn answered(
+    alloc: Global,
+    answer: &Result<Renumbered, ReplaceError>,
+    tree: &SyntaxNode,
+    before: &SyntaxNode,
+) -> Result<String, DrawingError> {
+    let text = tree.full_text(alloc)?;
+    Ok(match answer {
+        Ok(Renumbered { window, tried }) => {
+            format!(in alloc; "window {window:?} tried {tried} <{text}>")?
+        }
+        Err(error) if tree == before => format!(in alloc; "{error:?} unchanged <{text}>")?,
+        Err(error) => format!(in alloc; "{error:?} changed <{text}>")?,
+    })
+}
+
+/// Replaces children of the node at a path, once the conditions have been tested. A replacement at the tree itself is
+/// also done by `replace_children`, which does the same.
+fn edit(
     alloc: Global,
     tree: &mut SyntaxNode,
     path: &[usize],
-    range: Range<usize>,
-    others: Vec<SyntaxNode>,
-) -> Result<Result<Renumbered, ReplaceError>, Fail> {
+    range: &Range<usize>,
+    others: &str,
+) -> Result<String, DrawingError> {
     if !tree.edit_fits(path, range.start..range.end) || !tree.is_numbered() {
-        return Err("the edit does not fit")?;
+        return Err(DrawingError::Numbers);
     }
-    Ok(tree.replace_at(alloc, path, range, others))
-}
-
-fn done(window: Range<usize>, tried: usize) -> Result<Renumbered, ReplaceError> {
-    Ok(Renumbered { window, tried })
+    let before = tree.clone()?;
+    let mut same = tree.clone()?;
+    let others_again = drawn_all(alloc, others)?;
+    let answer = tree.replace_at(
+        alloc,
+        path,
+        range.start..range.end,
+        drawn_all(alloc, others)?,
+    );
+    if path.is_empty() && same.edit_fits(&[], range.start..range.end) && same.is_numbered() {
+        let again = same.replace_children(alloc, range.start..range.end, others_again);
+        if again != answer || same != *tree {
+            return Err(DrawingError::Nodes);
+        }
+    }
+    answered(alloc, &answer, tree, &before)
 }
 
 #[test]
-fn inserting_between_widens_the_window(rt: HostRuntime) -> Result<(), Fail> {
+fn replacements_are_numbered_within_windows(rt: HostRuntime) -> Result<(), Fail> {
     let alloc = rt.alloc();
-    let mut tree = markup(alloc, &["ab", "c"], 1, 2..14)?;
-    let answer = replace(alloc, &mut tree, 1..1, texts(alloc, &["x"])?)?;
-    assert_eq!(rt; answer, done(0..3, 2));
-    assert_eq!(rt; numbers(alloc, &tree)?.as_slice(), [3, 4, 5, 6].as_slice());
-    assert_eq!(rt; tree.upper(), 14);
-    assert_eq!(rt; tree.full_text(alloc)?.as_str(), "abxc");
-    assert_eq!(rt; tree.len(), 4);
-    assert_eq!(rt; tree.descendants(), 4);
-    assert!(rt; tree.child_slice().len() == 3);
-    assert_eq!(rt;
-        (tree.child_end(0), tree.child_end(1), tree.child_end(2)),
-        (2, 3, 4)
-    );
+    for row in &EDITS {
+        let mut tree = numbered(alloc, row.tree, row.within.start..row.within.end)?;
+        let answer = edit(alloc, &mut tree, row.path, &row.range, row.others)?;
+        assert_eq!(rt; answer.as_str(), row.answer, "{}", row.shows);
+        assert_eq!(rt; labels(alloc, &tree)?.as_str(), row.labels, "{}", row.shows);
+        assert_eq!(rt; sizes(alloc, &tree)?.as_str(), row.sizes, "{}", row.shows);
+        assert!(rt;
+            tree.is_numbered() && is_of(&tree, FileId::new(1)),
+            "{}",
+            row.shows
+        );
+    }
+    Ok(())
+}
+
+/// The words for what a tree that isn't numbered answers.
+fn edit_detached(
+    alloc: Global,
+    drawing: &str,
+    range: Range<usize>,
+    others: &str,
+) -> Result<String, DrawingError> {
+    let mut tree = drawn(alloc, drawing)?;
+    if !tree.edit_fits(&[], range.start..range.end) || tree.span().id().is_some() {
+        return Err(DrawingError::Numbers);
+    }
+    let before = tree.clone()?;
+    let answer = tree.replace_children(alloc, range, drawn_all(alloc, others)?);
+    answered(alloc, &answer, &tree, &before)
+}
+
+#[test]
+fn a_detached_tree_takes_no_replacement(rt: HostRuntime) -> Result<(), Fail> {
+    let said = edit_detached(rt.alloc(), "Markup[ Text:a ]", 0..1, "Text:z")?;
+    assert_eq!(rt; said.as_str(), "Unnumberable unchanged <a>");
+    let said = edit_detached(rt.alloc(), "Text:a", 3..1, "Text:z")?;
+    assert_eq!(rt; said.as_str(), "window 0..0 tried 0 <a>");
     Ok(())
 }
 
 #[test]
 fn a_replacement_is_numbered_for_the_trees_file(rt: HostRuntime) -> Result<(), Fail> {
     let alloc = rt.alloc();
-    let mut tree = markup(alloc, &["ab", "c"], 1, 2..14)?;
-    let mut other = SyntaxNode::leaf(alloc, SyntaxKind::Text, "x")?;
-    number(&mut other, 2, 2..100)?;
-    let answer = replace(alloc, &mut tree, 1..1, vec![in alloc; other]?)?;
-    assert_eq!(rt; answer, done(0..3, 2));
-    assert_eq!(rt; numbers(alloc, &tree)?.as_slice(), [3, 4, 5, 6].as_slice());
-    assert_eq!(rt; tree.span().id(), FileId::new(1));
-    for child in tree.child_slice() {
-        assert_eq!(rt; child.span().id(), FileId::new(1));
-    }
-    Ok(())
-}
-
-#[test]
-fn removing_leaves_the_other_numbers(rt: HostRuntime) -> Result<(), Fail> {
-    let alloc = rt.alloc();
-    let mut tree = markup(alloc, &["ab", "c"], 1, 2..14)?;
-    let answer = replace(alloc, &mut tree, 0..1, Vec::new(alloc))?;
-    assert_eq!(rt; answer, done(0..0, 1));
-    assert_eq!(rt; numbers(alloc, &tree)?.as_slice(), [3, 7].as_slice());
-    assert_eq!(rt; tree.full_text(alloc)?.as_str(), "c");
-    Ok(())
-}
-
-#[test]
-fn equal_nodes_keep_their_numbers(rt: HostRuntime) -> Result<(), Fail> {
-    let alloc = rt.alloc();
-    let mut tree = markup(alloc, &["ab", "c"], 1, 2..14)?;
-    let before = tree.clone()?;
-    let answer = replace(alloc, &mut tree, 0..2, texts(alloc, &["ab", "c"])?)?;
-    assert_eq!(rt; answer, done(2..2, 1));
-    assert!(rt; tree == before);
-    Ok(())
-}
-
-#[test]
-fn no_room_changes_nothing(rt: HostRuntime) -> Result<(), Fail> {
-    let alloc = rt.alloc();
-    let mut tree = markup(alloc, &["a"], 1, 2..4)?;
-    let before = tree.clone()?;
-    let answer = replace(alloc, &mut tree, 0..1, texts(alloc, &["z"])?)?;
-    assert_eq!(rt; answer, Err(ReplaceError::Unnumberable));
-    assert!(rt; tree == before);
-    // A detached node has no file to number for.
-    let mut detached = SyntaxNode::inner(alloc, SyntaxKind::Markup, texts(alloc, &["a"])?)?;
-    let before = detached.clone()?;
-    let answer = replace(alloc, &mut detached, 0..1, texts(alloc, &["z"])?)?;
-    assert_eq!(rt; answer, Err(ReplaceError::Unnumberable));
-    assert!(rt; detached == before);
-    Ok(())
-}
-
-#[test]
-fn a_leaf_stays(rt: HostRuntime) -> Result<(), Fail> {
-    let alloc = rt.alloc();
-    let mut leaf = SyntaxNode::leaf(alloc, SyntaxKind::Text, "a")?;
-    let before = leaf.clone()?;
-    let answer = replace(alloc, &mut leaf, 3..1, texts(alloc, &["z"])?)?;
-    assert_eq!(rt; answer, done(0..0, 0));
-    assert!(rt; leaf == before);
-    Ok(())
-}
-
-/// Markup of the eight texts `a` to `h`, numbered within 2..20.
-fn eight_letters(alloc: Global) -> Result<SyntaxNode, Fail> {
-    markup(alloc, &["a", "b", "c", "d", "e", "f", "g", "h"], 1, 2..20)
-}
-
-#[test]
-fn an_insertion_in_the_middle_widens_the_window_by_powers_of_two(
-    rt: HostRuntime,
-) -> Result<(), Fail> {
-    let alloc = rt.alloc();
-    let mut tree = eight_letters(alloc)?;
-    let answer = replace(alloc, &mut tree, 4..4, texts(alloc, &["x"])?)?;
-    assert_eq!(rt; answer, done(0..9, 4));
-    let all = numbers(alloc, &tree)?;
-    assert_eq!(rt; all.as_slice(), [2, 3, 4, 5, 6, 7, 8, 9, 10, 11].as_slice());
-    assert_eq!(rt; tree.full_text(alloc)?.as_str(), "abcdxefgh");
-    Ok(())
-}
-
-#[test]
-fn an_insertion_at_the_front_widens_the_window_to_the_right(rt: HostRuntime) -> Result<(), Fail> {
-    let alloc = rt.alloc();
-    let mut tree = eight_letters(alloc)?;
-    let answer = replace(alloc, &mut tree, 0..0, texts(alloc, &["x"])?)?;
-    assert_eq!(rt; answer, done(0..9, 5));
-    let all = numbers(alloc, &tree)?;
-    assert_eq!(rt; all.as_slice(), [2, 3, 4, 5, 6, 7, 8, 9, 10, 11].as_slice());
-    assert_eq!(rt; tree.full_text(alloc)?.as_str(), "xabcdefgh");
-    Ok(())
-}
-
-#[test]
-fn an_insertion_at_the_end_has_room_at_once(rt: HostRuntime) -> Result<(), Fail> {
-    let alloc = rt.alloc();
-    let mut tree = eight_letters(alloc)?;
-    let answer = replace(alloc, &mut tree, 8..8, texts(alloc, &["x"])?)?;
-    assert_eq!(rt; answer, done(8..9, 1));
-    let all = numbers(alloc, &tree)?;
-    assert_eq!(rt; all.as_slice(), [2, 3, 4, 5, 6, 7, 8, 9, 10, 13].as_slice());
-    assert_eq!(rt; tree.upper(), 20);
-    Ok(())
-}
-
-#[test]
-fn equal_neighbours_of_a_change_stay_as_they_are(rt: HostRuntime) -> Result<(), Fail> {
-    let alloc = rt.alloc();
-    let mut tree = eight_letters(alloc)?;
-    let others = texts(alloc, &["a", "b", "c", "y", "e", "f", "g", "h"])?;
-    let answer = replace(alloc, &mut tree, 0..8, others)?;
-    assert_eq!(rt; answer, done(0..8, 4));
-    let all = numbers(alloc, &tree)?;
-    assert_eq!(rt; all.as_slice(), [2, 3, 4, 5, 6, 7, 8, 9, 10].as_slice());
-    assert_eq!(rt; tree.full_text(alloc)?.as_str(), "abcyefgh");
+    let mut tree = numbered(alloc, TWO, 2..14)?;
+    let mut other = drawn(alloc, "Text:x")?;
+    let two = FileId::new(2).ok_or("no file")?;
+    assert!(rt; other.numberize(two, 2..100).is_ok());
+    assert!(rt; tree.is_numbered() && tree.edit_fits(&[], 1..1));
+    let done = tree.replace_children(alloc, 1..1, vec![in alloc; other]?);
+    assert!(rt; done.is_ok());
+    assert_eq!(rt; labels(alloc, &tree)?.as_str(), "3..14[4..5 5..6 6..7]");
+    assert!(rt; is_of(&tree, FileId::new(1)));
     Ok(())
 }
 
 #[test]
 fn edits_fit_where_their_path_leads_and_their_range_ends(rt: HostRuntime) -> Result<(), Fail> {
-    let tree = strong(rt.alloc())?;
-    assert!(rt; tree.edit_fits(&[0, 1], 0..1));
-    assert!(rt; !tree.edit_fits(&[0, 1], 0..2));
-    assert!(rt; !tree.edit_fits(&[0, 1], 1..0));
-    assert!(rt; !tree.edit_fits(&[5], 0..0));
-    assert!(rt; tree.edit_fits(&[1], 7..3));
-    Ok(())
-}
-
-#[test]
-fn two_nodes_have_no_room_in_the_innermost_one(rt: HostRuntime) -> Result<(), Fail> {
-    let alloc = rt.alloc();
-    let mut tree = strong(alloc)?;
-    let before = tree.clone()?;
-    let answer = replace_at(alloc, &mut tree, &[0, 1], 0..1, texts(alloc, &["x", "y"])?)?;
-    assert_eq!(rt; answer, Err(ReplaceError::Unnumberable));
-    assert!(rt; tree == before);
-    Ok(())
-}
-
-/// The same tree with Markup of the texts `x` and `y` in the place of that of the text `b`.
-fn widened(alloc: Global) -> Result<SyntaxNode, Fail> {
-    let mut tree = strong(alloc)?;
-    let inside = SyntaxNode::inner(alloc, SyntaxKind::Markup, texts(alloc, &["x", "y"])?)?;
-    let answer = replace_at(alloc, &mut tree, &[0], 1..2, vec![in alloc; inside]?)?;
-    if answer != done(0..3, 2) {
-        return Err("another window")?;
-    }
-    Ok(tree)
-}
-
-#[test]
-fn replacing_below_renumbers_the_node_around(rt: HostRuntime) -> Result<(), Fail> {
-    let alloc = rt.alloc();
-    let before = [3, 4, 5, 6, 7, 8, 15];
-    assert_eq!(rt;
-        numbers(alloc, &strong(alloc)?)?.as_slice(),
-        before.as_slice()
-    );
-    let tree = widened(alloc)?;
-    let after = [3, 4, 5, 6, 7, 8, 9, 15];
-    assert_eq!(rt; numbers(alloc, &tree)?.as_slice(), after.as_slice());
-    assert!(rt; tree.is_numbered());
-    Ok(())
-}
-
-#[test]
-fn replacing_below_corrects_what_is_above(rt: HostRuntime) -> Result<(), Fail> {
-    let alloc = rt.alloc();
-    let tree = widened(alloc)?;
-    assert_eq!(rt; tree.full_text(alloc)?.as_str(), "*xy*c");
-    assert_eq!(rt; tree.len(), 5);
-    assert_eq!(rt; tree.descendants(), 8);
-    assert_eq!(rt; tree.upper(), 30);
-    assert!(rt; tree.child_slice().len() == 2);
-    assert_eq!(rt; (tree.child_end(0), tree.child_end(1)), (4, 5));
-    Ok(())
-}
-
-#[test]
-fn replacing_below_corrects_the_edited_node(rt: HostRuntime) -> Result<(), Fail> {
-    let tree = widened(rt.alloc())?;
-    let strong = tree.child_slice().first().ok_or("no child")?;
-    assert!(rt; strong.child_slice().len() == 3);
-    assert_eq!(rt; strong.upper(), 14);
-    assert_eq!(rt; strong.descendants(), 6);
-    let ends = (
-        strong.child_end(0),
-        strong.child_end(1),
-        strong.child_end(2),
-    );
-    assert_eq!(rt; ends, (1, 3, 4));
-    assert_eq!(rt; strong.child_slice()[1].upper(), 9);
-    Ok(())
-}
-
-#[test]
-fn equality_sees_spans_and_spanless_equality_does_not(rt: HostRuntime) -> Result<(), Fail> {
-    let alloc = rt.alloc();
-    let tree = strong(alloc)?;
-    let mut other = tree.clone()?;
-    assert!(rt; tree == other);
-    number(&mut other, 1, 2..100)?;
-    assert!(rt; tree != other);
-    assert!(rt; tree.spanless_eq(&other));
-    let answer = replace_at(alloc, &mut other, &[0, 1], 0..1, texts(alloc, &["d"])?)?;
-    assert!(rt; answer.is_ok());
-    assert!(rt; !tree.spanless_eq(&other));
-    Ok(())
-}
-
-// With ample memory a replacement that grows succeeds. A pass in which its growth is refused shows that nothing has
-// changed then; where another allocation is refused, the test ends there.
-#[test]
-fn a_refused_growth_changes_nothing(rt: HostRuntime) -> Result<(), Fail> {
-    let alloc = rt.alloc();
-    let mut tree = markup(alloc, &["ab", "c"], 1, 2..14)?;
-    let before = tree.clone()?;
-    let others = texts(alloc, &["x", "y", "z"])?;
-    match replace(alloc, &mut tree, 1..1, others)? {
-        Ok(_) => assert_eq!(rt; tree.full_text(alloc)?.as_str(), "abxyzc"),
-        Err(e) => {
-            assert_eq!(rt; e, ReplaceError::Memory);
-            assert!(rt; tree == before);
-        }
+    let tree = numbered(rt.alloc(), STRONG, 2..30)?;
+    let rows: [(&[usize], Range<usize>, bool); 6] = [
+        (&[0, 1], 0..1, true),
+        (&[0, 1], 0..2, false),
+        (&[0, 1], 1..0, false),
+        (&[5], 0..0, false),
+        (&[1], 7..3, true),
+        (&[1, 0], 0..0, false),
+    ];
+    for (path, range, wanted) in &rows {
+        assert_eq!(rt;
+            tree.edit_fits(path, range.start..range.end),
+            *wanted,
+            "{path:?}"
+        );
     }
     Ok(())
 }
 
-#[test]
-fn a_replaced_error_is_reported_no_more(rt: HostRuntime) -> Result<(), Fail> {
-    let alloc = rt.alloc();
-    let error = SyntaxNode::error(alloc, "m", "#")?;
-    let strong = SyntaxNode::inner(alloc, SyntaxKind::Strong, vec![in alloc; error]?)?;
-    let last = SyntaxNode::leaf(alloc, SyntaxKind::Text, "c")?;
-    let mut tree = SyntaxNode::inner(alloc, SyntaxKind::Markup, vec![in alloc; strong, last]?)?;
-    number(&mut tree, 1, 2..18)?;
-    assert_eq!(rt; numbers(alloc, &tree)?.as_slice(), [3, 4, 5, 9].as_slice());
-    assert!(rt; tree.diagnosis().errors);
-    let answer = replace_at(alloc, &mut tree, &[0], 0..1, texts(alloc, &["b"])?)?;
-    assert_eq!(rt; answer, done(0..1, 1));
-    assert_eq!(rt; numbers(alloc, &tree)?.as_slice(), [3, 4, 5, 9].as_slice());
-    assert!(rt; !tree.diagnosis().errors && !tree.diagnosis().warnings);
-    assert_eq!(rt; tree.upper(), 18);
-    let strong = tree.child_slice().first().ok_or("no child")?;
-    assert_eq!(rt; strong.upper(), 8);
-    Ok(())
+/// The words for a tree's diagnosis before and after its first child's first child is replaced by a text.
+fn diagnosed_around(alloc: Global, drawing: &str) -> Result<String, DrawingError> {
+    let mut tree = numbered(alloc, drawing, 2..18)?;
+    let before = diagnosed(&tree);
+    edit(alloc, &mut tree, &[0], &(0..1), "Text:b")?;
+    let after = diagnosed(&tree);
+    Ok(format!(in alloc; "{before}, then {after}")?)
 }
 
 #[test]
 fn a_replaced_error_leaves_the_warnings_above_it(rt: HostRuntime) -> Result<(), Fail> {
+    let rows = [
+        ("Markup[ Strong[ !m:# ] Text:c ]", "errors, then -"),
+        ("Markup[ Strong[ !m:# ] ^w Text:c ]", "both, then warnings"),
+        ("Markup[ Strong[ !m:# ] !n:c ]", "errors, then errors"),
+        ("Markup[ Strong[ !m:# ^w ] Text:c ]", "both, then -"),
+    ];
+    for (drawing, wanted) in rows {
+        let said = diagnosed_around(rt.alloc(), drawing)?;
+        assert_eq!(rt; said.as_str(), wanted, "{drawing}");
+    }
+    Ok(())
+}
+
+// With ample memory a replacement that grows succeeds. A pass in which its growth is refused shows that nothing has
+// changed then.
+#[test]
+fn a_refused_growth_changes_nothing(rt: HostRuntime) -> Result<(), Fail> {
     let alloc = rt.alloc();
-    let error = SyntaxNode::error(alloc, "m", "#")?;
-    let mut strong = SyntaxNode::inner(alloc, SyntaxKind::Strong, vec![in alloc; error]?)?;
-    strong.warn(alloc, "w")?;
-    let last = SyntaxNode::leaf(alloc, SyntaxKind::Text, "c")?;
-    let mut tree = SyntaxNode::inner(alloc, SyntaxKind::Markup, vec![in alloc; strong, last]?)?;
-    number(&mut tree, 1, 2..18)?;
-    assert!(rt; tree.diagnosis().errors && tree.diagnosis().warnings);
-    let answer = replace_at(alloc, &mut tree, &[0], 0..1, texts(alloc, &["b"])?)?;
-    assert_eq!(rt; answer, done(0..1, 1));
-    assert!(rt; !tree.diagnosis().errors && tree.diagnosis().warnings);
+    let mut tree = numbered(alloc, TWO, 2..14)?;
+    let before = tree.clone()?;
+    let others = drawn_all(alloc, "Text:x")?;
+    assert!(rt; tree.is_numbered() && tree.edit_fits(&[], 1..1));
+    let done = tree.replace_children(alloc, 1..1, others);
+    if done == Err(ReplaceError::Memory) {
+        assert!(rt; tree == before);
+    } else {
+        assert!(rt; done.is_ok() && tree != before);
+    }
     Ok(())
 }

@@ -2,3 +2,4 @@ pub mod Refusals
 pub mod PlainRuns
 pub mod Runs
 pub mod KeptPaths
+pub mod Reading

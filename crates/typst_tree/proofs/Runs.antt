@@ -21,7 +21,7 @@ run_push t (b ∷ bs) (c ∷ cs) u before after v r a = (r.0, r.1, run_push r.0 
 run_push t [] (c ∷ cs) u before after v r a = absurd r
 run_push t (b ∷ bs) [] u before after v r a = absurd r
 
--- the first of what is left, and what is left behind it
+-- the first of what is left, and what is left after it
 same_next : (xs ys : List Slot) (i : ℕ) (d : Slot) → i < length ys → length xs ≡ length ys → drop i xs ≡ drop i ys → (get_or xs i d ≡ get_or ys i d) × (drop (i + 1) xs ≡ drop (i + 1) ys)
 same_next xs ys i d l e h =
     let a : drop i xs ≡ get_or xs i d ∷ drop (i + 1) xs = drop_more xs i d (omega arith) in
@@ -41,7 +41,7 @@ pub rest_more : (olds news : List Slot) (i : ℕ) (d after : Slot) → i < lengt
 rest_more olds news i d after l e h = drop-set-lt (i + 1) news i after (omega arith) ∙ (same_next news olds i d l e h).1
 
 -- numbers stay in order, for the same file
-step_numbered : (file : ℕ) (t : Tree) (q : Request) (r : Reply) (u : Tree) → IsNumberedFor file t → Step t q r u → IsNumberedFor file u
+pub step_numbered : (file : ℕ) (t : Tree) (q : Request) (r : Reply) (u : Tree) → IsNumberedFor file t → Step t q r u → IsNumberedFor file u
 step_numbered file t (Replace path range others) (Renumbered r) u n s = subst (λ f. IsNumberedFor f u) n.in_file.0.0 s.1.numbered
 step_numbered file t (Replace path range others) Misfit u n s = subst (IsNumberedFor file) (sym s.1) n
 step_numbered file t (Replace path range others) (Refused e) u n s = subst (IsNumberedFor file) (sym s.2) n

@@ -2,3 +2,4 @@ pub mod Step
 pub mod Found
 pub mod Run
 pub mod Kept
+pub mod Reads

@@ -17,6 +17,8 @@ pub use typst_ast::MathArgItems;
 pub use typst_ast::MathArgList;
 pub use typst_ast::Param;
 pub use typst_ast::Pattern;
+pub use typst_ast::View;
+pub use typst_ast::bare_names::BareNameResult;
 pub use typst_ast::file_stem;
 pub use typst_ast::is_alike;
 pub use typst_ast::views::Args;

@@ -14,6 +14,8 @@
 //! ```
 #![tactic(auto)]
 
+pub use crate::numbered::NumberedTree;
+pub use crate::paths::node_at;
 pub use typst_base::{
     DiagSpan, DiagSpanKind, FileId, MapperError, ModeAfter, RangeMapper, Span, SpanDetached,
     SpanKind, SpanNumber, Spanned, SubRange, SyntaxKind, SyntaxMode, SyntaxSet, named_sets,
@@ -21,10 +23,10 @@ pub use typst_base::{
 pub use typst_linked::{LinkedChildren, LinkedNode, LinkedPreorder, Looks, Side};
 pub use typst_node::{
     Diagnosis, InnerError, Renumbered, ReplaceError, SyntaxDiagnostic, SyntaxNode, SynthesizeError,
-    Unnumberable,
+    Unnumberable, span_of,
 };
 
 pub mod ast;
+mod numbered;
+mod paths;
 pub mod session;
-#[cfg(test)]
-mod tests;

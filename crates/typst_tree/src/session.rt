@@ -1,5 +1,5 @@
 // Runs of replacements and searches on one tree.
-ghost use Rattle.std.specs.Prelude.{◌≡◌, ◌++◌, ◌↔◌, ℕ, List, Some, IsTrue, IfOk};
+ghost use Rattle.std.specs.Prelude.{◌≡◌, ◌≢◌, ◌↔◌, ℕ, List, Some, IsTrue, MatchOption};
 ghost use Rattle.typst_linked.specs.Search.{with_number};
 ghost use Rattle.typst_node.specs.Labels.{number};
 ghost use Rattle.typst_node.specs.Numbered.{IsNumbered, IsNumberedFor};
@@ -8,10 +8,12 @@ ghost use Rattle.typst_node.specs.Plain.{plain};
 ghost use Rattle.typst_tree.specs.Step.{Step, FitsInner};
 ghost use Rattle.typst_tree.specs.Found.{TellsPlace};
 ghost use Rattle.typst_tree.specs.Kept.{IsKept};
+ghost use Rattle.typst_tree.specs.Reads.{ReadsAs};
 ghost use Rattle.typst_tree.specs.Run.{Answers, Run, edited_by};
 ghost use Rattle.typst_tree.specs.declared.session.Request.TheVariants.{Find, Replace};
+ghost use Rattle.typst_tree.specs.declared.session.Slot.TheVariants.{Told};
 
-use std::alloc::{AllocError, Global};
+use std::alloc::Global;
 use std::mem;
 use std::ops::Range;
 use typst_base::Span;
@@ -19,7 +21,7 @@ use typst_linked::{LinkedNode, Looks};
 use typst_node::{Renumbered, ReplaceError, SyntaxNode};
 
 /// What is asked of a tree.
-#[derive(Drop)]
+#[derive(Debug, Drop)]
 pub enum Request {
     /// To replace the children with an index in the range of the inner node that the path leads to.
     Replace {
@@ -35,7 +37,7 @@ pub enum Request {
 }
 
 /// What became of a request.
-#[derive(Debug, PartialEq, Eq, Drop)]
+#[derive(Clone, Debug, PartialEq, Eq, Drop)]
 pub enum Reply {
     /// The children were replaced, and this window was numbered anew.
     Renumbered(Renumbered),
@@ -62,10 +64,24 @@ pub enum Reply {
 }
 
 /// A request, or the reply that it has got.
-#[derive(Drop)]
+#[derive(Debug, Drop)]
 pub enum Slot {
+    /// A request that waits.
     Ask(Request),
+    /// The reply to a request that was served.
     Told(Reply),
+}
+
+impl Slot {
+    /// The reply, once the request was served.
+    pub fn reply(&self) -> Option<&Reply>
+        ensures { MatchOption result ((reply : _) → self.now ≢ Told reply) (λ reply. self.now ≡ Told reply.now) }
+    {
+        match self {
+            Slot::Ask(_) => None,
+            Slot::Told(reply) => Some(reply),
+        }
+    }
 }
 
 /// Serves the requests in order: each `Ask` becomes the `Told` of its reply, and a `Told` stays.
@@ -77,6 +93,7 @@ pub fn run(alloc: Global, root: &mut SyntaxNode, slots: &mut [Slot])
     ensures run { Run root.old slots.old slots.new root.new }
     ensures numbered { IsNumberedFor root.old.label.span.file root.new }
     ensures plain { plain root.new ≡ plain (edited_by slots.old slots.new root.old) }
+    ensures reads { ReadsAs root.new (edited_by slots.old slots.new root.old) }
     ensures kept { (p q : List ℕ) → IsPath p root.old
         → IsKept root.old slots.old slots.new root.new p q
         → IsPath q root.new × ((tree_at q root.new).label ≡ (tree_at p root.old).label) }
@@ -101,9 +118,11 @@ fn answer(alloc: Global, root: &mut SyntaxNode, slot: &mut Slot)
 }
 
 /// The reply to one request, and its change of the tree.
-fn serve(alloc: Global, root: &mut SyntaxNode, request: Request) -> Reply
+#[tactic(auto, using(crate::proofs::Runs::step_numbered))]
+pub(crate) fn serve(alloc: Global, root: &mut SyntaxNode, request: Request) -> Reply
     requires { IsNumbered root.old }
-    ensures { Step root.old request result root.new }
+    ensures step { Step root.old request result root.new }
+    ensures numbered { IsNumberedFor root.old.label.span.file root.new }
 {
     match request {
         Request::Replace {
@@ -149,7 +168,7 @@ fn fits(root: &SyntaxNode, path: &[usize], start: usize, end: usize) -> bool
 }
 
 /// The reply to a search.
-fn find(alloc: Global, root: &SyntaxNode, span: Span) -> Reply
+pub(crate) fn find(alloc: Global, root: &SyntaxNode, span: Span) -> Reply
     ensures { Step root.now (Find span) result root.now }
 {
     let mut looks = Looks::new();
@@ -168,7 +187,7 @@ fn found_reply(alloc: Global, found: Option<LinkedNode>, looks: u64) -> Reply
         return Reply::NotFound { looks };
     };
     let offset = found.offset();
-    match path_of(alloc, &found) {
+    match found.path(alloc) {
         Ok(path) => Reply::Found {
             path,
             offset,
@@ -176,23 +195,4 @@ fn found_reply(alloc: Global, found: Option<LinkedNode>, looks: u64) -> Reply
         },
         Err(_) => Reply::NoMemory,
     }
-}
-
-/// The child indices from the root down to a linked node.
-fn path_of(alloc: Global, node: &LinkedNode) -> Result<Vec<usize>, AllocError>
-    ensures { IfOk result (λ v. v.items ≡ node.now.path) }
-{
-    let mut path = Vec::new(alloc);
-    push_path(node, &mut path)?;
-    Ok(path)
-}
-
-fn push_path(node: &LinkedNode, path: &mut Vec<usize>) -> Result<(), AllocError>
-    ensures { IfOk result (λ _. path.new.items ≡ path.old.items ++ node.now.path) }
-{
-    if let Some(parent) = node.parent() {
-        push_path(parent, path)?;
-        path.push(node.index())?;
-    }
-    Ok(())
 }

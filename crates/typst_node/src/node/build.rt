@@ -1,11 +1,12 @@
-ghost use Rattle.std.specs.Prelude.{◌≡◌, ◌≢◌, ◌↔◌, [], IfOk, IsErrOf};
+ghost use Rattle.std.specs.Prelude.{◌≡◌, ◌≢◌, ◌≤◌, ◌↔◌, [], length, IfOk, IsErrOf, IsOk};
 ghost use Rattle.typst_base.specs.declared.kind.SyntaxKind.TheVariants.{Error};
 ghost use Rattle.typst_node.specs.Tree.{leaf_tree, inner_tree};
 ghost use Rattle.typst_node.specs.Count.{SumsFit};
 ghost use Rattle.typst_node.specs.declared.node.build.InnerError.TheVariants.{Overflow, Memory};
 
 use crate::node::inner::{ends_of, sums_of};
-use crate::node::{InnerNode, Node, SyntaxNode};
+use crate::node::{InnerNode, LongLeaf, Node, SyntaxNode};
+use crate::short_text::{LONGEST, ShortText};
 use std::alloc::{AllocError, AllocFailed, Global};
 use thiserror::Error;
 use typst_base::{Span, SyntaxKind};
@@ -40,14 +41,20 @@ impl From<AllocError> for InnerError {
 /// # Making nodes
 impl SyntaxNode {
     /// A detached leaf with a copy of the text. The test of the condition is `SyntaxKind::is_error`.
-    /// Only want of memory is an error.
+    /// A text of at most 21 bytes takes no memory. For a longer one only want of memory is an error.
     pub fn leaf(alloc: Global, kind: SyntaxKind, text: &str) -> Result<SyntaxNode, AllocError>
         requires { kind ≢ Error }
-        ensures { IfOk result (λ t. t ≡ leaf_tree kind text.now) }
+        ensures leaf { IfOk result (λ t. t ≡ leaf_tree kind text.now) }
+        ensures succeeds { length text.now ≤ 21 → IsOk result }
     {
-        let text = String::from_str(alloc, text)?;
+        let node = if text.len() <= LONGEST {
+            Node::Short(kind, ShortText::new(text))
+        } else {
+            let text = String::from_str(alloc, text)?;
+            Node::Long(Box::new(alloc, LongLeaf { kind, text })?)
+        };
         Ok(SyntaxNode {
-            node: Node::Leaf(kind, text),
+            node,
             span: Span::detached(),
             warnings: Vec::new(alloc),
         })
@@ -60,7 +67,7 @@ impl SyntaxNode {
         ensures { result ≡ leaf_tree kind [] }
     {
         SyntaxNode {
-            node: Node::Leaf(kind, String::new(alloc)),
+            node: Node::Short(kind, ShortText::new("")),
             span: Span::detached(),
             warnings: Vec::new(alloc),
         }

@@ -26,7 +26,8 @@ impl SyntaxNode {
         ensures { self.new ≡ of_kind kind self.old }
     {
         match &mut self.node {
-            Node::Leaf(old, _) => *old = kind,
+            Node::Short(old, _) => *old = kind,
+            Node::Long(leaf) => leaf.kind = kind,
             Node::Inner(inner) => inner.kind = kind,
             Node::Error(_) => unreachable!(),
         }

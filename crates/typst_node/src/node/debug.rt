@@ -12,7 +12,7 @@ impl fmt::Debug for SyntaxNode {
     /// - An error is `Error: "message"`, or with a text or hints
     ///   `Error: { text: "text", message: "message", hint: "hint" }`.
     /// - A warning is `Warning: {message: "message", hint: "hint", NODE}` round its node.
-    /// - A part of a node adds ` @("slice")` behind `message` or `hint`, or ` @(3..9)` where its ends are no
+    /// - A part of a node adds ` @("slice")` after `message` or `hint`, or ` @(3..9)` where its ends are no
     ///   boundaries of characters within the node's text.
     fn fmt<W: fmt::Write>(&self, f: &mut fmt::Formatter<W>) -> fmt::Result {
         self.write_line(f)
@@ -27,7 +27,8 @@ impl SyntaxNode {
             self.write_warning(f, &self.warnings[count - 1 - done])?;
         }
         match &self.node {
-            Node::Leaf(kind, text) => write!(f, "{kind:?}: {text:?}")?,
+            Node::Short(kind, text) => write!(f, "{kind:?}: {:?}", text.as_str())?,
+            Node::Long(leaf) => write!(f, "{:?}: {:?}", leaf.kind, leaf.text)?,
             Node::Error(error) => self.write_error(f, error)?,
             Node::Inner(inner) => {
                 write!(f, "{:?}: {}", inner.kind, inner.len)?;
@@ -112,7 +113,8 @@ impl SyntaxNode {
     /// Whether a character of the node's text begins at this byte, or the text ends there.
     fn is_boundary(&self, at: usize) -> bool {
         match &self.node {
-            Node::Leaf(_, text) => text.as_str().is_char_boundary(at),
+            Node::Short(_, text) => text.as_str().is_char_boundary(at),
+            Node::Long(leaf) => leaf.text.as_str().is_char_boundary(at),
             Node::Error(error) => error.text.as_str().is_char_boundary(at),
             Node::Inner(inner) => {
                 let mut rest = at;
@@ -135,7 +137,8 @@ impl SyntaxNode {
         end: usize,
     ) -> fmt::Result {
         match &self.node {
-            Node::Leaf(_, text) => write_escaped(f, text.as_str(), start, end),
+            Node::Short(_, text) => write_escaped(f, text.as_str(), start, end),
+            Node::Long(leaf) => write_escaped(f, leaf.text.as_str(), start, end),
             Node::Error(error) => write_escaped(f, error.text.as_str(), start, end),
             Node::Inner(inner) => {
                 let mut start = start;

@@ -2,6 +2,7 @@
 ghost use Rattle.std.specs.Prelude.{◌≡◌, ◌≢◌, ◌++◌, ◌↔◌, [], map, string_bytes, IfOk, IsTrue, OnOk};
 ghost use Rattle.typst_node.specs.Diagnosis.{has_error, has_warning};
 ghost use Rattle.typst_node.specs.Diagnostics.{error_report, errors_of, placed, warning_report, warnings_of};
+ghost use Rattle.typst_node.specs.Entries.{error_entries, told, warning_entries};
 ghost use Rattle.typst_node.specs.Reported.{placed_hint, report};
 ghost use Rattle.typst_node.specs.View.{hint_text, shown_warnings, warning_text};
 
@@ -33,8 +34,8 @@ impl SyntaxNode {
         &self,
         alloc: Global,
     ) -> Result<(Vec<SyntaxDiagnostic>, Vec<SyntaxDiagnostic>), AllocError>
-        ensures errors { IfOk result (λ lists. map report lists.0.items ≡ errors_of self.now) }
-        ensures warnings { IfOk result (λ lists. map report lists.1.items ≡ warnings_of self.now) }
+        ensures errors { IfOk result (λ lists. map report lists.0.items ≡ map (told self.now) (error_entries self.now)) }
+        ensures warnings { IfOk result (λ lists. map report lists.1.items ≡ map (told self.now) (warning_entries self.now)) }
         ensures error_diagnosed { IfOk result (λ lists. (lists.0.items ≢ []) ↔ IsTrue (has_error self.now)) }
         ensures warning_diagnosed { IfOk result (λ lists. (lists.1.items ≢ []) ↔ IsTrue (has_warning self.now)) }
     {
@@ -61,7 +62,7 @@ impl SyntaxNode {
         }
         push_warnings(alloc, self.span, &self.warnings, warnings)?;
         match &self.node {
-            Node::Leaf(..) => Ok(()),
+            Node::Short(..) | Node::Long(_) => Ok(()),
             Node::Inner(inner) => {
                 for child in &inner.children {
                     child.push_reports(alloc, errors, warnings)?;

@@ -31,19 +31,15 @@ impl Node {
         ensures { IsTrue result ↔ ((content self.now ≡ content other.now) × (below self.now ≡ below other.now)) }
     {
         match self {
-            Node::Leaf(kind, text) => match other {
-                Node::Leaf(other_kind, other_text) => {
-                    same_kind(*kind, *other_kind) && text.as_str() == other_text.as_str()
-                }
-                Node::Inner(_) | Node::Error(_) => false,
-            },
+            Node::Short(kind, text) => other.is_leaf_of(*kind, text.as_str()),
+            Node::Long(leaf) => other.is_leaf_of(leaf.kind, leaf.text.as_str()),
             Node::Inner(inner) => match other {
                 Node::Inner(other_inner) => {
                     same_kind(inner.kind, other_inner.kind)
                         && inner.upper == other_inner.upper
                         && all_same(&inner.children, &other_inner.children)
                 }
-                Node::Leaf(..) | Node::Error(_) => false,
+                Node::Short(..) | Node::Long(_) | Node::Error(_) => false,
             },
             Node::Error(error) => match other {
                 Node::Error(other_error) => {
@@ -51,7 +47,7 @@ impl Node {
                         && error.message.as_str() == other_error.message.as_str()
                         && same_hints(&error.hints, &other_error.hints)
                 }
-                Node::Leaf(..) | Node::Inner(_) => false,
+                Node::Short(..) | Node::Long(_) | Node::Inner(_) => false,
             },
         }
     }

@@ -1,11 +1,12 @@
 // Hashes of whole trees.
 ghost use Rattle.std.specs.Prelude.{◌≡◌, fold, map, reverse};
 ghost use Rattle.typst_node.specs.Hashed.{sub_range_input, hint_input, hints_input, warning_input, warnings_input, content_input, span_input, label_input, tree_input};
+ghost use Rattle.typst_node.specs.Tree.{AsLeaf};
 ghost use Rattle.typst_node.specs.View.{hint_text, warning_text, content};
 
 use crate::node::{Hint, Node, SyntaxNode, Warning};
 use std::hash::{Hash, Hasher};
-use typst_base::{Span, SubRange};
+use typst_base::{Span, SubRange, SyntaxKind};
 
 fn feed_sub_range<H: Hasher>(sub_range: Option<SubRange>, state: &mut H)
     ensures { state.new ≡ fold H.write state.old (sub_range_input sub_range) }
@@ -60,17 +61,22 @@ fn feed_warnings<H: Hasher>(warnings: &[Warning], state: &mut H)
     }
 }
 
+fn feed_leaf<H: Hasher>(kind: SyntaxKind, text: &str, state: &mut H)
+    ensures { state.new ≡ fold H.write state.old (content_input (AsLeaf kind text.now)) }
+{
+    state.write_u8(0);
+    state.write_u8(kind.to_u8());
+    text.hash(state);
+}
+
 impl Node {
     /// Feeds what the node is without its children.
     fn feed_content<H: Hasher>(&self, state: &mut H)
         ensures { state.new ≡ fold H.write state.old (content_input (content self.now)) }
     {
         match self {
-            Node::Leaf(kind, text) => {
-                state.write_u8(0);
-                state.write_u8(kind.to_u8());
-                text.as_str().hash(state);
-            }
+            Node::Short(kind, text) => feed_leaf(*kind, text.as_str(), state),
+            Node::Long(leaf) => feed_leaf(leaf.kind, leaf.text.as_str(), state),
             Node::Error(error) => {
                 state.write_u8(1);
                 error.text.as_str().hash(state);

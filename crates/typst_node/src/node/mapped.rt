@@ -1,7 +1,8 @@
 // Trees whose nodes have the places of mapped bytes.
 ghost use Rattle.std.specs.Prelude.{◌≡◌, ◌+◌, ◌<◌, ◌≤◌, ◌↔◌, length, map, IsErr, IsErrOf, OnErr, OnOk};
 ghost use Rattle.typst_base.specs.SubRange.{interval};
-ghost use Rattle.typst_node.specs.Mapped.{mapped_hint, mapped_part, mapped_tree, mapped_trees, mapped_warning};
+ghost use Rattle.typst_node.specs.Mapped.{IsMapped, mapped_hint, mapped_part, mapped_warning};
+ghost use Rattle.typst_node.specs.MappedForest.{mapped_tree, mapped_trees};
 ghost use Rattle.typst_node.specs.Text.{text, text_of_all};
 ghost use Rattle.typst_node.specs.View.{hint_text, IsMeasured, shown_warnings, warning_text};
 
@@ -31,6 +32,7 @@ impl SyntaxNode {
     /// A sub-range of a warning or a hint is mapped at its node's offset. It goes where it passes the node's text, or
     /// where its place is no sub-range. Where the text is longer than the mapper, nothing has changed.
     /// It takes no memory, and time in proportion to the nodes, each with the logarithm of the mapper's segments.
+    #[tactic(auto, using(crate::proofs::MappedPaths::mapped_from_start))]
     pub fn synthesize_mapped(
         &mut self,
         id: FileId,
@@ -40,7 +42,7 @@ impl SyntaxNode {
             ↔ (length mapper.now.positions < length (text self.old)) }
         ensures refused { IsErr result ↔ (length mapper.now.positions < length (text self.old)) }
         ensures err { OnErr result (self.new ≡ self.old) }
-        ensures ok { OnOk result (self.new ≡ mapped_tree mapper.now id 0 self.old) }
+        ensures ok { OnOk result (IsMapped mapper.now id self.old self.new) }
     {
         let text = self.len();
         let total = mapper.total_len();
@@ -60,11 +62,12 @@ impl SyntaxNode {
         requires { at + length (text self.old) ≤ length mapper.now.positions }
         ensures { self.new ≡ mapped_tree mapper.now id at self.old }
     {
+        // Read for the proof: the mapper's length is a usize, so no offset below it overflows.
         let _total = mapper.total_len();
         let end = at + self.len();
         let span = Span::from_range(id, mapper.map(at..end));
         match &mut self.node {
-            Node::Leaf(..) => {
+            Node::Short(..) | Node::Long(_) => {
                 self.span = span;
                 map_parts(&mut self.warnings, mapper, at, end);
             }
@@ -92,6 +95,7 @@ impl InnerNode {
         ensures upper { self.new.upper ≡ span.low }
         ensures children { self.new.children.items ≡ mapped_trees mapper.now id at self.old.children.items }
     {
+        // Read for the proof: the mapper's length is a usize, so no offset below it overflows.
         let _total = mapper.total_len();
         self.upper = span.number();
         let mut at = at;

@@ -1,10 +1,11 @@
 // Numbers in order, and the test whether they are.
-ghost use Rattle.std.specs.Prelude.{◌≡◌, ◌+◌, ◌-◌, ◌*◌, ◌/◌, ◌^◌, ◌<◌, ◌≤◌, ◌⊎◌, ◌↔◌, map, OnOk, OnErr, IsErr, IsTrue};
+ghost use Rattle.std.specs.Prelude.{ℕ, List, ◌≡◌, ◌+◌, ◌-◌, ◌*◌, ◌/◌, ◌^◌, ◌<◌, ◌≤◌, ◌⊎◌, ◌↔◌, map, OnOk, OnErr, IsErr, IsTrue};
 ghost use Rattle.typst_node.specs.Tree.{forest, IsInner};
 ghost use Rattle.typst_node.specs.Count.{count, count_of_all};
 ghost use Rattle.typst_node.specs.Labels.{number, bound};
 ghost use Rattle.typst_node.specs.Numbered.{IsNumberedFor, IsNumbered, AllIn};
 ghost use Rattle.typst_node.specs.Plain.{plain};
+ghost use Rattle.typst_node.specs.PlainEdit.{EditFits};
 ghost use Rattle.typst_node.specs.View.{IsMeasured};
 ghost use Rattle.typst_node.specs.Interval.{IsWithin, IsTreeWithin};
 
@@ -15,7 +16,7 @@ use typst_base::{FileId, Span, SpanNumber};
 
 /// There are fewer numbers than nodes.
 #[derive(Clone, Copy, Debug, PartialEq, Eq, Error)]
-#[error("there are fewer numbers than nodes")]
+#[error("cannot number within this interval")]
 pub struct Unnumberable;
 
 /// # Numbering
@@ -26,7 +27,7 @@ impl SyntaxNode {
     /// `within` lies in `Span::FULL`. A leaf or an error takes the middle number. An inner node of `n` nodes parts
     /// the range into strides of `length / 2n` numbers, or where that is 0 of `length / n`: it takes the middle of
     /// the first stride, and its children take as many strides as they have nodes, each by the same rule.
-    /// It takes time in proportion to the nodes, and no memory.
+    /// It takes time in proportion to the nodes, and no memory. Edits fit afterwards exactly where they fitted before.
     pub fn numberize(&mut self, id: FileId, within: Range<u64>) -> Result<(), Unnumberable>
         requires low { 2 ≤ within.start }
         requires high { within.end ≤ 2 ^ 47 }
@@ -40,6 +41,7 @@ impl SyntaxNode {
         ensures first_half { OnOk result (IsInner self.old.label.content → 2 * count self.old ≤ within.end - within.start
             → AllIn within.start (within.start + (within.end - within.start) / 2) self.new) }
         ensures plain { plain self.new ≡ plain self.old }
+        ensures fits { (path : List ℕ) (from to : ℕ) → EditFits path from to self.new ↔ EditFits path from to self.old }
     {
         if within.start >= within.end || within.end - within.start < self.descendants() as u64 {
             return Err(Unnumberable);
@@ -49,7 +51,7 @@ impl SyntaxNode {
     }
 
     /// Whether the tree is numbered: all spans are of one file, numbers strictly increase in preorder, and each
-    /// bound is above its subtree's numbers and at most the next number behind it. It takes time in proportion to
+    /// bound is above its subtree's numbers and at most the next number after it. It takes time in proportion to
     /// the nodes, and no memory.
     pub fn is_numbered(&self) -> bool
         ensures { IsTrue result ↔ IsNumbered self.now }
@@ -97,7 +99,7 @@ impl SyntaxNode {
                 self.span = Span::from_number(id, SpanNumber(start + stride / 2));
                 inner.number_below(id, start, end, stride);
             }
-            Node::Leaf(..) | Node::Error(_) => {
+            Node::Short(..) | Node::Long(_) | Node::Error(_) => {
                 self.span = Span::from_number(id, SpanNumber((start + end) / 2));
             }
         }
@@ -124,7 +126,7 @@ impl InnerNode {
     }
 }
 
-/// Numbers the nodes one behind the other, from `start` on, each within its node count times `stride` numbers.
+/// Numbers the nodes one after the other, from `start` on, each within its node count times `stride` numbers.
 #[cycle(number)]
 pub(super) fn number_all(nodes: &mut [SyntaxNode], id: FileId, start: u64, stride: u64)
     requires low { 2 ≤ start }

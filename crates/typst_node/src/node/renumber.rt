@@ -33,7 +33,7 @@ impl InnerNode {
     }
 }
 
-/// Numbers the nodes from one index up to another, one behind the other, from `start` on.
+/// Numbers the nodes from one index up to another, one after the other, from `start` on.
 fn number_some(
     nodes: &mut [SyntaxNode],
     id: FileId,

@@ -11,6 +11,7 @@ ghost use Rattle.typst_node.specs.Sums.{AreSums};
 ghost use Rattle.typst_node.specs.PlainEdit.{edited, RangeFits};
 ghost use Rattle.typst_node.specs.Window.{Site, site_at, site_among, site_of};
 ghost use Rattle.typst_node.specs.FirstWindow.{HasNoFirst, IsFoundSoon, IsCrowded};
+ghost use Rattle.typst_node.specs.Tells.{TellsAs};
 ghost use Rattle.typst_node.specs.Outside.{KeepsOutside};
 ghost use Rattle.typst_node.specs.Renumbering.{IsRenumbering, no_window};
 ghost use Rattle.typst_node.specs.Sites.{IsFound};
@@ -50,7 +51,7 @@ impl From<AllocError> for ReplaceError {
 }
 
 /// What an accepted replacement numbered anew.
-#[derive(Debug, PartialEq, Eq, Drop)]
+#[derive(Clone, Debug, PartialEq, Eq, Drop)]
 pub struct Renumbered {
     /// The window: the indices of the children that were numbered anew, in the new list of children.
     pub window: Range<usize>,
@@ -286,7 +287,7 @@ impl SyntaxNode {
                 let result = inner.replace(id, number, range.start, range.end, replacement);
                 return result;
             }
-            Node::Leaf(..) | Node::Error(_) => {
+            Node::Short(..) | Node::Long(_) | Node::Error(_) => {
                 return Ok(Renumbered {
                     window: 0..0,
                     tried: 0,
@@ -314,7 +315,7 @@ impl SyntaxNode {
     /// number of children grows.
     ///
     /// It takes time in proportion to the children of the range, to the replacement, and to the trees of the window.
-    /// Where the number of children changes, those behind the range are moved, and where their length changes their
+    /// Where the number of children changes, those after the range are moved, and where their length changes their
     /// ends are counted anew. The children are searched for errors or warnings where the range held some and the
     /// replacement doesn't. Lists grow by their own allocator.
     pub fn replace_children(
@@ -341,6 +342,8 @@ impl SyntaxNode {
         // What an accepted replacement makes.
         ensures plain { OnOk result (IsInner self.old.label.content
             → plain self.new ≡ plain (edited range.start range.end replacement.items self.old)) }
+        ensures reads { OnOk result (IsInner self.old.label.content
+            → TellsAs self.new (edited range.start range.end replacement.items self.old)) }
         ensures numbered { OnOk result (IsInner self.old.label.content → IsNumberedFor self.old.label.span.file self.new) }
         ensures window { IfOk result (λ r. IsInner self.old.label.content
             → IsRenumbering (site_of range.start range.end replacement.items self.old) r (trees self.new.children)) }

@@ -12,6 +12,7 @@ ghost use Rattle.typst_node.specs.Window.{site_of};
 ghost use Rattle.typst_node.specs.FirstWindow.{HasNoFirst, IsFoundSoon, IsCrowded};
 ghost use Rattle.typst_node.specs.Renumbering.{IsRenumbering, no_window};
 ghost use Rattle.typst_node.specs.Outside.{KeepsOutside};
+ghost use Rattle.typst_node.specs.Tells.{TellsAs};
 ghost use Rattle.typst_node.specs.EditBelow.{IsEdit, IsReplacement};
 ghost use Rattle.typst_node.specs.declared.node.replace.ReplaceError.TheVariants.{Unnumberable, Overflow, Memory};
 
@@ -53,7 +54,7 @@ impl SyntaxNode {
                     let result = inner.replace_in(*index, rest, range, replacement);
                     return result;
                 }
-                Node::Leaf(..) | Node::Error(_) => unreachable!(),
+                Node::Short(..) | Node::Long(_) | Node::Error(_) => unreachable!(),
             },
         }
     }
@@ -80,6 +81,7 @@ impl InnerNode {
         ensures frame { self.new.children.items ≡ set self.old.children.items index (with_children path.now (trees (tree_at path.now (get_or self.new.children.items index no_tree)).children) (get_or self.old.children.items index no_tree)) }
         ensures at { IsReplacement range.start range.end replacement.items (tree_at path.now (get_or self.old.children.items index no_tree)) (tree_at path.now (get_or self.new.children.items index no_tree)) result }
     {
+        // Read for the proof: both sums are usizes, so those of the child that changes are too.
         let (_len, _descendants) = (self.len, self.descendants);
         let gone = sums_of_one(&self.children[index]);
         let result = self.children[index].replace_below(path, range, replacement);
@@ -155,7 +157,7 @@ impl SyntaxNode {
     /// After an error nothing has changed, and the replacement is dropped.
     ///
     /// It takes as long as the replacement at the node itself, and at each node above it as long as the children
-    /// behind the path are many where the length changes, and as its children are many where an error or a warning
+    /// after the path are many where the length changes, and as its children are many where an error or a warning
     /// may have gone. Lists grow by their own allocator.
     pub fn replace_at(
         &mut self,
@@ -184,6 +186,8 @@ impl SyntaxNode {
         // What an accepted replacement makes.
         ensures plain { OnOk result (IsInner (tree_at path.now self.old).label.content
             → plain self.new ≡ plain (edited_at path.now range.start range.end replacement.items self.old)) }
+        ensures reads { OnOk result (IsInner (tree_at path.now self.old).label.content
+            → TellsAs self.new (edited_at path.now range.start range.end replacement.items self.old)) }
         ensures numbered { OnOk result (IsInner (tree_at path.now self.old).label.content
             → IsNumberedFor self.old.label.span.file self.new) }
         ensures window { IfOk result (λ r. IsInner (tree_at path.now self.old).label.content

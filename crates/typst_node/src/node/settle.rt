@@ -89,7 +89,7 @@ fn shift_ends(ends: &mut [usize], gone: usize, added: usize)
     }
 }
 
-/// Writes where the texts of the children from `from` up to `to` end, and moves the ends behind them by the
+/// Writes where the texts of the children from `from` up to `to` end, and moves the ends after them by the
 /// difference of what stood there and what stands there now. Behind a change that keeps the length nothing is written.
 fn settle_ends(
     ends: &mut [usize],

@@ -1,6 +1,7 @@
 // Equality of nodes apart from spans and bounds.
 ghost use Rattle.std.specs.Prelude.{◌≡◌, ◌↔◌, IsTrue, map, string_bytes};
 ghost use Rattle.typst_node.specs.Plain.{plain, unbounded};
+ghost use Rattle.typst_node.specs.Tree.{AsLeaf};
 ghost use Rattle.typst_node.specs.View.{hint_text, warning_text, content, below};
 
 use crate::node::{Hint, Node, SyntaxNode, Warning};
@@ -54,6 +55,19 @@ pub(super) fn same_warnings(warnings: &[Warning], others: &[Warning]) -> bool
     true
 }
 
+impl Node {
+    /// Whether this is a leaf of that kind with that text, wherever the text is kept.
+    pub(super) fn is_leaf_of(&self, kind: SyntaxKind, text: &str) -> bool
+        ensures { IsTrue result ↔ (content self.now ≡ AsLeaf kind text.now) }
+    {
+        match self {
+            Node::Short(own, own_text) => same_kind(*own, kind) && own_text.as_str() == text,
+            Node::Long(leaf) => same_kind(leaf.kind, kind) && leaf.text.as_str() == text,
+            Node::Inner(_) | Node::Error(_) => false,
+        }
+    }
+}
+
 /// # Comparing trees
 impl SyntaxNode {
     /// Whether both trees are the same apart from spans and bounds: the same kinds, texts, messages, hints and
@@ -72,18 +86,14 @@ impl Node {
         ensures { IsTrue result ↔ ((unbounded (content self.now) ≡ unbounded (content other.now)) × (map plain (below self.now) ≡ map plain (below other.now))) }
     {
         match self {
-            Node::Leaf(kind, text) => match other {
-                Node::Leaf(other_kind, other_text) => {
-                    same_kind(*kind, *other_kind) && text.as_str() == other_text.as_str()
-                }
-                Node::Inner(_) | Node::Error(_) => false,
-            },
+            Node::Short(kind, text) => other.is_leaf_of(*kind, text.as_str()),
+            Node::Long(leaf) => other.is_leaf_of(leaf.kind, leaf.text.as_str()),
             Node::Inner(inner) => match other {
                 Node::Inner(other_inner) => {
                     same_kind(inner.kind, other_inner.kind)
                         && all_alike(&inner.children, &other_inner.children)
                 }
-                Node::Leaf(..) | Node::Error(_) => false,
+                Node::Short(..) | Node::Long(_) | Node::Error(_) => false,
             },
             Node::Error(error) => match other {
                 Node::Error(other_error) => {
@@ -91,7 +101,7 @@ impl Node {
                         && error.message.as_str() == other_error.message.as_str()
                         && same_hints(&error.hints, &other_error.hints)
                 }
-                Node::Leaf(..) | Node::Inner(_) => false,
+                Node::Short(..) | Node::Long(_) | Node::Inner(_) => false,
             },
         }
     }

@@ -17,7 +17,7 @@ impl SyntaxNode {
         ensures { self.new ≡ synthesized span self.old }
     {
         match &mut self.node {
-            Node::Leaf(..) => {
+            Node::Short(..) | Node::Long(_) => {
                 self.span = span;
                 make_whole(&mut self.warnings);
             }

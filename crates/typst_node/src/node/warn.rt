@@ -184,13 +184,13 @@ impl SyntaxNode {
         }
         match &mut self.node {
             Node::Error(error) => error.push_hint(hint),
-            Node::Leaf(..) | Node::Inner(_) => unreachable!(),
+            Node::Short(..) | Node::Long(_) | Node::Inner(_) => unreachable!(),
         }
     }
 }
 
 impl ErrorNode {
-    /// Adds a hint behind the error's own.
+    /// Adds a hint after the error's own.
     fn push_hint(&mut self, hint: Hint) -> Result<(), AllocError>
         ensures text { self.new.text ≡ self.old.text }
         ensures message { self.new.message ≡ self.old.message }
@@ -202,7 +202,7 @@ impl ErrorNode {
     }
 }
 
-/// Adds a hint behind those of the last warning, which is the outermost one.
+/// Adds a hint after those of the last warning, which is the outermost one.
 fn hint_last(warnings: &mut Vec<Warning>, hint: Hint) -> Result<(), AllocError>
     requires { 0 < vec_len warnings.old }
     ensures ok { OnOk result (shown_warnings warnings.new.items

@@ -9,7 +9,7 @@ ghost use Rattle.typst_node.specs.Sites.{site, IsNumbering, IsFound};
 
 use crate::node::SyntaxNode;
 
-/// What may be numbered anew: the neighbours before and behind the changed children, and the numbers for them.
+/// What may be numbered anew: the neighbours before and after the changed children, and the numbers for them.
 #[derive(Drop)]
 pub(super) struct Edit<'a> {
     pub(super) before: &'a [SyntaxNode],
@@ -51,7 +51,7 @@ fn count_all(nodes: &[SyntaxNode]) -> usize
     sum
 }
 
-/// Where open numbers begin behind the nodes.
+/// Where open numbers begin after the nodes.
 fn open_behind(nodes: &[SyntaxNode], first: u64) -> u64
     ensures { result ≡ open_from first nodes.now }
 {
@@ -148,6 +148,7 @@ pub(super) fn find(edit: &Edit<'_>) -> Option<Found>
     requires total { edit.now.total ≡ new_count (site edit.now) }
     ensures { MatchOption result (HasNoFirst (site edit.now)) (IsFound (site edit.now)) }
 {
+    // Read for the proof: the count of all nodes after the edit is a usize, so that of a window is too.
     let _total = edit.total;
     let mut width = 0;
     let mut tried = 1;

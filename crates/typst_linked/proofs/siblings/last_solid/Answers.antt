@@ -11,7 +11,7 @@ loop-before-preserved c =
     let node = c.index-nodes-before.result in
     let back : c.loop-before.before ≡ k + 1 = omega arith in
     let more = solid_before-more c.args.nodes.now k node (omega arith) in
-    let trivia : is_solid node ≡ false = ap (λ kind. not (is_trivia_kind kind)) (sym c.kind.ensures) ∙ sym (ap not c.if-not-is_trivia.ensures) in
+    let trivia : is_solid node ≡ false = ap (λ kind. not (is_trivia_kind kind)) (sym c.kind.ensures.kind) ∙ sym (ap not c.if-not-is_trivia.ensures) in
     c.loop-before.invariant ∙ ap (λ i. solid_before i c.args.nodes.now) back ∙ more
     ∙ ap (λ n. cond (is_solid n) (Some k) (solid_before k c.args.nodes.now)) (sym c.index-nodes-before.is)
     ∙ ap (λ b. cond b (Some k) (solid_before k c.args.nodes.now)) trivia

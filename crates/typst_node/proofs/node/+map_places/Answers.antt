@@ -7,7 +7,8 @@ use Rattle.typst_base.specs.SubRange.{interval}
 use Rattle.std.proofs.lemmas.List.{with_items_is, drop-set-lt}
 use Rattle.typst_node.specs.Count.{count_of_all}
 use Rattle.typst_node.specs.Text.{text, text_of_all}
-use Rattle.typst_node.specs.Mapped.{mapped_trees, mapped_warning}
+use Rattle.typst_node.specs.Mapped.{mapped_warning}
+use Rattle.typst_node.specs.MappedForest.{mapped_trees}
 use Rattle.typst_node.specs.View.{shown_warnings}
 use Rattle.typst_node.proofs.MappedLemmas.{so_far, mapped_next, mapped_all, bare_of_mapped, length_from, mapped_inner}
 use Rattle.typst_node.proofs.Relabelled.{relabelled, measured_by_relabelled, same_count}

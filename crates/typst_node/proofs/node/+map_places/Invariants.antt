@@ -1,6 +1,6 @@
 use Rattle.std.proofs.Common.{◌≡◌, map, ◌+◌, ◌*◌, length, drop}
 use Rattle.typst_node.specs.Count.{count, count_of_all}
-use Rattle.typst_node.specs.Mapped.{mapped_trees}
+use Rattle.typst_node.specs.MappedForest.{mapped_trees}
 use Rattle.typst_node.specs.Text.{text_of_all}
 use Rattle.typst_node.proofs.MappedLemmas.{so_far}
 use Rattle.typst_node.proofs.Relabelled.{relabelled}

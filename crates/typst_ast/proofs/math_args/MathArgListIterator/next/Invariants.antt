@@ -1,9 +1,10 @@
 use Rattle.std.proofs.Common.{◌≡◌, length}
 use Rattle.typst_ast.specs.MathArgs.{args_left}
 use Rattle.typst_ast.proofs.math_args.MathArgListIterator.next.Given as goal
+use Rattle.typst_atoms.specs.MathItems.{items_left}
 
-abbrev pub invariant-loop-first : goal.invariant-loop-first
-invariant-loop-first l = args_left l.self ≡ args_left l.initial.self
+abbrev pub invariant-loop-node : goal.invariant-loop-node
+invariant-loop-node l = args_left l.self ≡ args_left l.initial.self
 
-abbrev pub decreases-loop-first : goal.decreases-loop-first
-decreases-loop-first l = length l.self.rest.now
+abbrev pub decreases-loop-node : goal.decreases-loop-node
+decreases-loop-node l = length (items_left l.self.nodes)

@@ -1,4 +1,4 @@
--- The segments kept so far, with those that are still to come, are all segments; none of those is invalid behind as
+-- The segments kept so far, with those that are still to come, are all segments; none of those is invalid after as
 -- many bytes as were kept.
 use Rattle.std.proofs.Common.{◌≡◌, ◌++◌, drop, None}
 use Rattle.typst_base.specs.Mapping.{first_invalid}

@@ -61,4 +61,4 @@ returns-clause-looks t c =
     let there = at-push c.args.self.path i c.args.self.root n child.0 c.get.ensures child.1 in
     let covers = part_covers c.args.side c.args.cursor c.args.self n child.0 c.in-Some.part c.get.ensures c.in-Some.ensures.no_text child.1 c.requires.covers first in
     way_on c.args.side c.args.cursor c.args.looks.now c.first_ending.new.looks c.into_covering.new.looks i c.args.self c.in_ok-child.child n child.0 c.get.ensures child.1 (ap subtree c.in_ok-child.ensures ∙ there) c.in_ok-child.ensures
-    (covering_next c.args.side c.args.cursor c.args.self i covers) c.in-Some.ensures.cost c.into_covering.ensures.looks
+    (covering_next c.args.side c.args.cursor c.args.self i covers) c.in-Some.ensures.cost (λ cover. (c.in-Some.ensures.least, subst (λ (q : Place). CoversCursor c.args.side c.args.cursor q) (sym c.in_ok-child.ensures) covers)) c.into_covering.ensures.looks

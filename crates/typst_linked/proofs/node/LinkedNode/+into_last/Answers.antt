@@ -12,7 +12,7 @@ use Rattle.typst_linked.specs.LeafLooks.{HasWay}
 use Rattle.typst_linked.specs.declared.cursor.Side.TheVariants.{Before}
 use Rattle.typst_linked.proofs.Child.{no_own_text}
 use Rattle.typst_linked.proofs.Covers.{child_there}
-use Rattle.typst_linked.proofs.LastLeaves.{empty_list, last_there_is, last_self, last_on, last_late, last_next}
+use Rattle.typst_linked.proofs.LastLeaves.{empty_list, last_there_is, last_self, last_on, last_late, last_next, start_uncovered}
 use Rattle.typst_linked.proofs.LeafWays.{way_on}
 use Rattle.typst_linked.proofs.Ordered.{count_child}
 use Rattle.typst_linked.proofs.Searching.{count_there, smaller_turn}
@@ -83,4 +83,4 @@ returns-clause-looks t c =
     let there = at-push c.args.self.path i c.args.self.root n child.0 c.get-2.ensures child.1 in
     let begin : begin_of q ≡ begin_of c.args.self = ap begin_of c.in_ok-child.ensures ∙ next.0 in
     way_on Before (begin_of c.args.self) c.args.looks.now c.last_at_once.new.looks c.into_last.new.looks i c.args.self q n child.0 c.get-2.ensures child.1 (ap subtree c.in_ok-child.ensures ∙ there) c.in_ok-child.ensures
-    next.1 c.in-Some.ensures.cost (subst (λ b. HasWay Before b q c.last_at_once.new.looks c.into_last.new.looks) begin c.into_last.ensures.looks)
+    next.1 c.in-Some.ensures.cost (λ cover. absurd (start_uncovered c.args.self n c.get-2.ensures cover)) (subst (λ b. HasWay Before b q c.last_at_once.new.looks c.into_last.new.looks) begin c.into_last.ensures.looks)

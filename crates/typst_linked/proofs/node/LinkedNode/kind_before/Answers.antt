@@ -15,5 +15,5 @@ returns c =
     let pick : before_it i ts ≡ Some k = before_is i k ts (omega (arith, c.in-Some.ensures, c.index.ensures)) (omega (arith, c.in-Some.ensures, c.index.ensures)) in
     let s : slice_get c.siblings-siblings.result.now k ≡ Some c.index-siblings-before.result =
     slice_get_read c.siblings-siblings.result.now (length c.siblings-siblings.result.now) k c.index-siblings-before.result refl (omega (arith, c.in-Some.ensures, c.index.ensures, c.siblings-siblings.ensures.within)) c.index-siblings-before.is in
-    ap Some c.kind.ensures
+    ap Some c.kind.ensures.kind
     ∙ sym (ap (option_and_then (λ j. option_map kind_at (slice_get ts j))) pick ∙ ap (λ us. option_map kind_at (slice_get us k)) (sym c.siblings-siblings.ensures.siblings) ∙ ap (option_map kind_at) s)

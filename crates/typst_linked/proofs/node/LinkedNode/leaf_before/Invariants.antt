@@ -4,5 +4,5 @@ use Rattle.typst_linked.specs.Place.{subtree}
 use Rattle.typst_linked.specs.Leaves.{earlier_up}
 use Rattle.typst_linked.proofs.node.LinkedNode.leaf_before.Given as goal
 
-abbrev pub invariant-loop-index : goal.invariant-loop-index
-invariant-loop-index l = (s : Tree) → subtree l.parent.value ≡ Some s → earlier_up s l.end ≡ earlier_up s l.index
+abbrev pub invariant-loop-before : goal.invariant-loop-before
+invariant-loop-before l = (s : Tree) → subtree l.parent.value ≡ Some s → earlier_up s l.end ≡ earlier_up s l.before

@@ -20,7 +20,7 @@ returns-in-Some c =
     let hs : subtree p ≡ Some n = ap subtree (sym c.deref.ensures) ∙ c.get.ensures in
     let node = c.index-children-index.result in
     let s : slice_get (trees n.children) i ≡ Some node = rw (← c.child_slice-children.ensures.children) (slice_get_read c.child_slice-children.result.now (length c.child_slice-children.result.now) i node refl (omega arith) c.index-children-index.is) in
-    let solid : is_solid node ≡ true = ap (λ k. not (is_trivia_kind k)) (sym c.kind.ensures) ∙ sym (ap not c.if-not-is_trivia.ensures) in
+    let solid : is_solid node ≡ true = ap (λ k. not (is_trivia_kind k)) (sym c.kind.ensures.kind) ∙ sym (ap not c.if-not-is_trivia.ensures) in
     later_hit p n node c.args.start i c.in-Some.leaf hs s solid (c.loop-index.invariant n hs)
     (sym c.in-Some.is ∙ c.in_ok-leaf.ensures ∙ ap (found_below (first_path is_good)) c.in_ok-child.ensures)
 
@@ -35,9 +35,9 @@ loop-index-preserved c = λ n hs.
     let there : slice_get (trees n.children) i ≡ Some node = ap (λ (u : Tree). slice_get (trees u.children) i) (sym same) ∙ s in
     elim c.if-not-is_trivia.branch [
       | then-not-is_trivia+in_ok-child+in_ok-leaf+in_default w ↦
-          let solid : is_solid node ≡ true = ap (λ k. not (is_trivia_kind k)) (sym c.kind.ensures) ∙ sym (ap not w.if-not-is_trivia.ensures) in
+          let solid : is_solid node ≡ true = ap (λ k. not (is_trivia_kind k)) (sym c.kind.ensures.kind) ∙ sym (ap not w.if-not-is_trivia.ensures) in
           later_miss p n node c.args.start i hs there solid (c.loop-index.invariant n hs) (sym w.in_default.is ∙ w.in_ok-leaf.ensures ∙ ap (found_below (first_path is_good)) w.in_ok-child.ensures)
       | else-not-is_trivia w ↦
-          let trivia : is_solid node ≡ false = ap (λ k. not (is_trivia_kind k)) (sym c.kind.ensures) ∙ sym (ap not w.if-not-is_trivia.ensures) in
+          let trivia : is_solid node ≡ false = ap (λ k. not (is_trivia_kind k)) (sym c.kind.ensures.kind) ∙ sym (ap not w.if-not-is_trivia.ensures) in
           c.loop-index.invariant n hs ∙ later_trivia n node i there trivia
     ]

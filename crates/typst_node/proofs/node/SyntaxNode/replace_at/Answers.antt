@@ -10,6 +10,7 @@ use Rattle.typst_node.specs.Window.{site_of}
 use Rattle.typst_node.proofs.Firsts.{no_first_crowded, found_soon}
 use Rattle.typst_node.proofs.Outside.{keeps_outside}
 use Rattle.typst_node.proofs.Edited.{or_right, IfOk_both}
+use Rattle.typst_node.proofs.TellAlike.{tells_alike}
 use Rattle.typst_node.proofs.node.SyntaxNode.replace_at.Goals as goal
 
 pub returns-clause-overflow : goal.returns-clause-overflow
@@ -43,6 +44,16 @@ returns-clause-unnumberable c =
 pub returns-clause-plain : goal.returns-clause-plain
 returns-clause-plain c =
     IfOk-weaker c.replace_below.result _ _ (λ x h is. plain_at c.args.path.now c.args.range.start c.args.range.end c.args.replacement.items c.args.self.now c.replace_below.new.self c.replace_below.ensures.frame h) c.replace_below.ensures.at.plain
+
+pub returns-clause-reads : goal.returns-clause-reads
+returns-clause-reads c =
+    let path = c.args.path.now in
+    let a = c.args.range.start in
+    let b = c.args.range.end in
+    let ys = c.args.replacement.items in
+    let t = c.args.self.now in
+    let u = c.replace_below.new.self in
+    IfOk-weaker c.replace_below.result _ _ (λ x h is. tells_alike u (edited_at path a b ys t) (plain_at path a b ys t u c.replace_below.ensures.frame h)) c.replace_below.ensures.at.plain
 
 pub returns-clause-numbered : goal.returns-clause-numbered
 returns-clause-numbered c =

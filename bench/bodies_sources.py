@@ -1,0 +1,262 @@
+"""What the judge of wrong bodies reads in a crate's sources: its functions, its edits, and a guess of who calls whom."""
+import re
+from dataclasses import dataclass
+from pathlib import Path
+
+HIDDEN = re.compile(r"//[^\n]*|/\*.*?\*/|\"(?:\\.|[^\"\\])*\"|'(?:\\.[^']*|[^'\\\n])'", re.S)
+FN = re.compile(r"\bfn\s+(\w+)")
+IMPL = re.compile(
+    r"^impl\b\s*(?:<[^{\n]*?>\s+)?(?:(?P<trait>[\w:]+)(?P<arguments><[^{]*?>)?\s+for\s+)?&?(?:'\w+ )?(?P<type>[\w:]+)[^;]*?\{"
+    r"|^pub trait (?P<own>\w+)[^;]*?\{",
+    re.M,
+)
+CONST = re.compile(r"\bconst (\w+):[^;=]*=(.*?);$", re.M | re.S)
+CLAUSE = re.compile(r"\b(requires|ensures|ghost|decreases)\b\*?[^{}]*$")
+ITEM = re.compile(r"^(?:#\[[^\n]*\n)*pub (?:struct|enum) (\w+)[^;{]*?\{", re.M)
+DERIVED = re.compile(r"(?:Clone|Copy|PartialEq|Eq|PartialOrd|Ord|Default|Hash|Debug|Error|Display)$")
+CYCLE = re.compile(r"#\[cycle\((\w+)\)\](?:(?!\n\s*\n|\}).)*$", re.S)
+
+
+@dataclass(frozen=True)
+class Function:
+    """A function of the crate, or a trait's constant, of which the prover speaks as of one; with no name, all that a type derives."""
+
+    file: str
+    modules: tuple
+    trait: str  # the trait of its impl block with what it is given, as From<Span>; empty elsewhere
+    subject: str  # the type of its impl block; empty of a free function
+    name: str
+    start: int
+    body: int  # the offset right behind the `{`
+    end: int
+    cycle: str
+
+    def is_named(self, label):
+        """Whether an edit's `in:` line means it: `function`, `Type::function` or `Trait for Type::function`."""
+        trait, _, rest = label.rpartition(" for ")
+        subject, _, name = rest.rpartition("::")
+        return (
+            self.name == name
+            and self.subject.split("::")[-1] == subject
+            and trait in ("", re.sub("<.*", "", self.trait).split("::")[-1])
+        )
+
+    def holds(self, hunk):
+        return hunk.file == self.file and self.start < hunk.end and hunk.start < self.end
+
+    def paths(self, crate, known):
+        """The paths among the known ones under which the prover speaks of it. A method's begins with its type's module."""
+        if not self.name:
+            return [it for it in known if self.derives(it.split("::")[-2])]
+        path = self.path(crate, known)
+        return [path] if path else []
+
+    def derives(self, word):
+        return word.startswith(self.subject) and bool(DERIVED.match(word[len(self.subject) :]))
+
+    def path(self, crate, known):
+        """The one such path of what has a name, or None."""
+        if not self.subject:
+            path = "::".join([crate, *self.modules, self.name])
+            return path if path in known else None
+        of_trait, _, given = self.trait.partition("<")
+        head = self.subject.replace("::", "+") + of_trait.split("::")[-1]
+        for word in (head, head + given.rstrip(">").partition("<")[0]):
+            fits = [it for it in known if it.split("::")[-2:] == [word, self.name]]
+            near = [it for it in fits if tuple(it.split("::")[1:-2]) == self.modules]
+            if len(fits) == 1 or len(near) == 1:
+                return (fits if len(fits) == 1 else near)[0]
+        return None
+
+
+@dataclass(frozen=True)
+class Hunk:
+    """A replacement in a file, by offsets in the original text."""
+
+    file: str
+    start: int
+    end: int
+    new: str
+
+
+@dataclass(frozen=True)
+class Edit:
+    name: str
+    hunks: tuple
+    functions: frozenset  # those that it changes
+
+
+def blanked(text):
+    """The text without comments, strings and characters, each other letter where it was."""
+    return HIDDEN.sub(lambda it: re.sub(r"[^\n]", " ", it[0]), text)
+
+
+def closing(text, at):
+    """The offset behind the `}` of the `{` at this place."""
+    depth = 0
+    for it in re.compile(r"[{}]").finditer(text, at):
+        depth += 1 if it[0] == "{" else -1
+        if depth == 0:
+            return it.end()
+    return len(text)
+
+
+def body_of(text, at):
+    """The offset of the `{` of the body of the function whose head goes on here, behind its clauses; none for a bare signature."""
+    while True:
+        brace, stop = text.find("{", at), text.find(";", at)
+        if brace < 0 or 0 <= stop < brace:
+            return None
+        if not CLAUSE.search(text[at:brace]):
+            return brace
+        at = closing(text, brace)
+
+
+def functions(crate):
+    """The crate's functions, the constants of its traits' impl blocks, and what its types derive."""
+    found = []
+    for path in sorted((crate / "src").rglob("*.rt")):
+        text, file = blanked(path.read_text()), str(path.relative_to(crate))
+        modules = tuple(it for it in path.relative_to(crate / "src").with_suffix("").parts if it not in ("lib", "main"))
+        impls = [(it.start(), closing(text, it.end() - 1), it) for it in IMPL.finditer(text)]
+
+        def made(name, start, body, end, cycle):
+            block = next((it for low, high, it in impls if low < start < high), None)
+            trait = (block["trait"] or "") + (block["arguments"] or "") if block else ""
+            subject = block["type"] or block["own"] if block else ""
+            return Function(file, modules, trait, subject, name, start, body, end, cycle)
+
+        for fn in FN.finditer(text):
+            brace = body_of(text, fn.end())
+            if brace is not None:
+                cycle = CYCLE.search(text[: fn.start()])
+                found.append(made(fn[1], fn.start(), brace + 1, closing(text, brace), cycle[1] if cycle else ""))
+        for it in CONST.finditer(text):
+            constant = made(it[1], it.start(), it.start(2), it.end(), "")
+            found += [constant] * bool(constant.trait)
+        for it in ITEM.finditer(text):
+            found.append(Function(file, modules, "", it[1], "", it.start(), it.end(), closing(text, it.end() - 1), ""))
+    return found
+
+
+def pairs(text):
+    """The changes that an edit's lines name: file, function (empty: the whole file), old text, new text."""
+    found, file, inside, old = [], "", "", ""
+    for line in text.split("\n"):
+        word, _, rest = line.partition(":")
+        rest = rest.removeprefix(" ")
+        if word == "file":
+            file, inside = rest.strip(), ""
+        elif word == "in":
+            inside = rest.strip()
+        elif word == "old":
+            old = rest
+        elif word == "new":
+            found.append((file, inside, old, rest))
+    return found
+
+
+def placed(text, hunks):
+    """The original text with these replacements, all by their offsets in it."""
+    for it in sorted(hunks, key=lambda it: -it.start):
+        text = text[: it.start] + it.new + text[it.end :]
+    return text
+
+
+def in_function(crate, all_functions, file, label, old, new):
+    """The hunk of a pair that names its function, in which the old text must stand once."""
+    fits = [it for it in all_functions if it.file == file and it.is_named(label)]
+    if len(fits) != 1:
+        raise ValueError(f"{len(fits)} functions of {file} are named {label}")
+    text = (crate / file).read_text()[fits[0].start : fits[0].end]
+    if text.count(old) != 1:
+        raise ValueError(f"an old line stands {text.count(old)} times in {label}, in {file}")
+    start = fits[0].start + text.index(old)
+    return Hunk(file, start, start + len(old), new)
+
+
+def hunks_of(crate, all_functions, changes):
+    """An edit's changes as replacements in the original texts. A later pair may change what an earlier one made."""
+    made = {}
+    for file, label, old, new in changes:
+        here = made.setdefault(file, [])
+        if label:
+            hunk = in_function(crate, all_functions, file, label, old, new)
+            if any(it.start < hunk.end and hunk.start < it.end for it in here):
+                raise ValueError("a pair with a function's name reaches into an earlier pair")
+            here.append(hunk)
+            continue
+        text = placed((crate / file).read_text(), here)
+        if text.count(old) != 1:
+            raise ValueError(f"an old line stands {text.count(old)} times in {file}")
+        start = text.index(old)
+        end, shift = start + len(old), 0
+        for it in sorted(here, key=lambda it: it.start):
+            low = it.start + shift
+            high = low + len(it.new)
+            if low < end and start < high:
+                if not low <= start <= end <= high:
+                    raise ValueError("a pair reaches over the border of an earlier one")
+                here[here.index(it)] = Hunk(file, it.start, it.end, it.new[: start - low] + new + it.new[end - low :])
+                break
+            if high <= start:
+                shift += len(it.new) - (it.end - it.start)
+        else:
+            here.append(Hunk(file, start - shift, end - shift, new))
+    return tuple(it for group in made.values() for it in group)
+
+
+def touched(crate, hunk, all_functions):
+    """The functions that hold the change; of one in a plain constant those that name the constant."""
+    inside = [it for it in all_functions if it.holds(hunk)]
+    constants = CONST.finditer(blanked((crate / hunk.file).read_text()))
+    constant = next((it for it in constants if it.start() <= hunk.start < it.end()), None)
+    if inside or not constant:
+        return inside
+    word = re.compile(rf"\b{constant[1]}\b")
+    return [it for it in all_functions if word.search(blanked((crate / it.file).read_text()), it.body, it.end)]
+
+
+def edits_of(crate, all_functions, bad, only=""):
+    """The crate's edits. What cannot be placed is told in bad."""
+    found = []
+    for file in sorted([*(crate / "must-fail").glob("*.edit"), *(crate / "wrong-bodies").glob("*.edit")]):
+        if only not in file.stem:
+            continue
+        try:
+            changes = pairs(file.read_text())
+            if not changes:
+                raise ValueError("it has no pair of an old and a new line")
+            hunks = hunks_of(crate, all_functions, changes)
+            changed = frozenset(it for hunk in hunks for it in touched(crate, hunk, all_functions))
+            if not changed:
+                raise ValueError("it changes no function")
+            found.append(Edit(file.stem, hunks, changed))
+        except (ValueError, OSError) as error:
+            bad.append(f"{crate.name}/{file.stem}: cannot be placed: {error}")
+    return found
+
+
+def reach(crate, all_functions):
+    """For each function those that it may reach by calls, guessed from the words of the sources: rather too many than too few."""
+    by_name, texts, calls = {}, {}, {}
+    for it in all_functions:
+        by_name.setdefault(it.name, set()).add(it)
+    subjects = {it.subject.split("::")[-1] for it in all_functions}
+    for it in all_functions:
+        text = texts.setdefault(it.file, blanked((crate / it.file).read_text()))
+        for found in re.finditer(r"(?:(\w+)(?:::<[^;]*?>)?::|(\.)\s*)?\b(\w+)\b", text[it.body : it.end]):
+            owner = found[1] or ""
+            is_of_type = len(owner) > 1 and owner[0].isupper() and owner != "Self" and owner in subjects
+            for other in by_name.get(found[3], ()):
+                if not is_of_type or other.subject.split("::")[-1] == owner:
+                    calls.setdefault(it, set()).add(other)
+    reached = {}
+    for it in calls:
+        seen, todo = set(), [it]
+        while todo:
+            new = calls.get(todo.pop(), set()) - seen
+            seen |= new
+            todo += new
+        reached[it] = seen
+    return reached

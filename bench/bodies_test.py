@@ -1,0 +1,166 @@
+"""A small made-up crate with right and wrong bodies, on which each verdict of the judge is known."""
+import tempfile
+from pathlib import Path
+
+from bodies import TOP, judged
+
+LIB = """#![tactic(auto)]
+
+ghost use Rattle.std.specs.Prelude.{◌≡◌, ◌↔◌, ◌%◌, IsTrue};
+
+pub struct Dot;
+
+pub struct OtherDot;
+
+impl Dot {
+    pub fn size(&self) -> u8
+        ensures { result ≡ 5 }
+    {
+        let dot = 5;
+        dot
+    }
+}
+
+impl OtherDot {
+    pub fn size(&self) -> u8
+        ensures { result ≡ 6 }
+    {
+        let other = 6;
+        other
+    }
+}
+
+pub fn one() -> u8
+    ensures { result ≡ 1 }
+{
+    let unit = 1;
+    unit
+}
+
+pub fn two() -> u8
+    ensures { result ≡ 2 }
+{
+    one() + one()
+}
+
+pub fn three() -> u8
+    ensures { result ≡ 3 }
+{
+    two() + one()
+}
+
+pub fn lower() -> u8
+    ensures { result ≡ 3 }
+{
+    let it = 3;
+    it
+}
+
+pub fn upper() -> u8
+    ensures { result ≡ 4 }
+{
+    let it = 4;
+    it
+}
+
+pub fn loose() -> u8 {
+    let any = 7;
+    any
+}
+
+pub fn answered() -> u8
+    ensures { result ≡ 9 }
+{
+    let nine = 9;
+    nine
+}
+
+pub fn renamed(is_high: bool) -> u8
+    ensures { result ≡ 8 }
+{
+    let _ = is_high;
+    8 + 0
+}
+
+#[cycle(parity)]
+pub fn is_even(n: u8) -> bool
+    ensures { IsTrue result ↔ (n % 2 ≡ 0) }
+{
+    if n == 0 { true } else { is_odd(n - 1) }
+}
+
+#[cycle(parity)]
+pub fn is_odd(n: u8) -> bool
+    ensures { IsTrue result ↔ (n % 2 ≡ 1) }
+{
+    if n == 0 { false } else { is_even(n - 1) }
+}
+"""
+
+ANSWER = """use Rattle.std.proofs.Common.{refl}
+use Rattle.made_up.proofs.NAME.Goals as goal
+
+pub returns : goal.returns
+returns c = refl
+"""
+
+MEASURES = """use Rattle.made_up.proofs.+parity.Given as goal
+
+abbrev pub decreases-is_even : goal.decreases-is_even
+decreases-is_even l = l.n
+
+abbrev pub decreases-is_odd : goal.decreases-is_odd
+decreases-is_odd l = l.n
+"""
+
+FILES = {
+    "src/lib.rt": LIB,
+    "proofs/Lib.antt": "",
+    "proofs/answered/Answers.antt": ANSWER.replace("NAME", "answered"),
+    "proofs/renamed/Answers.antt": ANSWER.replace("NAME", "renamed"),
+    "proofs/+parity/Invariants.antt": MEASURES,
+}
+
+# name: function (or none), old text, new text, verdict
+EDITS = {
+    "a_wrong_callee": ("", "let unit = 1;", "let unit = 0;", "goal"),
+    "a_right_caller_of_a_wrong_one": ("", "one() + one()", "let unit = one(); unit + unit", "not refused"),
+    "a_wrong_caller_of_a_wrong_one": ("", "two() + one()", "two() + two()", "goal"),
+    "an_edit": ("", "let it = 3;", "let it = 4;", "goal"),
+    "its_inverse_elsewhere": ("", "let it = 4;", "let it = 3;", "goal"),
+    "a_right_body_of_a_like_name": ("", "let dot = 5;", "let dot = 2 + 3;", "not refused"),
+    "a_wrong_body_of_a_like_name": ("", "let other = 6;", "let other = 5;", "goal"),
+    "what_no_contract_forbids": ("", "let any = 7;", "let any = 8;", "not refused"),
+    "what_does_not_compile": ("", "let any = 7;", "let any = nothing;", "not judged"),
+    "a_wrong_answer_by_a_proof_file": ("", "let nine = 9;", "let nine = 8;", "proof file"),
+    "a_right_body_without_the_goal_of_a_proof": ("renamed", "8 + 0", "if is_high { 8 } else { 8 }", "not judged"),
+    "a_wrong_member_of_a_cycle": ("is_even", "{ true }", "{ false }", "goal"),
+    "a_right_member_of_a_cycle": ("is_odd", "{ false }", "{ n != 0 }", "not refused"),
+    "two_of_like_names_told_apart": ("OtherDot::size", "let other = 6;", "let other = 5 + 2;", "goal"),
+}
+
+
+def written(top):
+    """The made-up repository below this folder."""
+    crate = top / "crates" / "made_up"
+    for name, text in FILES.items():
+        (crate / name).parent.mkdir(parents=True, exist_ok=True)
+        (crate / name).write_text(text)
+    (crate / "wrong-bodies").mkdir()
+    for name, (function, old, new, _) in EDITS.items():
+        inside = f"in: {function}\n" * bool(function)
+        (crate / "wrong-bodies" / f"{name}.edit").write_text(f"file: src/lib.rt\n{inside}old: {old}\nnew: {new}\n")
+    (top / "crates.txt").write_text("made_up:\n")
+    (top / "HANDLES").write_text((TOP / "HANDLES").read_text())
+
+
+def tested(given):
+    """Judges the made-up crate, and returns whether each verdict is the known one."""
+    with tempfile.TemporaryDirectory(prefix="made-up-") as place:
+        written(Path(place))
+        verdicts, bad, checks = judged(Path(place), "made_up", given, lambda text: print(text, flush=True))
+    known = {name: verdict for name, (_, _, _, verdict) in EDITS.items()}
+    wrong = [f"{it}: {verdicts.get(it)}, and not {known.get(it)}" for it in known | verdicts if verdicts.get(it) != known.get(it)]
+    wrong += [f"told against the crate: {it}" for it in bad if "NOT REFUSED" not in it and "NOT JUDGED" not in it]
+    print("\n".join([*wrong, f"the judge: {len(wrong)} wrong of {len(known)} known verdicts, {checks} checks"]))
+    return not wrong

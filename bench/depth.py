@@ -1,0 +1,85 @@
+#!/usr/bin/env python3
+"""Looks for the depth of a chain of nodes, one in another, that each call reaches in a stack of 8 MB, and prints a table.
+
+    bench/depth.py              the rows of the table in docs/MEMORY.md
+    bench/depth.py CALL ..      those of these calls
+
+It runs the proved builds of crates/typst_deep and, for `show`, of the script program (`rt run` in the crate's folder makes each),
+once for each depth that it tries, and halves between one that a call returns from and one at which the process ends by a signal.
+"""
+import resource
+import subprocess
+import sys
+from pathlib import Path
+
+TOP = Path(__file__).resolve().parent.parent
+DEEP = TOP / "crates/typst_deep/out/typst_deep"
+SCRIPTS = TOP / "crates/typst_tree_main/out/typst_tree_main"
+STACK = 8 << 20
+# The depth that no call is tried beyond, and how near the two depths come to each other, as a part of the lower one.
+MOST, NEARNESS = 4_000_000, 200
+
+
+def limit():
+    resource.setrlimit(resource.RLIMIT_STACK, (STACK, STACK))
+
+
+def called(name, depth):
+    """How a run of one call ends."""
+    asked = f"{name} {depth}\n".encode()
+    ran = subprocess.run([DEEP], input=asked, capture_output=True, preexec_fn=limit, check=False)
+    return ran.returncode, ran.stdout == asked
+
+
+def shown(depth):
+    """How a script that shows a chain ends, by the last line that it prints: the program drops its tree thereafter."""
+    script = b"leaf 6 a\n" + b"inner 5 1\n" * depth + b"root\nshow\n"
+    wanted = b"\n" + b" " * (2 * depth) + b"6 1 2 1 a\n"
+    ran = subprocess.Popen([SCRIPTS], stdin=subprocess.PIPE, stdout=subprocess.PIPE, preexec_fn=limit)
+    last = subprocess.Popen(["tail", "-c", str(len(wanted))], stdin=ran.stdout, stdout=subprocess.PIPE)
+    ran.stdout.close()
+    ran.stdin.write(script)
+    ran.stdin.close()
+    is_whole = last.communicate()[0] == wanted
+    return (0 if is_whole else ran.wait()), is_whole
+
+
+def returns(name, depth):
+    """Whether a call returns at this depth; anything but that and the end of the stack ends the program."""
+    status, is_right = shown(depth) if name == "show" else called(name, depth)
+    if status >= 0 and not is_right:
+        sys.exit(f"{name} {depth}: status {status}")
+    return status == 0
+
+
+def reached(name):
+    """The depth that a call reaches, and whether it is the end of its stack."""
+    low, high = 0, 1000
+    while returns(name, high):
+        if high == MOST:
+            return high, False
+        low, high = high, min(high * 2, MOST)
+    while high - low > max(1, low // NEARNESS):
+        middle = (low + high) // 2
+        low, high = (middle, high) if returns(name, middle) else (low, middle)
+    return low, True
+
+
+def calls():
+    """The calls that the program is tested on, and that of the other program."""
+    lines = (TOP / "crates/typst_deep/stdin").read_text().splitlines()
+    return [*(line.split()[0] for line in lines), "show"]
+
+
+def main():
+    for program in (DEEP, SCRIPTS):
+        if not program.exists():
+            sys.exit(f"depth: no {program}: `rt run` in the crate's folder makes it")
+    for name in sys.argv[1:] or calls():
+        depth, is_end = reached(name)
+        print(f"| `{name}` | {f'{depth:,}' if is_end else f'more than {depth:,}'} |", flush=True)
+    return 0
+
+
+if __name__ == "__main__":
+    sys.exit(main())

@@ -1,0 +1,204 @@
+#!/usr/bin/env python3
+"""Has the program's reads and writes fail, and compares what it then says and what it wrote before.
+
+    bench/faults.py
+
+runs the proved build of the script program, which `rt ci` makes, and `rt run` in crates/typst_tree_main. A script of edits, and
+one that is longer than the buffers, are run
+
+- with an input that fails after so many bytes, for each number of them (in the long script for those round the ends of buffers
+  and some others). It fails once, and says then that it has ended;
+- with an output that takes so many bytes and then fails, for each number of them (in the long answer for some, as above), so the
+  last write that does anything takes a part of what it is given;
+- with one byte for each read, which must give the whole answer;
+- with a closed input, a folder as input, a closed output, a pipe that nobody reads, and an output that takes nothing.
+
+Where a read or a write fails the program must say `cannot read` or `cannot write`, in one line, and end with status 1, and what
+it wrote must be a beginning of the whole answer: of an output that takes so many bytes, all of them. `./run` on a folder must
+say so in one line.
+"""
+import os
+import resource
+import socket
+import subprocess
+import sys
+import tempfile
+import threading
+from pathlib import Path
+
+TOP = Path(__file__).resolve().parent.parent
+PROGRAM = TOP / "crates/typst_tree_main/out/typst_tree_main"
+
+# Replacements and searches, of which some are refused and some don't fit, and the tree at the end.
+EDITED = b"""leaf 55 *
+leaf 6 b
+inner 5 1
+leaf 55 *
+inner 13 3
+leaf 6 c
+inner 5 2
+root
+number 1 2 30
+leaf 6 x
+leaf 6 y
+inner 5 2
+replace 0 1 2 1
+find 1 15
+leaf 6 x
+leaf 6 y
+replace 0.1 0 1 2
+replace 5 0 0 0
+run
+show
+"""
+EDITED_SHOWN = b"""done window 0..3 tried 2
+found 1 offset 4
+refused
+misfit
+5 3 30 5
+  13 4 14 4
+    55 5 6 1 *
+    5 6 9 2
+      6 7 8 1 x
+      6 8 9 1 y
+    55 9 10 1 *
+  6 15 16 1 c
+"""
+# A tree of many leaves that is shown, edited and shown again.
+LEAVES, EDITS = 700, 100
+LONG = "".join(
+    [
+        *(f"leaf 6 text {it}\n" for it in range(LEAVES)),
+        f"inner 5 {LEAVES}\nroot\nnumber 1 2 100000\nshow\n",
+        *(f"leaf 6 new {it}\nreplace - {it} {it + it % 2} 1\nfind 1 {40 + it}\n" for it in range(EDITS)),
+        "run\nshow\n",
+    ]
+).encode()
+# What the buffers hold, and what parts the other places of a long script that are tried.
+BUFFER, STEP = 8192, 191
+
+
+def places(text):
+    """The numbers of bytes after which a fault comes: all of a short text, some of a long one."""
+    if len(text) < BUFFER:
+        return range(len(text))
+    near = {at + it for at in range(0, len(text), BUFFER) for it in (-1, 0, 1)}
+    return sorted({*near, *range(0, len(text), STEP), len(text) - 1} & {*range(len(text))})
+
+
+def run(**how):
+    return subprocess.run([PROGRAM], stderr=subprocess.PIPE, check=False, timeout=60, **how)
+
+
+def after_reading(script, count):
+    """A run whose input gives so many bytes of the script, then fails once, and then ends."""
+    ours, theirs = socket.socketpair()
+    # What we leave unread makes our end's closing an error of theirs, told once, after all that was sent.
+    theirs.send(b"unread")
+    ours.setsockopt(socket.SOL_SOCKET, socket.SO_SNDBUF, 1 << 20)
+    ours.sendall(script[:count])
+    ours.close()
+    with theirs:
+        return run(stdin=theirs, stdout=subprocess.PIPE)
+
+
+def after_writing(script, count):
+    """A run whose output takes so many bytes and then fails, and what it took."""
+    with tempfile.TemporaryFile() as lines, tempfile.TemporaryFile() as taken:
+        lines.write(script)
+        lines.seek(0)
+
+        def limit():
+            resource.setrlimit(resource.RLIMIT_FSIZE, (count, count))
+
+        # Python ignores the signal of a file that grows too long, and so does what it starts where it restores none.
+        ran = run(stdin=lines, stdout=taken, restore_signals=False, preexec_fn=limit)
+        taken.seek(0)
+        return ran, taken.read()
+
+
+def byte_by_byte(script):
+    """A run whose reads give a byte each."""
+    ours, theirs = socket.socketpair(socket.AF_UNIX, socket.SOCK_SEQPACKET)
+
+    def feed():
+        with ours:
+            for at in range(len(script)):
+                ours.send(script[at : at + 1])
+
+    feeding = threading.Thread(target=feed, daemon=True)
+    feeding.start()
+    with theirs:
+        return run(stdin=theirs, stdout=subprocess.PIPE)
+
+
+def told(name, ran, fault):
+    """What is wrong with how a run ended that should end with this fault."""
+    if ran.returncode == 1 and ran.stderr == f"{fault}\n".encode():
+        return []
+    return [f"{name}: status {ran.returncode}, {ran.stderr!r}"]
+
+
+def swept(script, answer):
+    """What is wrong with the runs of a script whose whole answer is this."""
+    wrong, count = [], 0
+    ran = byte_by_byte(script)
+    if ran.returncode or ran.stdout != answer:
+        wrong.append(f"a byte a read: status {ran.returncode}, {len(ran.stdout)} bytes written, {ran.stderr!r}")
+    for at in [*places(script), len(script)]:
+        ran, count = after_reading(script, at), count + 1
+        wrong += told(f"a read after {at} bytes", ran, "cannot read")
+        if not answer.startswith(ran.stdout):
+            wrong.append(f"a read after {at} bytes: no beginning of the answer, {ran.stdout[-80:]!r}")
+    for at in places(answer):
+        (ran, taken), count = after_writing(script, at), count + 1
+        wrong += told(f"a write after {at} bytes", ran, "cannot write")
+        if taken != answer[:at]:
+            wrong.append(f"a write after {at} bytes: {len(taken)} bytes taken, {taken[-80:]!r}")
+    ran, taken = after_writing(script, len(answer))
+    if ran.returncode or taken != answer:
+        wrong.append(f"an output that takes all: status {ran.returncode}, {len(taken)} bytes taken, {ran.stderr!r}")
+    return wrong, count
+
+
+def spoiled():
+    """What is wrong with runs whose input or output is none at all."""
+    wrong = []
+    with tempfile.TemporaryDirectory() as room:
+        script = Path(room, "script")
+        script.write_bytes(EDITED)
+        folder = os.open(room, os.O_RDONLY)
+        with open("/dev/full", "wb") as full, script.open("rb") as lines:
+            wrong += told("a full output", run(stdin=lines, stdout=full), "cannot write")
+        with script.open("rb") as lines:
+            wrong += told("a closed output", run(stdin=lines, preexec_fn=lambda: os.close(1)), "cannot write")
+        reader, unread = os.pipe()
+        os.close(reader)
+        with script.open("rb") as lines:
+            wrong += told("a pipe that nobody reads", run(stdin=lines, stdout=unread), "cannot write")
+        os.close(unread)
+        for name, how in (("a folder", {"stdin": folder}), ("a closed input", {"preexec_fn": lambda: os.close(0)})):
+            ran = run(stdout=subprocess.PIPE, **how)
+            wrong += told(name, ran, "cannot read") + [f"{name}: {it!r} written" for it in [ran.stdout] if it]
+        os.close(folder)
+        ran = subprocess.run([TOP / "run", room], capture_output=True, check=False)
+        wrong += told("./run on a folder", ran, f"cannot read: {room} is a folder")
+    return wrong
+
+
+def main():
+    if not PROGRAM.exists():
+        sys.exit(f"faults: no {PROGRAM}: `rt run` in crates/typst_tree_main makes it")
+    whole = run(input=LONG, stdout=subprocess.PIPE)
+    wrong = [f"the long script: status {whole.returncode}, {whole.stderr!r}"] if whole.returncode else []
+    count = 0
+    for script, answer in ((EDITED, EDITED_SHOWN), (LONG, whole.stdout)):
+        more, runs = swept(script, answer)
+        wrong, count = wrong + more, count + runs
+    wrong += spoiled()
+    print("\n".join([*wrong, f"{count} reads and writes that fail, {len(wrong)} differences"]))
+    return 1 if wrong else 0
+
+
+if __name__ == "__main__":
+    sys.exit(main())

@@ -1,0 +1,117 @@
+#!/usr/bin/env python3
+"""Refuses each request for memory of each call in turn, and compares how the calls end with the table of docs/MEMORY.md.
+
+    bench/hostile.py             compares, and fails where anything differs
+    bench/hostile.py --found     prints the rows as they are found, with no comparison
+
+The program typst_hostile builds what a call needs, makes K requests of its own and then the call. `rt try --fail-alloc N`
+refuses the Nth request of a run. The first round asks, by the word `spare`, how many requests were granted before the
+refused one: with K that number, the refusal hits the call's first request, with one less its second, and so on. So the second
+round goes down from one more, which still ends before the call, past all requests of the call to passes in which none of them
+is refused, which must be whole. A pass in which memory was refused must say so, by the errors of the table, and leave what was
+lent as it was, or be whole where the call can do without, as a list that grows by less than it asked for first.
+"""
+import re
+import subprocess
+import sys
+import tempfile
+from collections import Counter
+from pathlib import Path
+
+TOP = Path(__file__).resolve().parent.parent
+CRATE = TOP / "crates/typst_hostile"
+TABLE = TOP / "docs/MEMORY.md"
+# Which request of a run is refused: one after all that any call needs and makes.
+REFUSED = 200
+# How many passes there are past the requests of a call, and how many there are for --found.
+PAST, MOST = 4, 60
+ENDS = ("AllocError", "Memory", "NoMemory", "whole")
+
+
+def calls():
+    """The names of all calls, from the lines that the program is tested on with ample memory."""
+    return [line.rsplit(" ", 1)[0] for line in (CRATE / "stdin").read_text().splitlines()]
+
+
+def table():
+    """The errors of each call, by name: a row is `| name | 2 Memory, 1 NoMemory |`, or `none` for a call without requests."""
+    rows = re.findall(r"^\| `([^`]+)` \| (none|[\w ,]+) \|$", TABLE.read_text(), re.M)
+    told = {}
+    for name, errors in rows:
+        words = [] if errors == "none" else [it.split() for it in errors.split(", ")]
+        told[name] = Counter({error: int(count) for count, error in words})
+    return told
+
+
+def written(errors):
+    return ", ".join(f"{errors[it]} {it}" for it in ENDS if errors[it]) or "none"
+
+
+def run(asked):
+    """How the calls end that are asked for, by name and requests: each in a run of its own, in one build."""
+    with tempfile.TemporaryDirectory() as room:
+        for index, (name, requests) in enumerate(asked):
+            Path(room, f"{index:05}").write_text(f"{name} {requests}\n")
+        command = ["rt", "try", "--fail-alloc", str(REFUSED), "--cases", room]
+        ran = subprocess.run(command, cwd=CRATE, capture_output=True, text=True, check=False)
+    said = ran.stdout + ran.stderr
+    ends = {(name, requests): end for name, requests, end in re.findall(r"^(.+) (\d+|spare) (\w+)$", said, re.M)}
+    missing = [it for it in asked if (it[0], str(it[1])) not in ends]
+    if missing or ran.returncode:
+        sys.exit(f"no answer for {missing[:3]} and {len(missing)} in all; rt try ended with {ran.returncode}:\n{said[-2000:]}")
+    return ends
+
+
+def spare_requests(names):
+    ends = run([(name, "spare") for name in names])
+    return {name: int(ends[name, "spare"]) for name in names}
+
+
+def digits(count):
+    """A number as wide as the word `spare`: a longer line may take one request more to be read."""
+    return f"{count:05}"
+
+
+def ends_of(first, passes):
+    """How each call ends in so many passes, after one that ends before the call."""
+    return run([(name, digits(first[name] + 1 - it)) for name, count in passes.items() for it in range(count + 1)])
+
+
+def judged(name, ends, first, passes):
+    """The ends of a call's passes up to the last one that isn't whole, and what is wrong with them."""
+    words = [ends[name, digits(first - it)] for it in range(passes)]
+    wrong = []
+    if ends[name, digits(first + 1)] != "early":
+        wrong.append(f"{name}: one request more should hit none of the call's, and ends {ends[name, digits(first + 1)]}")
+    if set(words[-PAST:]) != {"whole"}:
+        wrong.append(f"{name}: not whole in the last passes, but {words[-PAST:]}")
+    for at, word in enumerate(words):
+        if word not in ENDS:
+            wrong.append(f"{name}: request {at + 1} refused, and the call ends {word}")
+    while words and words[-1] == "whole":
+        words.pop()
+    return Counter(words), wrong
+
+
+def main():
+    names, found = calls(), "--found" in sys.argv
+    told = {} if found else table()
+    wrong = [] if found else [f"{it}: only in {TABLE} or only in {CRATE}/stdin" for it in sorted(set(names) ^ set(told))]
+    first = spare_requests([name for name in names if found or name in told])
+    passes = {name: MOST if found else sum(told[name].values()) + PAST for name in first}
+    ends = ends_of(first, passes)
+    count = 0
+    for name in first:
+        errors, more = judged(name, ends, first[name], passes[name])
+        count += sum(errors.values())
+        wrong += more
+        if found:
+            print(f"| `{name}` | {written(errors)} |")
+        elif errors != told[name]:
+            wrong.append(f"{name}: {written(errors)}, and {TABLE.name} says {written(told[name])}")
+    print("\n".join([*wrong, f"{len(first)} calls, {count} requests refused in turn, {len(wrong)} differences"]))
+    return 1 if wrong else 0
+
+
+if __name__ == "__main__":
+    sys.exit(main())

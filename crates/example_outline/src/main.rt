@@ -1,0 +1,39 @@
+//! Prints the headings of a document with their depth, a line each. Standard input is a script that builds the document.
+#![tactic(auto)]
+
+ghost use Rattle.std.specs.Prelude.{◌≡◌, ◌++◌, OnOk, string_bytes, codes, decimal};
+
+use anyhow::Result;
+use std::alloc::{AllocError, Global};
+use typst_script::script;
+use typst_tree::ast::{AstNode, Heading};
+use typst_tree::{LinkedNode, SyntaxNode};
+
+/// Adds the line of a heading.
+fn push_line(lines: &mut String, depth: usize, title: &str) -> Result<(), AllocError>
+    ensures { OnOk result (string_bytes lines.new
+        ≡ string_bytes lines.old ++ (decimal depth ++ (codes " " ++ (title.now ++ codes "\n")))) }
+{
+    writeln!(lines, "{depth} {title}")
+}
+
+/// The lines of all headings of a tree, in the order of the document.
+fn outline(alloc: Global, tree: &SyntaxNode) -> Result<String, AllocError> {
+    let mut lines = String::new(alloc);
+    for node in LinkedNode::new(tree).preorder(alloc)? {
+        if let Some(heading) = node?.get().cast::<Heading>() {
+            let depth = heading.depth().get();
+            match heading.body().to_untyped() {
+                Some(body) => push_line(&mut lines, depth, &body.full_text(alloc)?)?,
+                None => push_line(&mut lines, depth, "")?,
+            }
+        }
+    }
+    Ok(lines)
+}
+
+fn main(rt: HostRuntime) -> Result<()> {
+    let tree = script::tree_of(rt.alloc(), rt.reader())?;
+    rt.print(outline(rt.alloc(), &tree)?)?;
+    Ok(())
+}

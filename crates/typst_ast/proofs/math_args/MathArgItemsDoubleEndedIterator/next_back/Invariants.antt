@@ -1,9 +1,0 @@
-use Rattle.std.proofs.Common.{◌≡◌, length}
-use Rattle.typst_ast.specs.MathArgs.{items_left}
-use Rattle.typst_ast.proofs.math_args.MathArgItemsDoubleEndedIterator.next_back.Given as goal
-
-abbrev pub invariant-loop-last : goal.invariant-loop-last
-invariant-loop-last l = items_left l.self ≡ items_left l.initial.self
-
-abbrev pub decreases-loop-last : goal.decreases-loop-last
-decreases-loop-last l = length l.self.rest.now

@@ -1,0 +1,60 @@
+//! Equality, hashes and `Debug` of expressions, which go by kind and node.
+ghost use Rattle.std.specs.Prelude.{◌≡◌};
+ghost use Rattle.std.specs.Option.{option_copied};
+ghost use Rattle.typst_ast.specs.Expr.{expr_kind, expr_node};
+
+use crate::expr::Expr;
+use std::fmt;
+use std::hash::{Hash, Hasher};
+use typst_atoms::same_views::Parts;
+use typst_node::AstNode;
+
+impl<'a> Expr<'a> {
+    // Its kind and its node, which tell all of it.
+    fn parts(self) -> Parts<'a>
+        ensures kind { result.kind ≡ expr_kind self.entry }
+        ensures node { option_copied result.node ≡ expr_node self.entry }
+    {
+        Parts {
+            kind: self.kind(),
+            node: self.to_untyped(),
+        }
+    }
+}
+
+impl<'a> PartialEq for Expr<'a> {
+    ghost use Rattle.typst_atoms.specs.SameViews.{same_views, same_views_laws};
+
+    ghost eq = { same_views expr_kind expr_node };
+
+    ghost laws = { same_views_laws expr_kind expr_node };
+
+    fn eq(&self, other: &Expr<'a>) -> bool {
+        self.parts().are_same(other.parts())
+    }
+}
+
+impl<'a> Eq for Expr<'a> {
+    ghost use Rattle.typst_atoms.specs.SameViews.{same_views_equivalence};
+
+    ghost laws = { same_views_equivalence expr_kind expr_node };
+}
+
+impl<'a> Hash for Expr<'a> {
+    ghost use Rattle.typst_atoms.specs.SameViews.{same_views_alike, view_input};
+
+    ghost hash_input = { view_input expr_kind expr_node };
+
+    ghost respects_eq = { same_views_alike expr_kind expr_node };
+
+    fn hash<H: Hasher>(&self, state: &mut H) {
+        self.parts().feed(state);
+    }
+}
+
+impl<'a> fmt::Debug for Expr<'a> {
+    /// Writes the name of the variant and the node, as `Int(Int: "1")`, or `Int(placeholder)`.
+    fn fmt<W: fmt::Write>(&self, f: &mut fmt::Formatter<W>) -> fmt::Result {
+        self.parts().show(f)
+    }
+}

@@ -1,0 +1,108 @@
+//! The names that patterns bind.
+ghost use Rattle.std.specs.Prelude.{◌≡◌, ◌++◌, map, option_to_list, IfOk, Some};
+ghost use Rattle.std.specs.List.{flat_map};
+ghost use Rattle.std.specs.Option.{option_copied};
+ghost use Rattle.typst_atoms.specs.Bindings.{names_bound, names_of_item};
+ghost use Rattle.typst_atoms.specs.Children.{all_in, first_child, last_child};
+ghost use Rattle.typst_atoms.specs.Classes.{is_destructuring_item_kind, is_pattern_kind};
+ghost use Rattle.typst_atoms.specs.View.{node_of};
+
+use crate::casts::try_cast_first;
+use crate::classes::is_pattern;
+use crate::nodes::children;
+use crate::views::Ident;
+use std::alloc::AllocError;
+use typst_base::SyntaxKind;
+use typst_node::SyntaxNode;
+
+/// The first child that is a pattern.
+pub fn first_pattern<'a>(node: Option<&'a SyntaxNode>) -> Option<&'a SyntaxNode>
+    ensures { option_copied result ≡ first_child is_pattern_kind (option_copied node.entry) }
+{
+    let mut rest = children(node);
+    while let [first, more @ ..] = rest {
+        if is_pattern(first.kind()) {
+            return Some(first);
+        }
+        rest = more;
+    }
+    None
+}
+
+// The last child that is a pattern.
+#[tactic(auto, using(crate::proofs::Ends::last_in_append))]
+fn last_pattern<'a>(node: Option<&'a SyntaxNode>) -> Option<&'a SyntaxNode>
+    ensures { option_copied result ≡ last_child is_pattern_kind (option_copied node.entry) }
+{
+    let mut rest = children(node);
+    while let Some((last, before)) = rest.split_last() {
+        if is_pattern(last.kind()) {
+            return Some(last);
+        }
+        rest = before;
+    }
+    None
+}
+
+/// Adds the name, if there is one.
+pub fn push_name<'a>(names: &mut Vec<Ident<'a>>, name: Option<Ident<'a>>) -> Result<(), AllocError>
+    ensures { IfOk result (λ _. map node_of names.new.items
+        ≡ map node_of names.old.items ++ map node_of (option_to_list name.entry)) }
+{
+    if let Some(name) = name {
+        names.push(name)?;
+    }
+    Ok(())
+}
+
+/// Adds the names that a pattern binds, in order: an identifier is a name itself, a parenthesized pattern and a
+/// destructuring bind what they hold, and any other pattern binds nothing.
+///
+/// It takes time in proportion to the nodes below, and memory for the names.
+#[cycle(bindings)]
+pub fn push_pattern<'a>(
+    names: &mut Vec<Ident<'a>>,
+    pattern: Option<&'a SyntaxNode>,
+) -> Result<(), AllocError>
+    ensures { IfOk result (λ _. map node_of names.new.items
+        ≡ map node_of names.old.items ++ map Some (names_bound (option_copied pattern.entry))) }
+{
+    match pattern {
+        Some(node) => match node.kind() {
+            SyntaxKind::Ident => push_name(names, Some(Ident::of_kind(node))),
+            SyntaxKind::Parenthesized => push_pattern(names, first_pattern(Some(node))),
+            SyntaxKind::Destructuring => push_items(names, node.child_slice()),
+            _ => Ok(()),
+        },
+        None => Ok(()),
+    }
+}
+
+// Adds the names that an item of a destructuring binds. A node that is no item binds none.
+#[cycle(bindings)]
+fn push_item<'a>(names: &mut Vec<Ident<'a>>, item: &'a SyntaxNode) -> Result<(), AllocError>
+    ensures { IfOk result (λ _. map node_of names.new.items
+        ≡ map node_of names.old.items ++ map Some (names_of_item names_bound item.now)) }
+{
+    match item.kind() {
+        SyntaxKind::Named => push_pattern(names, last_pattern(Some(item))),
+        SyntaxKind::Spread => push_name(names, try_cast_first(Some(item))),
+        _ => push_pattern(names, Some(item)),
+    }
+}
+
+/// Adds the names that the items of a destructuring among these nodes bind, in order: named pairs what their patterns
+/// bind, spreads the names of their sinks, and patterns what they bind.
+///
+/// It takes time in proportion to the nodes below, and memory for the names.
+#[cycle(bindings)]
+pub fn push_items<'a>(names: &mut Vec<Ident<'a>>, nodes: &'a [SyntaxNode]) -> Result<(), AllocError>
+    ensures { IfOk result (λ _. map node_of names.new.items
+        ≡ map node_of names.old.items
+        ++ map Some (flat_map (names_of_item names_bound) (all_in is_destructuring_item_kind nodes.now))) }
+{
+    for node in nodes {
+        push_item(names, node)?;
+    }
+    Ok(())
+}

@@ -1,0 +1,106 @@
+//! The children that the expressions of markup and of math are among, from both ends.
+ghost use Rattle.std.specs.Prelude.{◌≡◌, ◌&&◌};
+ghost use Rattle.std.specs.Iterator.{YieldsFirstRef, YieldsLastRef, item_count};
+ghost use Rattle.std.specs.Option.{option_copied};
+ghost use Rattle.typst_atoms.specs.Children.{children_in};
+ghost use Rattle.typst_atoms.specs.KeptNodes.{kept_left, markup_nodes};
+ghost use Rattle.typst_atoms.specs.Kinds.{is_kind};
+ghost use Rattle.typst_atoms.specs.StmtEnds.{ends_in_stmt};
+ghost use Rattle.typst_base.specs.declared.kind.SyntaxKind.TheVariants as kinds;
+ghost use Rattle.typst_node.specs.Views.{node_kind};
+
+use crate::nodes::children;
+use typst_base::SyntaxKind;
+use typst_node::SyntaxNode;
+
+/// The children of a node in order, from both ends: all of them, or those of markup, which leave out each space that
+/// stands directly after a statement.
+///
+/// Each step passes over the nodes that are left out, so all steps together go over the children once.
+#[derive(Drop)]
+pub struct KeptNodes<'a> {
+    rest: &'a [SyntaxNode],
+    // Whether spaces directly after statements are left out.
+    drops: bool,
+    // Whether they are, and a statement stands directly before the rest.
+    behind_stmt: bool,
+}
+
+// Whether the node is a space, where a statement stands directly before it.
+fn is_dropped(behind_stmt: bool, node: &SyntaxNode) -> bool
+    ensures { result ≡ (behind_stmt && is_kind kinds.Space (node_kind node.now)) }
+{
+    behind_stmt && node.kind() == SyntaxKind::Space
+}
+
+// Whether spaces after statements are left out, and a statement stands directly after these nodes.
+#[tactic(auto, using(crate::proofs::KeptLists::ends_in_stmt_append))]
+fn is_behind_stmt(drops: bool, behind_stmt: bool, nodes: &[SyntaxNode]) -> bool
+    ensures { result ≡ ends_in_stmt drops behind_stmt nodes.now }
+{
+    match nodes.split_last() {
+        Some((last, _)) => drops && last.kind().is_stmt(),
+        None => behind_stmt,
+    }
+}
+
+impl<'a> KeptNodes<'a> {
+    /// All children of the node; none where there is no node.
+    #[tactic(auto, using(crate::proofs::KeptLists::all_are_kept))]
+    pub fn of_all(node: Option<&'a SyntaxNode>) -> Self
+        ensures { kept_left result ≡ children_in (option_copied node.entry) }
+    {
+        KeptNodes {
+            rest: children(node),
+            drops: false,
+            behind_stmt: false,
+        }
+    }
+
+    /// The children of the node without each space that stands directly after a statement; none where there is no node.
+    #[tactic(auto, using(crate::proofs::KeptLists::kept_in_markup))]
+    pub fn of_markup(node: Option<&'a SyntaxNode>) -> Self
+        ensures { kept_left result ≡ markup_nodes (children_in (option_copied node.entry)) }
+    {
+        KeptNodes {
+            rest: children(node),
+            drops: true,
+            behind_stmt: false,
+        }
+    }
+}
+
+impl<'a> Iterator for KeptNodes<'a> {
+    type Item = &'a SyntaxNode;
+
+    ghost next_gives = { YieldsFirstRef kept_left };
+
+    ghost remaining = { item_count kept_left };
+
+    fn next(&mut self) -> Option<&'a SyntaxNode> {
+        while let [first, rest @ ..] = self.rest {
+            let behind_stmt = self.behind_stmt;
+            self.rest = rest;
+            self.behind_stmt = self.drops && first.kind().is_stmt();
+            if !is_dropped(behind_stmt, first) {
+                return Some(first);
+            }
+        }
+        None
+    }
+}
+
+impl<'a> DoubleEndedIterator for KeptNodes<'a> {
+    ghost next_back_gives = { YieldsLastRef kept_left };
+
+    fn next_back(&mut self) -> Option<&'a SyntaxNode> {
+        while let Some((last, rest)) = self.rest.split_last() {
+            let behind_stmt = is_behind_stmt(self.drops, self.behind_stmt, rest);
+            self.rest = rest;
+            if !is_dropped(behind_stmt, last) {
+                return Some(last);
+            }
+        }
+        None
+    }
+}

@@ -1,0 +1,161 @@
+//! The children that are items of arguments in math, from both ends.
+ghost use Rattle.std.specs.Prelude.{◌≡◌, ◌&&◌, not};
+ghost use Rattle.std.specs.Iterator.{YieldsFirstRef, YieldsLastRef, item_count};
+ghost use Rattle.std.specs.Option.{option_copied};
+ghost use Rattle.typst_atoms.specs.Children.{children_in};
+ghost use Rattle.typst_atoms.specs.Classes.{is_arg_kind};
+ghost use Rattle.typst_atoms.specs.HashEnds.{ends_behind_hash};
+ghost use Rattle.typst_atoms.specs.Kinds.{is_kind};
+ghost use Rattle.typst_atoms.specs.MathItems.{content_items, ends_in_semicolon, is_behind_hash, is_item, items_in, items_left};
+ghost use Rattle.typst_base.specs.declared.kind.SyntaxKind.TheVariants as kinds;
+ghost use Rattle.typst_node.specs.Views.{node_kind};
+
+use crate::classes::is_arg;
+use crate::nodes::children;
+use typst_base::SyntaxKind;
+use typst_node::SyntaxNode;
+
+/// The children of a call's arguments in math that are items, in order, from both ends: arguments, spaces, commas, parens
+/// and semicolons. A semicolon that only ends what a hash began is none.
+///
+/// All steps together go over the children at most twice.
+#[derive(Drop)]
+pub struct MathItems<'a> {
+    rest: &'a [SyntaxNode],
+    // Whether the nearest node before the rest that is no argument is a hash.
+    behind_hash: bool,
+}
+
+// Whether the node is an argument.
+fn is_arg_node(node: &SyntaxNode) -> bool
+    ensures { result ≡ is_arg_kind (node_kind node.now) }
+{
+    is_arg(node.kind())
+}
+
+// Whether the node is a hash.
+fn is_hash(node: &SyntaxNode) -> bool
+    ensures { result ≡ is_kind kinds.Hash (node_kind node.now) }
+{
+    node.kind() == SyntaxKind::Hash
+}
+
+// Whether the nearest node that is no argument is a hash, this node being the last; the flag tells of those before it.
+fn is_behind_hash(behind_hash: bool, node: &SyntaxNode) -> bool
+    ensures { result ≡ is_behind_hash behind_hash node.now }
+{
+    if is_arg_node(node) {
+        behind_hash
+    } else {
+        is_hash(node)
+    }
+}
+
+// Whether a hash is the last of these nodes that is no argument; the flag tells of what stands before them.
+#[tactic(auto, using(crate::proofs::ItemLists::ends_behind_hash_append))]
+fn ends_behind_hash(behind_hash: bool, nodes: &[SyntaxNode]) -> bool
+    ensures { result ≡ ends_behind_hash behind_hash nodes.now }
+{
+    let mut rest = nodes;
+    while let Some((last, before)) = rest.split_last() {
+        if !is_arg_node(last) {
+            return is_hash(last);
+        }
+        rest = before;
+    }
+    behind_hash
+}
+
+// Whether the node is an item. Before it stand these nodes, and the flag tells of what stands before them.
+fn is_item(behind_hash: bool, before: &[SyntaxNode], node: &SyntaxNode) -> bool
+    ensures { result ≡ is_item (ends_behind_hash behind_hash before.now) (node_kind node.now) }
+{
+    match node.kind() {
+        SyntaxKind::Semicolon => !ends_behind_hash(behind_hash, before),
+        SyntaxKind::Space | SyntaxKind::Comma | SyntaxKind::LeftParen | SyntaxKind::RightParen => {
+            true
+        }
+        kind => is_arg(kind),
+    }
+}
+
+// Whether the node is a semicolon that is an item.
+fn is_item_semicolon(behind_hash: bool, node: &SyntaxNode) -> bool
+    ensures { result ≡ (is_kind kinds.Semicolon (node_kind node.now) && not behind_hash) }
+{
+    node.kind() == SyntaxKind::Semicolon && !behind_hash
+}
+
+// Whether a semicolon that is an item stands in these nodes before the next argument. The flag says whether the nearest
+// node before them that is no argument is a hash.
+fn ends_in_semicolon(mut behind_hash: bool, nodes: &[SyntaxNode]) -> bool
+    ensures { result ≡ ends_in_semicolon (items_in behind_hash nodes.now) }
+{
+    let mut rest = nodes;
+    while let Some((first, more)) = rest.split_first() {
+        if is_arg_node(first) {
+            return false;
+        }
+        if is_item_semicolon(behind_hash, first) {
+            return true;
+        }
+        behind_hash = is_hash(first);
+        rest = more;
+    }
+    false
+}
+
+impl<'a> MathItems<'a> {
+    /// The items among the children; none where there is no node.
+    #[tactic(auto, using(crate::proofs::ItemLists::items_in_content))]
+    pub fn new(node: Option<&'a SyntaxNode>) -> Self
+        ensures { items_left result ≡ content_items (children_in (option_copied node.entry)) }
+    {
+        MathItems {
+            rest: children(node),
+            behind_hash: false,
+        }
+    }
+
+    /// Whether a semicolon stands among the items that are left before the next argument. It goes over the children up to
+    /// there.
+    pub fn ends_in_semicolon(&self) -> bool
+        ensures { result ≡ ends_in_semicolon (items_left self.now) }
+    {
+        ends_in_semicolon(self.behind_hash, self.rest)
+    }
+}
+
+impl<'a> Iterator for MathItems<'a> {
+    type Item = &'a SyntaxNode;
+
+    ghost next_gives = { YieldsFirstRef items_left };
+
+    ghost remaining = { item_count items_left };
+
+    fn next(&mut self) -> Option<&'a SyntaxNode> {
+        while let [first, rest @ ..] = self.rest {
+            let behind_hash = self.behind_hash;
+            self.rest = rest;
+            self.behind_hash = is_behind_hash(behind_hash, first);
+            if is_item(behind_hash, &[], first) {
+                return Some(first);
+            }
+        }
+        None
+    }
+}
+
+impl<'a> DoubleEndedIterator for MathItems<'a> {
+    ghost next_back_gives = { YieldsLastRef items_left };
+
+    fn next_back(&mut self) -> Option<&'a SyntaxNode> {
+        while let Some((last, rest)) = self.rest.split_last() {
+            self.rest = rest;
+            if is_item(self.behind_hash, rest, last) {
+                return Some(last);
+            }
+        }
+        None
+    }
+}

@@ -1,0 +1,55 @@
+//! Why a drawing shows no tree.
+use std::alloc::{AllocError, AllocFailed};
+use thiserror::Error;
+use typst_node::{InnerError, Unnumberable};
+
+/// Why a drawing shows no tree.
+#[derive(Clone, Copy, Debug, PartialEq, Eq, Error)]
+pub enum DrawingError {
+    /// A word that is no leaf, error, warning, hint or bracket.
+    #[error("a word without a meaning")]
+    Word,
+    /// No kind that leaves and inner nodes may have is called so.
+    #[error("no kind of this name")]
+    Kind,
+    /// A bracket that nothing opened, or that nothing closes.
+    #[error("a bracket without its other one")]
+    Bracket,
+    /// A warning or a hint before the first node, one whose range isn't a part of the node's text, or a hint for a
+    /// node that takes none.
+    #[error("a warning or a hint that no node takes")]
+    Misplaced,
+    /// None or several nodes, where one is asked for.
+    #[error("none or several nodes")]
+    Nodes,
+    /// The numbers don't suffice, or no node may have them.
+    #[error("the numbers don't suffice")]
+    Numbers,
+    /// The tree is too large, or memory was refused.
+    #[error("out of memory")]
+    Memory,
+}
+
+impl<T: Drop> From<AllocFailed<T>> for DrawingError {
+    fn from(_e: AllocFailed<T>) -> DrawingError {
+        DrawingError::Memory
+    }
+}
+
+impl From<AllocError> for DrawingError {
+    fn from(_e: AllocError) -> DrawingError {
+        DrawingError::Memory
+    }
+}
+
+impl From<InnerError> for DrawingError {
+    fn from(_e: InnerError) -> DrawingError {
+        DrawingError::Memory
+    }
+}
+
+impl From<Unnumberable> for DrawingError {
+    fn from(_e: Unnumberable) -> DrawingError {
+        DrawingError::Numbers
+    }
+}

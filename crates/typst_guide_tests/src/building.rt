@@ -1,0 +1,56 @@
+// Building a tree.
+use std::alloc::{AllocError, Global};
+use std::test::Fail;
+use typst_tree::SyntaxKind::{Heading, HeadingMarker, Markup, Parbreak, Space, Star, Strong, Text};
+use typst_tree::{InnerError, SyntaxNode};
+
+/// The tree of `= Hello`, an empty line and `See *this*`.
+pub(crate) fn document(alloc: Global) -> Result<SyntaxNode, InnerError> {
+    let title = vec![in alloc; SyntaxNode::leaf(alloc, Text, "Hello")?]?;
+    let heading = vec![in alloc;
+        SyntaxNode::leaf(alloc, HeadingMarker, "=")?,
+        SyntaxNode::leaf(alloc, Space, " ")?,
+        SyntaxNode::inner(alloc, Markup, title)?,
+    ]?;
+    let body = vec![in alloc; SyntaxNode::leaf(alloc, Text, "this")?]?;
+    let strong = vec![in alloc;
+        SyntaxNode::leaf(alloc, Star, "*")?,
+        SyntaxNode::inner(alloc, Markup, body)?,
+        SyntaxNode::leaf(alloc, Star, "*")?,
+    ]?;
+    let parts = vec![in alloc;
+        SyntaxNode::inner(alloc, Heading, heading)?,
+        SyntaxNode::leaf(alloc, Parbreak, "\n\n")?,
+        SyntaxNode::leaf(alloc, Text, "See ")?,
+        SyntaxNode::inner(alloc, Strong, strong)?,
+    ]?;
+    SyntaxNode::inner(alloc, Markup, parts)
+}
+
+#[test]
+fn a_tree_keeps_its_text(rt: HostRuntime) -> Result<(), Fail> {
+    let tree = document(rt.alloc())?;
+    assert_eq!(rt;
+        tree.full_text(rt.alloc())?.as_str(),
+        "= Hello\n\nSee *this*"
+    );
+    assert_eq!(rt; tree.len(), 19);
+    assert_eq!(rt; tree.descendants(), 13);
+    Ok(())
+}
+
+/// A leaf under the kind that `spelled` has as a keyword, or else an identifier: a lexer's last step.
+fn word(alloc: Global, spelled: &str) -> Result<SyntaxNode, AllocError> {
+    match spelled {
+        "let" => SyntaxNode::leaf(alloc, typst_tree::SyntaxKind::Let, spelled),
+        _ => SyntaxNode::leaf(alloc, typst_tree::SyntaxKind::Ident, spelled),
+    }
+}
+
+#[test]
+fn a_leaf_has_a_kind_and_a_text(rt: HostRuntime) -> Result<(), Fail> {
+    let leaf = word(rt.alloc(), "let")?;
+    assert!(rt; leaf.kind().is_keyword() && leaf.leaf_text() == "let");
+    assert!(rt; !word(rt.alloc(), "x")?.kind().is_keyword());
+    Ok(())
+}

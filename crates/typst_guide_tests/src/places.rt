@@ -1,0 +1,39 @@
+// From a cursor to a view, and from a view to its place.
+use crate::editing::numbered;
+use std::test::Fail;
+use typst_tree::ast::{AstNode, Heading, Text};
+use typst_tree::session::Reply;
+use typst_tree::{LinkedNode, Side, Span, SyntaxKind, node_at};
+
+#[test]
+fn a_cursor_leads_to_a_leaf_and_its_view(rt: HostRuntime) -> Result<(), Fail> {
+    let alloc = rt.alloc();
+    let tree = numbered(alloc, Span::FULL)?;
+    let root = LinkedNode::new(tree.root());
+    // In `= Hello`, an empty line and `See *this*`, byte 16 is the `i`.
+    let leaf = root.leaf_at(alloc, 16, Side::After)?.ok_or("no leaf")?;
+    let text = leaf.get().cast::<Text>().ok_or("no text")?;
+    assert!(rt; text.get() == "this" && leaf.offset() == 14);
+    let around = leaf.parent().and_then(LinkedNode::parent);
+    assert!(rt; around.is_some_and(|node| node.get().kind() == SyntaxKind::Strong));
+    let path = leaf.path(alloc)?;
+    assert_eq!(rt; path.as_slice(), [3, 1, 0].as_slice());
+    Ok(())
+}
+
+#[test]
+fn a_view_leads_to_its_place(rt: HostRuntime) -> Result<(), Fail> {
+    let alloc = rt.alloc();
+    let tree = numbered(alloc, Span::FULL)?;
+    let first = tree.root().children().next().ok_or("no children")?;
+    let heading = first.cast::<Heading>().ok_or("no heading")?;
+    // A span is all that has to be kept.
+    let span = heading.body().span();
+    let Reply::Found { path, offset, .. } = tree.find(alloc, span) else {
+        return Err("not found")?;
+    };
+    assert!(rt; path.as_slice() == [0, 2].as_slice() && offset == 2);
+    let node = node_at(tree.root(), &path).ok_or("no node")?;
+    assert_eq!(rt; node.full_text(alloc)?.as_str(), "Hello");
+    Ok(())
+}

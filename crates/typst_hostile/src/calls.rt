@@ -1,0 +1,169 @@
+//! The calls, by name.
+use crate::changing::{self, Change, Replacing};
+use crate::end::{End, Stop};
+use crate::making::{self, Making};
+use crate::reading::Reading;
+use crate::requests::Requests;
+use crate::runs::{self, Run};
+use crate::scripts;
+use crate::trees::{BINDING, NESTED, Step};
+use crate::views::Viewing;
+use crate::walks::{self, Walk};
+use std::alloc::Global;
+
+/// A call, and what it is made on where that differs.
+#[derive(Clone, Copy)]
+pub enum Call {
+    Make(Making),
+    MakeMapper,
+    CloneDiagnostic,
+    Change(Change),
+    HintAll,
+    Replace(Replacing),
+    Read(Reading),
+    View(Viewing),
+    Walk(Walk, &'static [Step]),
+    FindAmongThousand,
+    Run(Run),
+    RunScript,
+}
+
+/// Each call with its name.
+pub const CALLS: &[(&str, Call)] = &[
+    ("RangeMapper::new", Call::MakeMapper),
+    ("leaf", Call::Make(Making::Leaf)),
+    ("error", Call::Make(Making::Error)),
+    ("inner", Call::Make(Making::Inner)),
+    ("clone", Call::Make(Making::Clone)),
+    ("clone of a diagnostic", Call::CloneDiagnostic),
+    ("warn", Call::Change(Change::Warn)),
+    ("warn_at", Call::Change(Change::WarnAt)),
+    ("hint", Call::Change(Change::Hint)),
+    ("hint of a warned node", Call::Change(Change::HintWarned)),
+    ("hint_at", Call::Change(Change::HintAt)),
+    ("with_hints", Call::HintAll),
+    ("convert_to_error", Call::Change(Change::ConvertToError)),
+    ("expected", Call::Change(Change::Expected)),
+    ("unexpected", Call::Change(Change::Unexpected)),
+    ("replace_children", Call::Replace(Replacing::Children)),
+    ("replace_at", Call::Replace(Replacing::Below)),
+    ("full_text", Call::Read(Reading::FullText)),
+    (
+        "errors_and_warnings",
+        Call::Read(Reading::ErrorsAndWarnings),
+    ),
+    ("Str::get", Call::View(Viewing::StrGet)),
+    ("bare_name", Call::View(Viewing::BareName)),
+    (
+        "LetBindingKind::bindings",
+        Call::View(Viewing::KindBindings),
+    ),
+    ("Pattern::bindings", Call::View(Viewing::PatternBindings)),
+    (
+        "Destructuring::bindings",
+        Call::View(Viewing::DestructuringBindings),
+    ),
+    ("children, nested", Call::Walk(Walk::Children, NESTED)),
+    ("children, wide", Call::Walk(Walk::Children, BINDING)),
+    (
+        "children back, nested",
+        Call::Walk(Walk::ChildrenBack, NESTED),
+    ),
+    (
+        "children back, wide",
+        Call::Walk(Walk::ChildrenBack, BINDING),
+    ),
+    (
+        "prev_sibling, nested",
+        Call::Walk(Walk::PrevSibling, NESTED),
+    ),
+    ("prev_sibling, wide", Call::Walk(Walk::PrevSibling, BINDING)),
+    (
+        "next_sibling, nested",
+        Call::Walk(Walk::NextSibling, NESTED),
+    ),
+    ("next_sibling, wide", Call::Walk(Walk::NextSibling, BINDING)),
+    (
+        "prev_sibling_with_trivia, nested",
+        Call::Walk(Walk::PrevSiblingWithTrivia, NESTED),
+    ),
+    (
+        "prev_sibling_with_trivia, wide",
+        Call::Walk(Walk::PrevSiblingWithTrivia, BINDING),
+    ),
+    (
+        "next_sibling_with_trivia, nested",
+        Call::Walk(Walk::NextSiblingWithTrivia, NESTED),
+    ),
+    (
+        "next_sibling_with_trivia, wide",
+        Call::Walk(Walk::NextSiblingWithTrivia, BINDING),
+    ),
+    (
+        "leftmost_leaf, nested",
+        Call::Walk(Walk::LeftmostLeaf, NESTED),
+    ),
+    (
+        "leftmost_leaf, wide",
+        Call::Walk(Walk::LeftmostLeaf, BINDING),
+    ),
+    (
+        "rightmost_leaf, nested",
+        Call::Walk(Walk::RightmostLeaf, NESTED),
+    ),
+    (
+        "rightmost_leaf, wide",
+        Call::Walk(Walk::RightmostLeaf, BINDING),
+    ),
+    ("prev_leaf, nested", Call::Walk(Walk::PrevLeaf, NESTED)),
+    ("prev_leaf, wide", Call::Walk(Walk::PrevLeaf, BINDING)),
+    ("next_leaf, nested", Call::Walk(Walk::NextLeaf, NESTED)),
+    ("next_leaf, wide", Call::Walk(Walk::NextLeaf, BINDING)),
+    ("leaf_at, nested", Call::Walk(Walk::LeafAt, NESTED)),
+    ("leaf_at, wide", Call::Walk(Walk::LeafAt, BINDING)),
+    (
+        "leaf_at_counted, nested",
+        Call::Walk(Walk::LeafAtCounted, NESTED),
+    ),
+    (
+        "leaf_at_counted, wide",
+        Call::Walk(Walk::LeafAtCounted, BINDING),
+    ),
+    ("leaf_at_counted, of 1000 leaves", Call::FindAmongThousand),
+    ("find, nested", Call::Walk(Walk::Find, NESTED)),
+    ("find, wide", Call::Walk(Walk::Find, BINDING)),
+    (
+        "find_counted, nested",
+        Call::Walk(Walk::FindCounted, NESTED),
+    ),
+    ("find_counted, wide", Call::Walk(Walk::FindCounted, BINDING)),
+    ("find_range, nested", Call::Walk(Walk::FindRange, NESTED)),
+    ("find_range, wide", Call::Walk(Walk::FindRange, BINDING)),
+    ("preorder, nested", Call::Walk(Walk::Preorder, NESTED)),
+    ("preorder, wide", Call::Walk(Walk::Preorder, BINDING)),
+    ("path, nested", Call::Walk(Walk::Path, NESTED)),
+    ("path, wide", Call::Walk(Walk::Path, BINDING)),
+    ("session::run, each reply", Call::Run(runs::REPLIES)),
+    ("session::run, insertions", Call::Run(runs::INSERTIONS)),
+    ("script::run", Call::RunScript),
+];
+
+impl Call {
+    /// Builds what the call needs, makes these requests, and then the call.
+    pub fn run(self, alloc: Global, requests: Requests) -> Result<End, Stop> {
+        match self {
+            Call::Make(making) => making.run(alloc, requests),
+            Call::MakeMapper => making::make_mapper(alloc, requests),
+            Call::CloneDiagnostic => making::clone_diagnostic(alloc, requests),
+            Call::Change(change) => change.run(alloc, requests),
+            Call::HintAll => changing::hint_all(alloc, requests),
+            Call::Replace(replacing) => replacing.run(alloc, requests),
+            Call::Read(reading) => reading.run(alloc, requests),
+            Call::View(viewing) => viewing.run(alloc, requests),
+            Call::Walk(walk, steps) => walk.run(steps, alloc, requests),
+            Call::FindAmongThousand => walks::find_among_thousand(alloc, requests),
+            Call::Run(run) => run.run(alloc, requests),
+            Call::RunScript => scripts::run_script(alloc, requests),
+        }
+    }
+}

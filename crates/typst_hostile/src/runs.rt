@@ -1,0 +1,180 @@
+//! Runs of replacements and searches.
+use crate::end::{End, Refusal, Stop};
+use crate::requests::Requests;
+use crate::trees::{Step, grow_all, grow_numbered};
+use std::alloc::Global;
+use typst_base::{FileId, Span, SpanNumber, SyntaxKind};
+use typst_node::{ReplaceError, SyntaxNode};
+use typst_tree::session::{self, Reply, Request, Slot};
+
+/// A request as it is written in a table.
+#[derive(Clone, Copy)]
+pub enum Asked {
+    /// A path, the first child to be replaced, the first behind those, and what comes for them.
+    Replace(&'static [usize], usize, usize, &'static [Step]),
+    /// A number.
+    Find(u64),
+}
+
+/// A run: a tree, the end of its numbers, and what is asked of it.
+#[derive(Clone, Copy)]
+pub struct Run {
+    tree: &'static [Step],
+    end: u64,
+    asked: &'static [Asked],
+}
+
+/// A tree with the replies that made it.
+#[derive(Drop)]
+struct Served {
+    tree: SyntaxNode,
+    slots: Vec<Slot>,
+}
+
+/// One of each reply, where memory is ample: on the tree `*b*c` with `Strong`.
+pub const REPLIES: Run = Run {
+    tree: &[
+        Step::Leaf(SyntaxKind::Star, "*"),
+        Step::Leaf(SyntaxKind::Text, "b"),
+        Step::Inner(SyntaxKind::Markup, 1),
+        Step::Leaf(SyntaxKind::Star, "*"),
+        Step::Inner(SyntaxKind::Strong, 3),
+        Step::Leaf(SyntaxKind::Text, "c"),
+        Step::Inner(SyntaxKind::Markup, 2),
+    ],
+    end: 30,
+    asked: &[
+        Asked::Replace(&[0], 1, 2, &TWO_IN_MARKUP),
+        Asked::Find(15),
+        Asked::Replace(&[0, 1], 0, 1, &TWO),
+        Asked::Replace(&[5], 0, 0, &[]),
+        Asked::Replace(&[1], 0, 0, &[]),
+        Asked::Find(14),
+    ],
+};
+
+/// Insertions at the root and below it, and searches between them: each takes memory.
+pub const INSERTIONS: Run = Run {
+    tree: &[
+        Step::Leaf(SyntaxKind::Text, "a"),
+        Step::Leaf(SyntaxKind::Text, "b"),
+        Step::Inner(SyntaxKind::Markup, 2),
+        Step::Leaf(SyntaxKind::Text, "c"),
+        Step::Inner(SyntaxKind::Markup, 2),
+    ],
+    end: 400,
+    asked: &[
+        Asked::Replace(&[], 1, 1, &TWO),
+        Asked::Find(22),
+        Asked::Replace(&[0], 1, 1, &TWO),
+        Asked::Find(23),
+        Asked::Replace(&[], 1, 1, &TWO_IN_MARKUP),
+        Asked::Find(24),
+        Asked::Replace(&[0], 0, 2, &TWO),
+    ],
+};
+
+/// The leaves `x` and `y`.
+const TWO: [Step; 2] = [
+    Step::Leaf(SyntaxKind::Text, "x"),
+    Step::Leaf(SyntaxKind::Text, "y"),
+];
+
+/// The same in `Markup`.
+const TWO_IN_MARKUP: [Step; 3] = [
+    Step::Leaf(SyntaxKind::Text, "x"),
+    Step::Leaf(SyntaxKind::Text, "y"),
+    Step::Inner(SyntaxKind::Markup, 2),
+];
+
+impl Run {
+    /// Makes the run. Where a request was refused memory, all else is to be as if it hadn't been asked.
+    pub fn run(self, alloc: Global, requests: Requests) -> Result<End, Stop> {
+        let whole = self.served(alloc, None)?;
+        let mut tree = grow_numbered(alloc, self.tree, self.end)?;
+        let mut slots = self.slots(alloc, None)?;
+        requests.make(alloc)?;
+        if !tree.is_numbered() {
+            return Err(Stop::Early);
+        }
+        session::run(alloc, &mut tree, &mut slots);
+        let Some((index, refusal)) = first_refusal(&slots) else {
+            return Ok(End::answered(tree == whole.tree && are_same(&slots, &whole.slots)));
+        };
+        let rest = self.served(alloc, Some(index))?;
+        let others = without(alloc, slots, index)?;
+        if tree == rest.tree && are_same(&others, &rest.slots) {
+            Ok(End::Refused(refusal))
+        } else {
+            Ok(End::Changed)
+        }
+    }
+
+    /// The run over all requests but one.
+    fn served(self, alloc: Global, but: Option<usize>) -> Result<Served, Stop> {
+        let mut tree = grow_numbered(alloc, self.tree, self.end)?;
+        let mut slots = self.slots(alloc, but)?;
+        if !tree.is_numbered() {
+            return Err(Stop::Early);
+        }
+        session::run(alloc, &mut tree, &mut slots);
+        Ok(Served { tree, slots })
+    }
+
+    fn slots(self, alloc: Global, but: Option<usize>) -> Result<Vec<Slot>, Stop> {
+        let mut slots = Vec::with_capacity(alloc, self.asked.len())?;
+        for (index, asked) in self.asked.iter().enumerate() {
+            if but != Some(index) {
+                slots.push(Slot::Ask(asked.request(alloc)?))?;
+            }
+        }
+        Ok(slots)
+    }
+}
+
+impl Asked {
+    fn request(&self, alloc: Global) -> Result<Request, Stop> {
+        match *self {
+            Asked::Replace(path, start, end, steps) => Ok(Request::Replace {
+                path: path.to_vec(alloc)?,
+                range: start..end,
+                replacement: grow_all(alloc, steps)?,
+            }),
+            Asked::Find(number) if 2 <= number && number < 1 << 47 => {
+                let id = FileId::new(1).ok_or(Stop::Early)?;
+                Ok(Request::Find(Span::from_number(id, SpanNumber(number))))
+            }
+            Asked::Find(_) => Err(Stop::Early),
+        }
+    }
+}
+
+/// The first request that was refused memory.
+fn first_refusal(slots: &[Slot]) -> Option<(usize, Refusal)> {
+    for (index, slot) in slots.iter().enumerate() {
+        match slot.reply() {
+            Some(Reply::Refused(ReplaceError::Memory)) => return Some((index, Refusal::Memory)),
+            Some(Reply::NoMemory) => return Some((index, Refusal::NoMemory)),
+            _ => {}
+        }
+    }
+    None
+}
+
+/// The other slots.
+fn without(alloc: Global, slots: Vec<Slot>, but: usize) -> Result<Vec<Slot>, Stop> {
+    let mut others = Vec::new(alloc);
+    for (index, slot) in slots.into_iter().enumerate() {
+        if index != but {
+            others.push(slot)?;
+        }
+    }
+    Ok(others)
+}
+
+/// Whether the replies are the same, and each slot has one.
+fn are_same(one: &[Slot], other: &[Slot]) -> bool {
+    one.len() == other.len()
+        && one.iter().zip(other.iter()).all(|(one, other)| one.reply().is_some()
+            && one.reply() == other.reply())
+}

@@ -1,0 +1,120 @@
+//! Calls that read what views tell into a value of their own.
+use crate::end::{End, Fault, Stop};
+use crate::requests::Requests;
+use crate::trees::{Step, grow};
+use std::alloc::{AllocError, Global};
+use typst_base::SyntaxKind;
+use typst_node::SyntaxNode;
+use typst_tree::ast::{Destructuring, Ident, LetBinding, ModuleImport, Pattern, Str};
+
+/// A call of a view.
+#[derive(Clone, Copy)]
+pub enum Viewing {
+    /// `Str::get`, of a text with escapes.
+    StrGet,
+    /// `ModuleImport::bare_name`, of a path.
+    BareName,
+    /// `bindings` of the kind of a let.
+    KindBindings,
+    /// `bindings` of the pattern of a let.
+    PatternBindings,
+    /// `bindings` of the destructuring itself.
+    DestructuringBindings,
+}
+
+/// The string `"a\u{e9}\n\"b\""`.
+const ESCAPED: &[Step] = &[Step::Leaf(SyntaxKind::Str, r#""a\u{e9}\n\"b\"""#)];
+
+/// `import "a/b.typ"`
+const IMPORT: &[Step] = &[
+    Step::Leaf(SyntaxKind::Import, "import"),
+    Step::Leaf(SyntaxKind::Space, " "),
+    Step::Leaf(SyntaxKind::Str, "\"a/b.typ\""),
+    Step::Inner(SyntaxKind::ModuleImport, 3),
+];
+
+/// `(a,b: c,..d)`
+const PARTS: &[Step] = &[
+    Step::Leaf(SyntaxKind::LeftParen, "("),
+    Step::Leaf(SyntaxKind::Ident, "a"),
+    Step::Leaf(SyntaxKind::Comma, ","),
+    Step::Leaf(SyntaxKind::Ident, "b"),
+    Step::Leaf(SyntaxKind::Colon, ":"),
+    Step::Leaf(SyntaxKind::Space, " "),
+    Step::Leaf(SyntaxKind::Ident, "c"),
+    Step::Inner(SyntaxKind::Named, 4),
+    Step::Leaf(SyntaxKind::Comma, ","),
+    Step::Leaf(SyntaxKind::Dots, ".."),
+    Step::Leaf(SyntaxKind::Ident, "d"),
+    Step::Inner(SyntaxKind::Spread, 2),
+    Step::Leaf(SyntaxKind::RightParen, ")"),
+    Step::Inner(SyntaxKind::Destructuring, 6),
+];
+
+impl Viewing {
+    /// Makes the call.
+    pub fn run(self, alloc: Global, requests: Requests) -> Result<End, Stop> {
+        let tree = self.lent(alloc)?;
+        let kept = tree.clone()?;
+        requests.make(alloc)?;
+        Ok(match self.reads(alloc, &tree) {
+            Ok(right) => End::answered(right),
+            Err(error) => End::failed(Fault::from(error), tree == kept),
+        })
+    }
+
+    /// What is lent.
+    fn lent(self, alloc: Global) -> Result<SyntaxNode, Stop> {
+        match self {
+            Viewing::StrGet => grow(alloc, ESCAPED),
+            Viewing::BareName => grow(alloc, IMPORT),
+            Viewing::PatternBindings | Viewing::DestructuringBindings => grow(alloc, PARTS),
+            Viewing::KindBindings => {
+                let parts = grow(alloc, PARTS)?;
+                let key = SyntaxNode::leaf(alloc, SyntaxKind::Let, "let")?;
+                let children = vec![in alloc; key, parts]?;
+                Ok(SyntaxNode::inner(alloc, SyntaxKind::LetBinding, children)?)
+            }
+        }
+    }
+
+    /// Whether the answer is what stands in the tree.
+    fn reads(self, alloc: Global, tree: &SyntaxNode) -> Result<bool, AllocError> {
+        match self {
+            Viewing::StrGet => match tree.cast::<Str>() {
+                Some(view) => Ok(view.get(alloc)?.as_str() == "aé\n\"b\""),
+                None => Ok(false),
+            },
+            Viewing::BareName => names_file(alloc, tree),
+            Viewing::KindBindings => match tree.cast::<LetBinding>() {
+                Some(view) => Ok(are_three(view.kind().bindings(alloc)?.as_slice())),
+                None => Ok(false),
+            },
+            Viewing::PatternBindings => match tree.cast::<Pattern>() {
+                Some(view) => Ok(are_three(view.bindings(alloc)?.as_slice())),
+                None => Ok(false),
+            },
+            Viewing::DestructuringBindings => match tree.cast::<Destructuring>() {
+                Some(view) => Ok(are_three(view.bindings(alloc)?.as_slice())),
+                None => Ok(false),
+            },
+        }
+    }
+}
+
+/// Whether the import's name is that of its file.
+fn names_file(alloc: Global, tree: &SyntaxNode) -> Result<bool, AllocError> {
+    let Some(view) = tree.cast::<ModuleImport>() else {
+        return Ok(false);
+    };
+    let name = view.bare_name(alloc, |_: &str| true, |_: &str| Ok(None))?;
+    Ok(name.is_ok_and(|name| name.as_str() == "b"))
+}
+
+/// Whether these are the names `a`, `c` and `d`.
+fn are_three(names: &[Ident]) -> bool {
+    match names {
+        [first, second, third] => first.get() == "a" && second.get() == "c" && third.get() == "d",
+        _ => false,
+    }
+}

@@ -1,0 +1,241 @@
+//! Walks of linked nodes.
+use crate::end::{End, Fault, Stop};
+use crate::requests::Requests;
+use crate::trees::{Step, grow_numbered};
+use std::alloc::{AllocError, Global};
+use typst_base::SyntaxKind;
+use typst_linked::{LinkedNode, Looks, Side};
+use typst_node::SyntaxNode;
+
+/// A walk, made from each node of a tree.
+#[derive(Clone, Copy)]
+pub enum Walk {
+    /// `prev_sibling`
+    PrevSibling,
+    /// `next_sibling`
+    NextSibling,
+    /// `prev_sibling_with_trivia`
+    PrevSiblingWithTrivia,
+    /// `next_sibling_with_trivia`
+    NextSiblingWithTrivia,
+    /// `leftmost_leaf`
+    LeftmostLeaf,
+    /// `rightmost_leaf`
+    RightmostLeaf,
+    /// `prev_leaf`
+    PrevLeaf,
+    /// `next_leaf`
+    NextLeaf,
+    /// `leaf_at` the beginning of the node.
+    LeafAt,
+    /// `leaf_at_counted` at the end of the node.
+    LeafAtCounted,
+    /// `find`, by the span of the last node below this one.
+    Find,
+    /// `find_counted`, by the same.
+    FindCounted,
+    /// `find_range`, by the range of the last node below this one.
+    FindRange,
+    /// `children`, from the front.
+    Children,
+    /// `children`, from the back.
+    ChildrenBack,
+    /// `preorder`
+    Preorder,
+    /// `path`
+    Path,
+}
+
+/// How much a list of answers has room for, so that no answer takes memory of its own.
+const ROOM: usize = 1024;
+
+/// What stands for an answer of no node.
+const NOTHING: usize = usize::MAX;
+
+impl Walk {
+    /// Walks from each node of a tree. The answers are to be those of the same walks before: where memory was refused,
+    /// the walk is made again.
+    pub fn run(self, steps: &[Step], alloc: Global, requests: Requests) -> Result<End, Stop> {
+        let tree = grow_numbered(alloc, steps, 1 << 20)?;
+        let kept = tree.clone()?;
+        let nodes = linked(alloc, &tree)?;
+        let mut seen_before = Vec::with_capacity(alloc, ROOM)?;
+        self.from_each(alloc, &nodes, &mut seen_before)?;
+        let mut seen = Vec::with_capacity(alloc, ROOM)?;
+        requests.make(alloc)?;
+        let refused = self.from_each(alloc, &nodes, &mut seen)?;
+        let right = seen == seen_before;
+        Ok(match refused {
+            None => End::answered(right),
+            Some(error) => End::failed(Fault::from(error), right && tree == kept),
+        })
+    }
+
+    /// Walks from each node, and answers the last refusal. After one the same walk is made again.
+    fn from_each(
+        self,
+        alloc: Global,
+        nodes: &[LinkedNode],
+        seen: &mut Vec<usize>,
+    ) -> Result<Option<AllocError>, AllocError> {
+        let mut refused = None;
+        for index in 0..nodes.len() {
+            let before = seen.len();
+            if let Err(error) = self.walk(alloc, nodes, index, seen) {
+                refused = Some(error);
+                seen.truncate(before);
+                self.walk(alloc, nodes, index, seen)?;
+            }
+        }
+        Ok(refused)
+    }
+
+    /// Walks from the node with this index, and adds what is seen.
+    fn walk(
+        self,
+        alloc: Global,
+        nodes: &[LinkedNode],
+        index: usize,
+        seen: &mut Vec<usize>,
+    ) -> Result<(), AllocError> {
+        let (Some(node), Some(last)) = (nodes.get(index), last_below(nodes, index)) else {
+            return Ok(());
+        };
+        match self {
+            Walk::Children | Walk::ChildrenBack | Walk::Preorder | Walk::Path => {
+                self.list(alloc, node, seen)
+            }
+            Walk::LeafAtCounted | Walk::Find | Walk::FindCounted | Walk::FindRange => {
+                self.search(alloc, node, last, seen)
+            }
+            _ => see(self.step(alloc, node)?, seen),
+        }
+    }
+
+    /// A walk to one node.
+    fn step<'a>(
+        self,
+        alloc: Global,
+        node: &LinkedNode<'a>,
+    ) -> Result<Option<LinkedNode<'a>>, AllocError> {
+        match self {
+            Walk::PrevSibling => node.prev_sibling(),
+            Walk::NextSibling => node.next_sibling(),
+            Walk::PrevSiblingWithTrivia => node.prev_sibling_with_trivia(),
+            Walk::NextSiblingWithTrivia => node.next_sibling_with_trivia(),
+            Walk::LeftmostLeaf => node.leftmost_leaf(alloc),
+            Walk::RightmostLeaf => node.rightmost_leaf(alloc),
+            Walk::PrevLeaf => node.prev_leaf(alloc),
+            Walk::NextLeaf => node.next_leaf(alloc),
+            Walk::LeafAt => node.leaf_at(alloc, node.offset(), Side::After),
+            _ => Ok(None),
+        }
+    }
+
+    /// A search for the last node below this one, and how much it read.
+    fn search(
+        self,
+        alloc: Global,
+        node: &LinkedNode,
+        last: &LinkedNode,
+        seen: &mut Vec<usize>,
+    ) -> Result<(), AllocError> {
+        let mut looks = Looks::new();
+        let range = last.range();
+        let found = match self {
+            Walk::LeafAtCounted => {
+                node.leaf_at_counted(alloc, range.end, Side::Before, &mut looks)?
+            }
+            Walk::FindRange => node.find_range(alloc, range.start, range.end)?,
+            Walk::FindCounted => node.find_counted(alloc, last.get().span(), &mut looks)?,
+            _ => node.find(alloc, last.get().span())?,
+        };
+        see(found, seen)?;
+        seen.push(looks.count() as usize)?;
+        Ok(())
+    }
+
+    /// A walk to several nodes, or the path to one.
+    fn list(
+        self,
+        alloc: Global,
+        node: &LinkedNode,
+        seen: &mut Vec<usize>,
+    ) -> Result<(), AllocError> {
+        match self {
+            Walk::Children => {
+                for child in node.children(alloc)? {
+                    see(Some(child?), seen)?;
+                }
+            }
+            Walk::ChildrenBack => {
+                for child in node.children(alloc)?.rev() {
+                    see(Some(child?), seen)?;
+                }
+            }
+            Walk::Preorder => {
+                for below in node.preorder(alloc)? {
+                    see(Some(below?), seen)?;
+                }
+            }
+            _ => {
+                for index in node.path(alloc)? {
+                    seen.push(index)?;
+                }
+            }
+        }
+        Ok(())
+    }
+}
+
+/// All nodes of a tree, in preorder.
+fn linked(alloc: Global, tree: &SyntaxNode) -> Result<Vec<LinkedNode<'_>>, AllocError> {
+    let mut nodes = Vec::new(alloc);
+    for node in LinkedNode::new(tree).preorder(alloc)? {
+        nodes.push(node?)?;
+    }
+    Ok(nodes)
+}
+
+/// The last node of the subtree of the one with this index, among nodes in preorder.
+fn last_below<'n, 'a>(nodes: &'n [LinkedNode<'a>], index: usize) -> Option<&'n LinkedNode<'a>> {
+    let count = nodes.get(index)?.get().descendants();
+    nodes.get(index.saturating_add(count).saturating_sub(1))
+}
+
+/// Adds where a found node stands and how many nodes it has.
+fn see(found: Option<LinkedNode>, seen: &mut Vec<usize>) -> Result<(), AllocError> {
+    match found {
+        Some(node) => {
+            seen.push(node.offset())?;
+            seen.push(node.index())?;
+            seen.push(node.get().descendants())?;
+        }
+        None => seen.push(NOTHING)?,
+    }
+    Ok(())
+}
+
+/// `leaf_at_counted` in a node of a thousand leaves, of which each hundredth has a byte: it is to read at most ten ends.
+pub fn find_among_thousand(alloc: Global, requests: Requests) -> Result<End, Stop> {
+    let mut leaves = Vec::with_capacity(alloc, 1000)?;
+    for index in 0..1000u32 {
+        leaves.push(if index % 100 == 0 {
+            SyntaxNode::leaf(alloc, SyntaxKind::Text, "x")?
+        } else {
+            SyntaxNode::placeholder(alloc, SyntaxKind::Space)
+        })?;
+    }
+    let tree = SyntaxNode::inner(alloc, SyntaxKind::Markup, leaves)?;
+    let kept = tree.clone()?;
+    let root = LinkedNode::new(&tree);
+    let mut looks = Looks::new();
+    requests.make(alloc)?;
+    let found = root.leaf_at_counted(alloc, 8, Side::Before, &mut looks);
+    let few = looks.count() <= 10;
+    Ok(match found {
+        Ok(Some(leaf)) => End::answered(few && leaf.index() == 700 && leaf.offset() == 7),
+        Ok(None) => End::Wrong,
+        Err(error) => End::failed(Fault::from(error), few && tree == kept),
+    })
+}

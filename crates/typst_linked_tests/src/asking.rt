@@ -1,0 +1,131 @@
+// What a linked node is asked, and the words for its answers.
+use std::alloc::{AllocError, Global};
+use typst_base::{FileId, Span, SpanNumber};
+use typst_drawn::{DrawingError, numbered};
+use typst_linked::{LinkedNode, Side};
+
+/// What a linked node is asked.
+pub(crate) enum Ask {
+    Itself,
+    Parent,
+    NextSibling,
+    PrevSibling,
+    NextWithTrivia,
+    PrevWithTrivia,
+    Leftmost,
+    Rightmost,
+    NextLeaf,
+    PrevLeaf,
+    Before(usize),
+    After(usize),
+    Kinds,
+    Modes,
+    Number(u16, u64),
+    Bytes(usize, usize),
+    Nowhere,
+}
+
+/// What is shown, a tree, the path of a node of it, what that node is asked, and the words for the answer.
+pub(crate) type Row = (
+    &'static str,
+    &'static str,
+    &'static [usize],
+    Ask,
+    &'static str,
+);
+
+/// The words for a linked node: its path, its range and its `Debug` text; `-` for none.
+pub(crate) fn place(alloc: Global, node: Option<&LinkedNode>) -> Result<String, AllocError> {
+    match node {
+        Some(node) => {
+            let path = node.path(alloc)?;
+            let range = node.range();
+            format!(in alloc; "{path:?} {range:?} {node:?}")
+        }
+        None => String::from_str(alloc, "-"),
+    }
+}
+
+/// The node at a path.
+pub(crate) fn at<'a>(
+    alloc: Global,
+    root: &LinkedNode<'a>,
+    path: &[usize],
+) -> Result<LinkedNode<'a>, DrawingError> {
+    for below in root.preorder(alloc)? {
+        let below = below?;
+        if below.path(alloc)?.as_slice() == path {
+            return Ok(below);
+        }
+    }
+    Err(DrawingError::Nodes)
+}
+
+/// The span of a node's number.
+fn span_of(file: u16, number: u64) -> Result<Span, DrawingError> {
+    let file = FileId::new(file).ok_or(DrawingError::Numbers)?;
+    if number < 2 || number >= 1 << 47 {
+        return Err(DrawingError::Numbers);
+    }
+    Ok(Span::from_number(file, SpanNumber(number)))
+}
+
+/// The node that is asked for; none where the answer is no node.
+fn asked<'a>(
+    alloc: Global,
+    node: &LinkedNode<'a>,
+    ask: &Ask,
+) -> Result<Option<LinkedNode<'a>>, DrawingError> {
+    Ok(match ask {
+        Ask::Itself => Some(node.clone()?),
+        Ask::Parent => match node.parent() {
+            Some(parent) => Some(parent.clone()?),
+            None => None,
+        },
+        Ask::NextSibling => node.next_sibling()?,
+        Ask::PrevSibling => node.prev_sibling()?,
+        Ask::NextWithTrivia => node.next_sibling_with_trivia()?,
+        Ask::PrevWithTrivia => node.prev_sibling_with_trivia()?,
+        Ask::Leftmost => node.leftmost_leaf(alloc)?,
+        Ask::Rightmost => node.rightmost_leaf(alloc)?,
+        Ask::NextLeaf => node.next_leaf(alloc)?,
+        Ask::PrevLeaf => node.prev_leaf(alloc)?,
+        Ask::Before(cursor) => node.leaf_at(alloc, *cursor, Side::Before)?,
+        Ask::After(cursor) => node.leaf_at(alloc, *cursor, Side::After)?,
+        Ask::Kinds | Ask::Modes => None,
+        Ask::Number(file, number) => node.find(alloc, span_of(*file, *number)?)?,
+        Ask::Bytes(start, end) => node.find_range(alloc, *start, *end)?,
+        Ask::Nowhere => node.find(alloc, Span::detached())?,
+    })
+}
+
+/// The words for the kinds of the siblings beside a node and of its parent.
+fn kinds(alloc: Global, node: &LinkedNode) -> Result<String, AllocError> {
+    let prev = node.prev_sibling_kind();
+    let next = node.next_sibling_kind();
+    let parent = node.parent_kind();
+    format!(in alloc; "{prev:?} {next:?} below {parent:?}")
+}
+
+/// The words for the mode after a node and for that of its parent.
+fn modes(alloc: Global, node: &LinkedNode) -> Result<String, AllocError> {
+    let after = node.mode_after();
+    let parent = node.parent_mode();
+    format!(in alloc; "{after:?} in {parent:?}")
+}
+
+/// The words for the answer of the node at a path of a drawn tree, which is numbered within 2..400.
+pub(crate) fn answer(
+    alloc: Global,
+    drawing: &str,
+    path: &[usize],
+    ask: &Ask,
+) -> Result<String, DrawingError> {
+    let tree = numbered(alloc, drawing, 2..400)?;
+    let node = at(alloc, &LinkedNode::new(&tree), path)?;
+    Ok(match ask {
+        Ask::Kinds => kinds(alloc, &node)?,
+        Ask::Modes => modes(alloc, &node)?,
+        _ => place(alloc, asked(alloc, &node, ask)?.as_ref())?,
+    })
+}

@@ -1,0 +1,5 @@
+pub mod Kept
+pub mod Looked
+pub mod Newlines
+pub mod Remark
+pub mod Subject

@@ -1,0 +1,174 @@
+use std::alloc::{AllocError, Global};
+use std::test::Fail;
+use typst_base::{DiagSpan, DiagSpanKind};
+use typst_drawn::{DrawingError, drawn, numbered};
+use typst_node::{SyntaxDiagnostic, SyntaxNode};
+
+/// What is shown, a tree, and the words for its errors and its warnings before and after it is numbered within 4..16.
+type Row = (&'static str, &'static str, &'static str, &'static str);
+
+const LISTED: [Row; 6] = [
+    ("a tree without any", "Markup[ Text:ab ]", "|", "|"),
+    (
+        "outer warnings come first",
+        "Text:ab ^p ^q +h",
+        "| warning q at - hint h at - warning p at -",
+        "| warning q at 1/10 hint h at - warning p at 1/10",
+    ),
+    (
+        "an error under a warning is in its list, the warning in its own",
+        "!m:# +h ^w",
+        "error m at - hint h at - | warning w at -",
+        "error m at 1/10 hint h at - | warning w at 1/10",
+    ),
+    (
+        "a warning and a hint point to their parts",
+        "Text:ab ^0..1@m +1..2@h",
+        "| warning m at - hint h at -",
+        "| warning m at 1/10:0..1 hint h at 1/10:1..2",
+    ),
+    (
+        "errors come in the order of the nodes",
+        "Markup[ Strong[ !m:# ] Text:c !n: ] ^w",
+        "error m at - error n at - | warning w at -",
+        "error m at 1/6 error n at 1/8 | warning w at 1/4",
+    ),
+    (
+        "an error's hint points to a part",
+        "!m:abc +1..2@g +h",
+        "error m at - hint g at - hint h at - |",
+        "error m at 1/10 hint g at 1/10:1..2 hint h at - |",
+    ),
+];
+
+/// The words for where a diagnostic is: file, number and part, the original bytes, or `-`.
+fn place(alloc: Global, span: DiagSpan) -> Result<String, AllocError> {
+    match span.get() {
+        DiagSpanKind::Detached => String::from_str(alloc, "-"),
+        DiagSpanKind::Number { id, num, sub_range } => {
+            let file = id.into_raw().get();
+            let number = num.0;
+            match sub_range {
+                None => format!(in alloc; "{file}/{number}"),
+                Some(part) => {
+                    let part = part.to_relative();
+                    format!(in alloc; "{file}/{number}:{part:?}")
+                }
+            }
+        }
+        DiagSpanKind::Range { id, range } => {
+            let file = id.into_raw().get();
+            format!(in alloc; "{file}/{range:?}")
+        }
+    }
+}
+
+/// Adds the words for each diagnostic of a list.
+fn push_listed(
+    alloc: Global,
+    list: &[SyntaxDiagnostic],
+    said: &mut String,
+) -> Result<(), AllocError> {
+    for one in list {
+        said.push_str(if one.is_error { "error " } else { "warning " })?;
+        said.push_str(one.message.as_str())?;
+        said.push_str(" at ")?;
+        said.push_str(place(alloc, one.span)?.as_str())?;
+        said.push(' ')?;
+        for hint in &one.hints {
+            said.push_str("hint ")?;
+            said.push_str(hint.v.as_str())?;
+            said.push_str(" at ")?;
+            said.push_str(place(alloc, hint.span)?.as_str())?;
+            said.push(' ')?;
+        }
+    }
+    Ok(())
+}
+
+/// The words for a tree's errors, and after a bar for its warnings.
+pub(crate) fn listed(alloc: Global, tree: &SyntaxNode) -> Result<String, AllocError> {
+    let (errors, warnings) = tree.errors_and_warnings(alloc)?;
+    let mut said = String::new(alloc);
+    push_listed(alloc, &errors, &mut said)?;
+    said.push('|')?;
+    said.push(' ')?;
+    push_listed(alloc, &warnings, &mut said)?;
+    Ok(said)
+}
+
+#[test]
+fn errors_and_warnings_are_listed(rt: HostRuntime) -> Result<(), Fail> {
+    let alloc = rt.alloc();
+    for (shows, drawing, before, after) in &LISTED {
+        let said = listed(alloc, &drawn(alloc, drawing)?)?;
+        assert_eq!(rt; said.as_str().trim_end(), *before, "{shows}");
+        let said = listed(alloc, &numbered(alloc, drawing, 4..16)?)?;
+        assert_eq!(rt; said.as_str().trim_end(), *after, "{shows}");
+    }
+    Ok(())
+}
+
+/// Whether the tree's errors are equal to their clones, and what these are, in words.
+fn cloned(alloc: Global, tree: &SyntaxNode) -> Result<String, AllocError> {
+    let (errors, _warnings) = tree.errors_and_warnings(alloc)?;
+    let mut copies = Vec::new(alloc);
+    for error in &errors {
+        copies.push(error.clone()?)?;
+    }
+    let mut said = String::new(alloc);
+    push_listed(alloc, &copies, &mut said)?;
+    said.push_str(if copies == errors { "equal" } else { "unequal" })?;
+    Ok(said)
+}
+
+#[test]
+fn a_diagnostic_equals_its_clone(rt: HostRuntime) -> Result<(), Fail> {
+    let tree = numbered(rt.alloc(), "Markup[ !m:# +0..1@h !n: ]", 4..16)?;
+    let said = cloned(rt.alloc(), &tree)?;
+    assert_eq!(rt;
+        said.as_str(),
+        "error m at 1/7 hint h at 1/7:0..1 error n at 1/9 equal"
+    );
+    Ok(())
+}
+
+/// The words for a node with two more hints, its own allocator's.
+fn with_two_hints(alloc: Global, drawing: &str) -> Result<String, DrawingError> {
+    let node = drawn(alloc, drawing)?;
+    if !node.can_hint() {
+        return Err(DrawingError::Misplaced);
+    }
+    let texts = vec![in alloc;
+        String::from_str(alloc, "g")?,
+        String::from_str(alloc, "h")?,
+    ]?;
+    let node = node.with_hints(alloc, texts)?;
+    Ok(format!(in alloc; "{node:?}")?)
+}
+
+#[test]
+fn several_hints_keep_their_order(rt: HostRuntime) -> Result<(), Fail> {
+    let said = with_two_hints(rt.alloc(), "!m:")?;
+    assert_eq!(rt;
+        said.as_str(),
+        r#"Error: { text: "", message: "m", hint: "g", hint: "h" }"#
+    );
+    let said = with_two_hints(rt.alloc(), "Text:a ^w +f")?;
+    assert_eq!(rt;
+        said.as_str(),
+        r#"Warning: {message: "w", hint: "f", hint: "g", hint: "h", Text: "a"}"#
+    );
+    Ok(())
+}
+
+#[test]
+fn parts_fit_within_the_text(rt: HostRuntime) -> Result<(), Fail> {
+    let node = drawn(rt.alloc(), "Text:ab")?;
+    assert!(rt; !node.can_hint());
+    assert!(rt; node.range_fits(0..1) && node.range_fits(1..2) && node.range_fits(0..2));
+    assert!(rt; !node.range_fits(0..3) && !node.range_fits(1..1) && !node.range_fits(0..0));
+    assert!(rt; drawn(rt.alloc(), "!m:")?.can_hint());
+    assert!(rt; drawn(rt.alloc(), "Text:ab ^w")?.can_hint());
+    Ok(())
+}

@@ -1,0 +1,129 @@
+use std::alloc::Global;
+use std::test::Fail;
+use typst_base::FileId;
+use typst_drawn::{DrawingError, drawn, labels};
+use typst_node::SyntaxNode;
+
+/// What is shown, a tree, the ranges that it is numbered within, one after the other, and what comes of it: the
+/// answers and the labels at the end.
+type Row = (
+    &'static str,
+    &'static str,
+    &'static [(u64, u64)],
+    &'static str,
+);
+
+const NUMBERINGS: [Row; 10] = [
+    (
+        "a new tree has no numbers",
+        "Markup[ Text:ab Text:c ]",
+        &[],
+        "1..0[1..2 1..2] free",
+    ),
+    (
+        "numbers are spread over the first half",
+        "Markup[ Text:ab Text:c ]",
+        &[(2, 14)],
+        "done 3..14[5..6 7..8] numbered",
+    ),
+    (
+        "as many numbers as nodes are enough",
+        "Markup[ Text:ab Text:c ]",
+        &[(2, 5)],
+        "done 2..5[3..4 4..5] numbered",
+    ),
+    (
+        "fewer numbers than nodes, and none, change nothing",
+        "Markup[ Text:ab Text:c ]",
+        &[(2, 4), (14, 2)],
+        "refused refused 1..0[1..2 1..2] free",
+    ),
+    (
+        "a refusal leaves earlier numbers",
+        "Markup[ Text:ab Text:c ]",
+        &[(2, 14), (2, 4)],
+        "done refused 3..14[5..6 7..8] numbered",
+    ),
+    (
+        "a lone leaf takes the middle",
+        "Text:ab",
+        &[(4, 6)],
+        "done 5..6 numbered",
+    ),
+    (
+        "a range for the root and one child",
+        "Markup[ Text:a ]",
+        &[(2, 4)],
+        "done 2..4[3..4] numbered",
+    ),
+    (
+        "deeper nodes share what their parent takes",
+        "Markup[ Strong[ Star:* Markup[ Text:b ] Star:* ] Text:c ]",
+        &[(2, 30)],
+        "done 3..30[4..14[5..6 6..8[7..8] 8..9] 15..16] numbered",
+    ),
+    (
+        "errors are numbered as leaves",
+        "Markup[ Strong[ !m:# ] Text:c ]",
+        &[(2, 18)],
+        "done 3..18[4..8[5..6] 9..10] numbered",
+    ),
+    (
+        "eight leaves within the fewest numbers for a second stride",
+        "Markup[ Text:a Text:b Text:c Text:d Text:e Text:f Text:g Text:h ]",
+        &[(2, 20)],
+        "done 2..20[3..4 4..5 5..6 6..7 7..8 8..9 9..10 10..11] numbered",
+    ),
+];
+
+fn numbering(alloc: Global, drawing: &str, ranges: &[(u64, u64)]) -> Result<String, DrawingError> {
+    let mut tree = drawn(alloc, drawing)?;
+    let file = FileId::new(1).ok_or(DrawingError::Numbers)?;
+    let mut said = String::new(alloc);
+    for (start, end) in ranges {
+        if *start < 2 || *end > 1 << 47 {
+            return Err(DrawingError::Numbers);
+        }
+        let before = tree.clone()?;
+        said.push_str(match tree.numberize(file, *start..*end) {
+            Ok(()) => "done ",
+            Err(_) if tree == before => "refused ",
+            Err(_) => "refused and changed ",
+        })?;
+    }
+    said.push_str(labels(alloc, &tree)?.as_str())?;
+    said.push_str(if tree.is_numbered() {
+        " numbered"
+    } else {
+        " free"
+    })?;
+    Ok(said)
+}
+
+#[test]
+fn numbers_are_given_in_preorder(rt: HostRuntime) -> Result<(), Fail> {
+    for (shows, drawing, ranges, wanted) in &NUMBERINGS {
+        let said = numbering(rt.alloc(), drawing, ranges)?;
+        assert_eq!(rt; said.as_str(), *wanted, "{shows}");
+    }
+    Ok(())
+}
+
+/// Whether all nodes of a tree of two levels are of a file.
+pub(crate) fn is_of(tree: &SyntaxNode, file: Option<FileId>) -> bool {
+    tree.span().id() == file
+        && tree
+            .child_slice()
+            .iter()
+            .all(|child| child.span().id() == file)
+}
+
+#[test]
+fn all_nodes_get_the_file(rt: HostRuntime) -> Result<(), Fail> {
+    let mut tree = drawn(rt.alloc(), "Markup[ Text:ab Text:c ]")?;
+    assert!(rt; is_of(&tree, None));
+    let file = FileId::new(65535).ok_or("no file")?;
+    assert!(rt; tree.numberize(file, 2..14).is_ok());
+    assert!(rt; is_of(&tree, Some(file)));
+    Ok(())
+}

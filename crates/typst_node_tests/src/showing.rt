@@ -1,0 +1,109 @@
+// Trees in one line, which also shows that drawn trees, on which the other tests rest, are what their drawings say.
+use std::test::Fail;
+use typst_drawn::{DrawingError, drawn};
+
+/// What is shown, a drawing, and the tree's `Debug` text.
+type Row = (&'static str, &'static str, &'static str);
+
+const SHOWN: [Row; 17] = [
+    ("a leaf", "Text:ab", r#"Text: "ab""#),
+    ("an empty leaf", "Text:", r#"Text: """#),
+    ("a leaf of a blank", "Space:~", r#"Space: " ""#),
+    ("a leaf of a colon", "Colon::", r#"Colon: ":""#),
+    (
+        "a leaf of a bracket",
+        "LeftBracket:[",
+        r#"LeftBracket: "[""#,
+    ),
+    (
+        "an inner node, with its length",
+        "Markup[ Text:ab Text:c ]",
+        r#"Markup: 3 [Text: "ab", Text: "c"]"#,
+    ),
+    ("an inner node without children", "Markup[ ]", "Markup: 0"),
+    (
+        "an error, under its text, message and hint",
+        "!m:# +h",
+        r##"Error: { text: "#", message: "m", hint: "h" }"##,
+    ),
+    (
+        "an error of empty text, as its message alone",
+        "Markup[ Hash:# !expected~expression: ]",
+        r##"Markup: 1 [Hash: "#", Error: "expected expression"]"##,
+    ),
+    (
+        "hints, in their order",
+        "!m: +g +h",
+        r#"Error: { text: "", message: "m", hint: "g", hint: "h" }"#,
+    ),
+    (
+        "a warning below an inner node",
+        "Markup[ Text:ab ^m Text:c ]",
+        r#"Markup: 3 [Warning: {message: "m", Text: "ab"}, Text: "c"]"#,
+    ),
+    (
+        "two warnings, the outermost first",
+        "Text:ab ^p ^q +h",
+        r#"Warning: {message: "q", hint: "h", Warning: {message: "p", Text: "ab"}}"#,
+    ),
+    (
+        "an error under two warnings, each with its hint",
+        "!m:# +g ^p +h ^q +i",
+        r##"Warning: {message: "q", hint: "i", Warning: {message: "p", hint: "h", Error: { text: "#", message: "m", hint: "g" }}}"##,
+    ),
+    (
+        "parts, as slices",
+        "!unclosed~label:<unclosed +0..1@greater +3..8@open! ^3..9@opened? +0..9@full~text",
+        r#"Warning: {message @("closed"): "opened?", hint @("<unclosed"): "full text", Error: { text: "<unclosed", message: "unclosed label", hint @("<"): "greater", hint @("close"): "open!" }}"#,
+    ),
+    (
+        "a part across children, and one that ends within a character",
+        "Strong[ Text:a\" Text:'\u{e9} ] ^1..3@m +0..4@h",
+        "Warning: {message @(\"\\\"'\"): \"m\", hint @(0..4): \"h\", Strong: 5 [Text: \"a\\\"\", Text: \"'\u{e9}\"]}",
+    ),
+    (
+        "a part of a long text",
+        "Text:abcdefghijklmnopqrstuvwxyz ^1..3@m",
+        r#"Warning: {message @("bc"): "m", Text: "abcdefghijklmnopqrstuvwxyz"}"#,
+    ),
+    (
+        "three levels",
+        "Markup[ Strong[ Star:* Markup[ Text:b ] Star:* ] Text:c ]",
+        r#"Markup: 4 [Strong: 3 [Star: "*", Markup: 1 [Text: "b"], Star: "*"], Text: "c"]"#,
+    ),
+];
+
+#[test]
+fn trees_are_shown_in_one_line(rt: HostRuntime) -> Result<(), Fail> {
+    let alloc = rt.alloc();
+    for (shows, drawing, wanted) in &SHOWN {
+        let tree = drawn(alloc, drawing)?;
+        let shown = format!(in alloc; "{tree:?}")?;
+        assert_eq!(rt; shown.as_str(), *wanted, "{shows}");
+    }
+    Ok(())
+}
+
+#[test]
+fn drawings_of_no_tree_are_refused(rt: HostRuntime) {
+    let rows = [
+        ("Foo:a", DrawingError::Kind),
+        ("Error:a", DrawingError::Kind),
+        ("Error[ ]", DrawingError::Kind),
+        ("Markup[", DrawingError::Bracket),
+        ("Text:a ]", DrawingError::Bracket),
+        ("ab", DrawingError::Word),
+        ("^w Text:a", DrawingError::Misplaced),
+        ("Text:a +h", DrawingError::Misplaced),
+        ("Text:ab ^0..3@m", DrawingError::Misplaced),
+        ("Text:ab ^1..1@m", DrawingError::Misplaced),
+        ("!m:ab +2..3@h", DrawingError::Misplaced),
+        ("Text:ab ^x..1@m", DrawingError::Word),
+        ("Text:a Text:b", DrawingError::Nodes),
+        ("", DrawingError::Nodes),
+    ];
+    for (drawing, wanted) in rows {
+        let why = drawn(rt.alloc(), drawing).err();
+        assert_eq!(rt; why, Some(wanted), "{drawing}");
+    }
+}

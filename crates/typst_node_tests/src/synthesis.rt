@@ -1,0 +1,127 @@
+// Spans that synthesis gives.
+use crate::diagnostics::listed;
+use std::alloc::{AllocError, Global};
+use std::test::Fail;
+use typst_base::{FileId, RangeMapper, Span, SpanKind};
+use typst_drawn::{DrawingError, drawn, drawn_all, labels, numbered};
+use typst_node::{ReplaceError, SyntaxNode};
+
+#[test]
+fn synthesis_gives_one_span(rt: HostRuntime) -> Result<(), Fail> {
+    let alloc = rt.alloc();
+    let mut tree = numbered(alloc, "Markup[ Text:ab Text:c ^0..1@m +0..1@h ]", 2..14)?;
+    tree.synthesize(Span::detached());
+    assert_eq!(rt; labels(alloc, &tree)?.as_str(), "1..1[1..2 1..2]");
+    assert_eq!(rt;
+        listed(alloc, &tree)?.as_str(),
+        "| warning m at - hint h at - "
+    );
+    let shown = format!(in alloc; "{tree:?}")?;
+    assert_eq!(rt;
+        shown.as_str(),
+        r#"Markup: 3 [Text: "ab", Warning: {message: "m", hint: "h", Text: "c"}]"#
+    );
+    Ok(())
+}
+
+#[test]
+fn a_synthesized_tree_takes_no_replacement(rt: HostRuntime) -> Result<(), Fail> {
+    let alloc = rt.alloc();
+    let mut tree = numbered(alloc, "Markup[ Text:ab Text:c ]", 2..14)?;
+    tree.synthesize(Span::detached());
+    let before = tree.clone()?;
+    let others = drawn_all(alloc, "Text:x")?;
+    assert!(rt; tree.span().id().is_none() && tree.edit_fits(&[], 0..1));
+    let answer = tree.replace_children(alloc, 0..1, others);
+    assert_eq!(rt; answer, Err(ReplaceError::Unnumberable));
+    assert!(rt; tree == before);
+    Ok(())
+}
+
+/// The words for a span: the original bytes and their file.
+fn bytes(alloc: Global, span: Span) -> Result<String, AllocError> {
+    match span.get() {
+        SpanKind::Range { id, range } => {
+            let file = id.into_raw().get();
+            format!(in alloc; "{file}/{range:?} ")
+        }
+        SpanKind::Number { .. } => String::from_str(alloc, "number "),
+        SpanKind::Detached => String::from_str(alloc, "- "),
+    }
+}
+
+/// The tree of two levels that a drawing shows, mapped by the mapper of the bytes 2, 3, 4, 8 and 9: the spans of its
+/// nodes, its diagnostics and its `Debug` text.
+fn mapped(alloc: Global, drawing: &str) -> Result<String, DrawingError> {
+    let mapper = RangeMapper::new(alloc, &[2..5, 8..10])
+        .ok()
+        .ok_or(DrawingError::Memory)?;
+    let id = FileId::new(1).ok_or(DrawingError::Numbers)?;
+    let mut tree = drawn(alloc, drawing)?;
+    let before = tree.clone()?;
+    if let Err(error) = tree.synthesize_mapped(id, &mapper) {
+        let left = if tree == before {
+            "unchanged"
+        } else {
+            "changed"
+        };
+        return Ok(format!(in alloc; "{error:?} {left}")?);
+    }
+    let mut said = bytes(alloc, tree.span())?;
+    for child in tree.child_slice() {
+        said.push_str(bytes(alloc, child.span())?.as_str())?;
+    }
+    said.push_str(listed(alloc, &tree)?.as_str())?;
+    said.push_str(format!(in alloc; "{tree:?}")?.as_str())?;
+    Ok(said)
+}
+
+#[test]
+fn mapped_nodes_have_the_places_of_their_bytes(rt: HostRuntime) -> Result<(), Fail> {
+    let rows = [
+        // The part went from 0..2 to 0..5, which is more than the text has.
+        (
+            "Markup[ Text:ab Text:cd ^0..2@m ]",
+            r#"1/2..9 1/2..4 1/4..9 | warning m at 1/4..9 Markup: 4 [Text: "ab", Warning: {message @(0..5): "m", Text: "cd"}]"#,
+        ),
+        ("Text:abcdef", "TooLong { text: 6, mapper: 5 } unchanged"),
+        (
+            "Markup[ Text:abc Text:def ]",
+            "TooLong { text: 6, mapper: 5 } unchanged",
+        ),
+    ];
+    for (drawing, wanted) in rows {
+        let said = mapped(rt.alloc(), drawing)?;
+        assert_eq!(rt; said.as_str(), wanted, "{drawing}");
+    }
+    Ok(())
+}
+
+/// A node under a warning about its four bytes, after its text was replaced by one of one byte.
+fn shortened(alloc: Global) -> Result<SyntaxNode, DrawingError> {
+    let mut strong = numbered(alloc, "Strong[ Text:abcd ] ^0..4@m", 2..100)?;
+    if strong.is_numbered() && strong.edit_fits(&[], 0..1) {
+        let shorter = drawn_all(alloc, "Text:a")?;
+        let _ = strong.replace_children(alloc, 0..1, shorter);
+    }
+    Ok(strong)
+}
+
+#[test]
+fn a_part_beyond_the_text_is_dropped(rt: HostRuntime) -> Result<(), Fail> {
+    let alloc = rt.alloc();
+    let mut strong = shortened(alloc)?;
+    assert_eq!(rt; labels(alloc, &strong)?.as_str(), "14..100[36..37]");
+    assert_eq!(rt;
+        format!(in alloc; "{strong:?}")?.as_str(),
+        r#"Warning: {message @(0..4): "m", Strong: 1 [Text: "a"]}"#
+    );
+    let mapper = RangeMapper::new(alloc, &[2..5, 8..10])?;
+    let id = FileId::new(1).ok_or("no file")?;
+    assert_eq!(rt; strong.synthesize_mapped(id, &mapper), Ok(()));
+    assert_eq!(rt;
+        format!(in alloc; "{strong:?}")?.as_str(),
+        r#"Warning: {message: "m", Strong: 1 [Text: "a"]}"#
+    );
+    Ok(())
+}

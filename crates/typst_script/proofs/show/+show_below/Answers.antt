@@ -1,0 +1,13 @@
+use Rattle.std.proofs.Common.{arith, rules, ◌≡◌, ap, get_or}
+use Rattle.typst_node.specs.Tree.{Tree}
+use Rattle.typst_script.proofs.Shown.{size, child_smaller}
+use Rattle.typst_script.proofs.show.+show_below.Goals as goal
+
+pub show_below-requires : goal.show_below-requires
+show_below-requires g t c κs within =
+    let items = c.child_slice-child-items.result.now in
+    let fewer = child_smaller c.args.node.now.children c.loop-child.child-index c.child-item.result in
+    let same : size c.child-item.result.children ≡ size (get_or items c.loop-child.child-index c.child-item.result).children = ap (λ (t : Tree). size t.children) c.child-item.is in
+    let there = rw c.child_slice-child-items.ensures.children at c.loop-child-test.true in
+    let same_too = rw c.child_slice-child-items.ensures.children at same in
+    (omega (arith, c.decreases, fewer there, same_too), search rules)

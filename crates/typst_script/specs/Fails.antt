@@ -1,0 +1,56 @@
+-- Which faults a command may end with.
+use Rattle.std.specs.Prelude.{ℕ, ◌≡◌, ◌-◌, ◌⊎◌, length, drop, IsSomeAnd, ⊤}
+use Rattle.typst_node.specs.Count.{SumsFit}
+use Rattle.typst_script.specs.Done.{CanBeDone, IsTooShort}
+use Rattle.typst_script.specs.Fault.{IsWriteFault}
+use Rattle.typst_script.specs.declared.command.Command.{Command}
+use Rattle.typst_script.specs.declared.command.Command.TheVariants.{Leaf, Error, Warn, Inner, Root, Number, Replace, Find, Run, Show}
+use Rattle.typst_script.specs.declared.fault.Fault.{Fault}
+use Rattle.typst_script.specs.declared.fault.Fault.TheVariants.{BadCommand, Memory, Overflow}
+use Rattle.typst_script.specs.declared.interpreter.Interpreter.{Interpreter}
+
+-- the command makes a node, a list or a text
+abbrev pub TakesMemory : Command → Type 0
+TakesMemory (Leaf kind text) = ⊤
+TakesMemory (Error message text) = ⊤
+TakesMemory (Warn message) = ⊤
+TakesMemory (Inner kind popped) = ⊤
+TakesMemory Root = ⊥
+TakesMemory (Number file low high) = ⊥
+TakesMemory (Replace path start end popped) = ⊤
+TakesMemory (Find file number) = ⊤
+TakesMemory Run = ⊥
+TakesMemory Show = ⊥
+
+-- the command prints: a run its replies, a numbering that its range is too short
+abbrev pub IsPrinting : Command → Interpreter → Type 0
+IsPrinting (Leaf kind text) old = ⊥
+IsPrinting (Error message text) old = ⊥
+IsPrinting (Warn message) old = ⊥
+IsPrinting (Inner kind popped) old = ⊥
+IsPrinting Root old = ⊥
+IsPrinting (Number file low high) old = IsSomeAnd old.tree (λ tree. IsTooShort tree low high)
+IsPrinting (Replace path start end popped) old = ⊥
+IsPrinting (Find file number) old = ⊥
+IsPrinting Run old = ⊤
+IsPrinting Show old = ⊤
+
+-- the sums of the node that the command makes pass a usize
+abbrev pub IsTooLarge : Command → Interpreter → Type 0
+IsTooLarge (Leaf kind text) old = ⊥
+IsTooLarge (Error message text) old = ⊥
+IsTooLarge (Warn message) old = ⊥
+IsTooLarge (Inner kind popped) old = ¬ (SumsFit (drop (length old.stack.items - popped) old.stack.items))
+IsTooLarge Root old = ⊥
+IsTooLarge (Number file low high) old = ⊥
+IsTooLarge (Replace path start end popped) old = ⊥
+IsTooLarge (Find file number) old = ⊥
+IsTooLarge Run old = ⊥
+IsTooLarge Show old = ⊥
+
+-- the fault of a command that stands in this line: it can't be done, or takes memory, or makes too large a node, or prints
+abbrev pub IsFaultOf : ℕ → Command → Interpreter → Fault → Type 0
+IsFaultOf line command old fault =
+    ((fault ≡ BadCommand line) × ¬ (CanBeDone command old))
+    ⊎ (((fault ≡ Memory) × TakesMemory command)
+    ⊎ (((fault ≡ Overflow) × IsTooLarge command old) ⊎ (IsWriteFault fault × IsPrinting command old)))

@@ -1,0 +1,7 @@
+pub mod Command
+pub mod Done
+pub mod Fails
+pub mod Fault
+pub mod Held
+pub mod Path
+pub mod Word

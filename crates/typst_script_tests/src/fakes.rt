@@ -1,0 +1,93 @@
+// A reader and a writer that fail at one of their calls.
+use std::io;
+use std::io::{ErrorKind, Read, Write};
+
+/// Which calls fail: one of them alone, or all that follow it too.
+#[derive(Clone, Copy)]
+pub(crate) struct Failure {
+    /// How many calls succeed before the one that fails.
+    calls_left: usize,
+    /// Whether the calls after the one that fails succeed again.
+    recovers: bool,
+    has_failed: bool,
+}
+
+impl Failure {
+    pub(crate) fn after(calls_left: usize, recovers: bool) -> Failure {
+        Failure {
+            calls_left,
+            recovers,
+            has_failed: false,
+        }
+    }
+
+    /// Counts a call, and answers whether it fails.
+    fn hits(&mut self) -> bool {
+        if self.has_failed {
+            return !self.recovers;
+        }
+        match self.calls_left.checked_sub(1) {
+            Some(calls_left) => {
+                self.calls_left = calls_left;
+                false
+            }
+            None => {
+                self.has_failed = true;
+                true
+            }
+        }
+    }
+}
+
+/// Gives its bytes one a call, but where a call fails.
+#[derive(Drop)]
+pub(crate) struct FailingReader<'a> {
+    pub(crate) bytes: &'a [u8],
+    pub(crate) failure: Failure,
+}
+
+impl Read for FailingReader<'_> {
+    fn read(&mut self, buf: &mut [u8]) -> io::Result<usize> {
+        if self.failure.hits() {
+            return Err(io::Error::from(ErrorKind::Other));
+        }
+        let Some((first, rest)) = self.bytes.split_first() else {
+            return Ok(0);
+        };
+        if buf.is_empty() {
+            return Ok(0);
+        }
+        buf[0] = *first;
+        self.bytes = rest;
+        Ok(1)
+    }
+}
+
+/// Takes one byte a call, but where a call fails.
+#[derive(Drop)]
+pub(crate) struct FailingWriter<'a> {
+    pub(crate) written: &'a mut Vec<u8>,
+    pub(crate) failure: Failure,
+}
+
+impl Write for FailingWriter<'_> {
+    fn write(&mut self, buf: &[u8]) -> io::Result<usize> {
+        if self.failure.hits() {
+            return Err(io::Error::from(ErrorKind::Other));
+        }
+        match buf.first() {
+            Some(byte) => {
+                self.written.push(*byte)?;
+                Ok(1)
+            }
+            None => Ok(0),
+        }
+    }
+
+    fn flush(&mut self) -> io::Result<()> {
+        if self.failure.hits() {
+            return Err(io::Error::from(ErrorKind::Other));
+        }
+        Ok(())
+    }
+}

@@ -1,0 +1,53 @@
+// The lines of replies.
+use std::alloc::Global;
+use std::test::Fail;
+use typst_script::reply::print_replies;
+use typst_tree::session::{Reply, Request, Slot};
+use typst_tree::{Renumbered, ReplaceError, Span};
+
+/// The line of a reply.
+fn line_of(alloc: Global, reply: Reply) -> Result<Vec<u8>, Fail> {
+    let mut out: Vec<u8> = Vec::new(alloc);
+    let slots = vec![in alloc;
+        Slot::Ask(Request::Find(Span::detached())),
+        Slot::Told(reply),
+    ]?;
+    print_replies(&mut out, &slots)?;
+    Ok(out)
+}
+
+#[test]
+fn prints_each_reply(rt: HostRuntime) -> Result<(), Fail> {
+    let alloc = rt.alloc();
+    let renumbered = Renumbered {
+        window: 0..3,
+        tried: 2,
+    };
+    let cases = [
+        (Reply::Renumbered(renumbered), "done window 0..3 tried 2\n"),
+        (Reply::Misfit, "misfit\n"),
+        (Reply::Refused(ReplaceError::Unnumberable), "refused\n"),
+        (Reply::Refused(ReplaceError::Overflow), "overflow\n"),
+        (Reply::Refused(ReplaceError::Memory), "no memory\n"),
+        (found(alloc, &[], 0)?, "found - offset 0\n"),
+        (found(alloc, &[7], 4)?, "found 7 offset 4\n"),
+        (found(alloc, &[0, 1], 1)?, "found 0.1 offset 1\n"),
+        (found(alloc, &[0, 1, 0], 1)?, "found 0.1.0 offset 1\n"),
+        (Reply::NotFound { looks: 3 }, "not found\n"),
+        (Reply::NoMemory, "no memory\n"),
+    ];
+    for (reply, wanted) in cases {
+        let line = line_of(alloc, reply)?;
+        assert_eq!(rt; line.as_slice(), wanted.as_bytes());
+    }
+    Ok(())
+}
+
+/// The reply to a search that found a node.
+fn found(alloc: Global, path: &[usize], offset: usize) -> Result<Reply, Fail> {
+    Ok(Reply::Found {
+        path: path.to_vec(alloc)?,
+        offset,
+        looks: 3,
+    })
+}

@@ -1,6 +1,0 @@
-pub mod Command
-pub mod Done
-pub mod Fails
-pub mod Fault
-pub mod Path
-pub mod Word

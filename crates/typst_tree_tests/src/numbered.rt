@@ -1,0 +1,116 @@
+// Trees that are kept numbered, and the nodes that come back.
+use crate::asking::{said, span_of};
+use std::alloc::Global;
+use std::ops::Range;
+use std::test::Fail;
+use typst_drawn::{DrawingError, drawn, labels, numbered};
+use typst_tree::{FileId, NumberedTree, Span, node_at};
+
+const TWO: &str = "Markup[ Text:ab Text:c ]";
+
+/// The labels of a tree that is numbered within a range, and of its root once it is taken out; or what came back.
+fn number(alloc: Global, within: Range<u64>) -> Result<String, DrawingError> {
+    let root = drawn(alloc, TWO)?;
+    let same = root.clone()?;
+    let file = FileId::new(1).ok_or(DrawingError::Numbers)?;
+    if within.start < 2 || within.end > 1 << 47 {
+        return Err(DrawingError::Numbers);
+    }
+    match NumberedTree::number(root, file, within) {
+        Ok(tree) => {
+            let lent = labels(alloc, tree.root())?;
+            let taken = labels(alloc, &tree.into_root())?;
+            Ok(format!(in alloc; "{lent} and {taken}")?)
+        }
+        Err(back) if back == same => Ok(String::from_str(alloc, "came back as it was")?),
+        Err(_) => Ok(String::from_str(alloc, "came back changed")?),
+    }
+}
+
+#[test]
+fn a_tree_is_numbered_or_comes_back_as_it_was(rt: HostRuntime) -> Result<(), Fail> {
+    let rows = [
+        (2..14, "3..14[5..6 7..8] and 3..14[5..6 7..8]"),
+        (2..5, "2..5[3..4 4..5] and 2..5[3..4 4..5]"),
+        (2..4, "came back as it was"),
+        (14..2, "came back as it was"),
+    ];
+    for (within, wanted) in rows {
+        assert_eq!(rt; number(rt.alloc(), within)?.as_str(), wanted);
+    }
+    Ok(())
+}
+
+#[test]
+fn only_a_numbered_tree_is_taken_as_one(rt: HostRuntime) -> Result<(), Fail> {
+    let alloc = rt.alloc();
+    let free = drawn(alloc, TWO)?;
+    let same = free.clone()?;
+    assert!(rt; NumberedTree::from_numbered(free).is_err_and(|back| back == same));
+    let root = numbered(alloc, TWO, 2..14)?;
+    let same = root.clone()?;
+    assert!(rt; NumberedTree::from_numbered(root).is_ok_and(|tree| *tree.root() == same));
+    Ok(())
+}
+
+/// The labels of a tree after it is numbered anew within a range for file 7.
+fn renumber(alloc: Global, within: Range<u64>) -> Result<String, DrawingError> {
+    let root = numbered(alloc, TWO, 2..14)?;
+    let mut tree = NumberedTree::from_numbered(root).map_err(|_| DrawingError::Numbers)?;
+    let file = FileId::new(7).ok_or(DrawingError::Numbers)?;
+    if within.start < 2 || within.end > 1 << 47 {
+        return Err(DrawingError::Numbers);
+    }
+    let answer = match tree.renumber(file, within) {
+        Ok(()) => "done",
+        Err(_) => "refused",
+    };
+    let labels = labels(alloc, tree.root())?;
+    let id = tree.root().span().id();
+    Ok(format!(in alloc; "{answer} {labels} {}", id == Some(file))?)
+}
+
+#[test]
+fn a_refused_renumbering_keeps_the_old_one(rt: HostRuntime) -> Result<(), Fail> {
+    let said = renumber(rt.alloc(), 1000..1012)?;
+    assert_eq!(rt;
+        said.as_str(),
+        "done 1001..1012[1003..1004 1005..1006] true"
+    );
+    let said = renumber(rt.alloc(), 2..4)?;
+    assert_eq!(rt; said.as_str(), "refused 3..14[5..6 7..8] false");
+    Ok(())
+}
+
+/// The words for where a span is found.
+fn find(alloc: Global, span: Span) -> Result<String, DrawingError> {
+    let root = numbered(alloc, TWO, 2..14)?;
+    let tree = NumberedTree::from_numbered(root).map_err(|_| DrawingError::Numbers)?;
+    Ok(said(alloc, Some(&tree.find(alloc, span)))?)
+}
+
+#[test]
+fn a_span_is_found_where_its_node_is(rt: HostRuntime) -> Result<(), Fail> {
+    let alloc = rt.alloc();
+    assert_eq!(rt; find(alloc, span_of(7)?)?.as_str(), "[1] at 2");
+    assert_eq!(rt; find(alloc, span_of(6)?)?.as_str(), "none");
+    assert_eq!(rt; find(alloc, Span::detached())?.as_str(), "none");
+    Ok(())
+}
+
+#[test]
+fn a_path_leads_to_a_node_or_nowhere(rt: HostRuntime) -> Result<(), Fail> {
+    let tree = drawn(rt.alloc(), "Markup[ Strong[ Text:ab Space:~ ] Text:c ]")?;
+    let rows: [(&[usize], Option<&str>); 5] = [
+        (&[], Some("")),
+        (&[1], Some("c")),
+        (&[0, 0], Some("ab")),
+        (&[0, 2], None),
+        (&[1, 0], None),
+    ];
+    for (path, wanted) in rows {
+        let text = node_at(&tree, path).map(|node| node.leaf_text());
+        assert!(rt; text == wanted, "{path:?}");
+    }
+    Ok(())
+}

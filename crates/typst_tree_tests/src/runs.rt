@@ -1,0 +1,177 @@
+// Runs of edits and searches, and the trees after them.
+use crate::asking::{Ask, all_said, request, slots};
+use std::alloc::{AllocError, Global};
+use std::ops::Range;
+use std::test::Fail;
+use typst_drawn::{DrawingError, labels, numbered, sizes};
+use typst_tree::session::{self, Reply, Slot};
+use typst_tree::{NumberedTree, SyntaxNode};
+
+/// A run, and what comes of it.
+struct Row {
+    shows: &'static str,
+    tree: &'static str,
+    within: Range<u64>,
+    asks: &'static [Ask],
+    replies: &'static str,
+    /// The tree's text, its numbers and bounds, and its sizes and the ends of its children.
+    after: &'static str,
+}
+
+const STRONG: &str = "Markup[ Strong[ Star:* Markup[ Text:b ] Star:* ] Text:c ]";
+
+const RUNS: [Row; 4] = [
+    Row {
+        shows: "every kind of request is served in order",
+        tree: STRONG,
+        within: 2..30,
+        asks: &[
+            Ask::Replace(&[0], 1..2, "Markup[ Text:x Text:y ]"),
+            Ask::Find(15),
+            Ask::Replace(&[0, 1], 0..1, "Text:x Text:y"),
+            Ask::Replace(&[5], 0..0, ""),
+            Ask::Replace(&[1], 0..0, ""),
+            Ask::Answered,
+            Ask::Find(14),
+        ],
+        replies: "window 0..3 tried 2; [1] at 4; Refused(Unnumberable); Misfit; Misfit; NoMemory; none; ",
+        after: "<*xy*c> 3..30[4..14[5..6 6..9[7..8 8..9] 9..10] 15..16] 5/8(4 5)[4/6(1 3 4)[1/1 2/3(1 2)[1/1 1/1] 1/1] 1/1]",
+    },
+    Row {
+        shows: "nodes are found at every depth",
+        tree: STRONG,
+        within: 2..30,
+        asks: &[
+            Ask::Find(3),
+            Ask::Find(4),
+            Ask::Find(6),
+            Ask::Find(7),
+            Ask::Find(8),
+            Ask::Find(15),
+            Ask::Find(2),
+            Ask::Find(16),
+        ],
+        replies: "[] at 0; [0] at 0; [0, 1] at 1; [0, 1, 0] at 1; [0, 2] at 2; [1] at 3; none; none; ",
+        after: "<*b*c> 3..30[4..14[5..6 6..8[7..8] 8..9] 15..16] 4/7(3 4)[3/5(1 2 3)[1/1 1/2(1)[1/1] 1/1] 1/1]",
+    },
+    Row {
+        shows: "a growth three levels deep is served where there is room, and what is after it moves",
+        tree: "Markup[ Strong[ Markup[ Text:a ] Star:* ] Text:c ]",
+        within: 2..200,
+        asks: &[
+            Ask::Find(46),
+            Ask::Replace(&[0, 0], 1..1, "Text:bb"),
+            Ask::Find(35),
+            Ask::Find(46),
+            Ask::Find(90),
+        ],
+        replies: "[0, 1] at 1; window 1..2 tried 1; [0, 0, 1] at 1; [0, 1] at 3; [1] at 4; ",
+        after: "<abb*c> 10..200[22..82[28..42[32..33 35..36] 46..47] 90..91] 5/7(4 5)[4/5(3 4)[3/3(1 3)[1/1 2/1] 1/1] 1/1]",
+    },
+    Row {
+        shows: "a run goes on after a refusal",
+        tree: "Markup[ Text:a ]",
+        within: 2..4,
+        asks: &[
+            Ask::Replace(&[], 0..1, "Text:z"),
+            Ask::Replace(&[], 0..1, ""),
+            Ask::Replace(&[], 0..0, "Text:z"),
+            Ask::Find(3),
+        ],
+        replies: "Refused(Unnumberable); window 0..0 tried 1; Refused(Unnumberable); none; ",
+        after: "<> 2..4 0/1",
+    },
+];
+
+/// The words for replies and the tree after them.
+fn outcome(alloc: Global, slots: &[Slot], tree: &SyntaxNode) -> Result<String, AllocError> {
+    let replies = all_said(alloc, slots)?;
+    let text = tree.full_text(alloc)?;
+    let labels = labels(alloc, tree)?;
+    let sizes = sizes(alloc, tree)?;
+    format!(in alloc; "{replies}<{text}> {labels} {sizes}")
+}
+
+/// Serves a run on a node.
+fn run_on_a_node(alloc: Global, row: &Row) -> Result<String, DrawingError> {
+    let mut tree = numbered(alloc, row.tree, row.within.start..row.within.end)?;
+    let mut slots = slots(alloc, row.asks)?;
+    session::run(alloc, &mut tree, &mut slots);
+    Ok(outcome(alloc, &slots, &tree)?)
+}
+
+/// Serves a run on a tree that is kept numbered.
+fn run_on_a_numbered_tree(alloc: Global, row: &Row) -> Result<String, DrawingError> {
+    let root = numbered(alloc, row.tree, row.within.start..row.within.end)?;
+    let mut tree = NumberedTree::from_numbered(root).map_err(|_| DrawingError::Numbers)?;
+    let mut slots = slots(alloc, row.asks)?;
+    tree.run(alloc, &mut slots);
+    Ok(outcome(alloc, &slots, tree.root())?)
+}
+
+/// Serves one request after the other on a tree that is kept numbered.
+fn serve_each(alloc: Global, row: &Row) -> Result<String, DrawingError> {
+    let root = numbered(alloc, row.tree, row.within.start..row.within.end)?;
+    let mut tree = NumberedTree::from_numbered(root).map_err(|_| DrawingError::Numbers)?;
+    let mut slots = Vec::new(alloc);
+    for ask in row.asks {
+        slots.push(Slot::Told(match request(alloc, ask)? {
+            Some(request) => tree.serve(alloc, request),
+            None => Reply::NoMemory,
+        }))?;
+    }
+    Ok(outcome(alloc, &slots, tree.root())?)
+}
+
+#[test]
+fn requests_are_served_one_after_the_other(rt: HostRuntime) -> Result<(), Fail> {
+    let alloc = rt.alloc();
+    for row in &RUNS {
+        let shows = row.shows;
+        let wanted = format!(in alloc; "{}{}", row.replies, row.after)?;
+        assert_eq!(rt; run_on_a_node(alloc, row)?, wanted, "{shows}");
+        assert_eq!(rt; run_on_a_numbered_tree(alloc, row)?, wanted, "{shows}");
+        assert_eq!(rt; serve_each(alloc, row)?, wanted, "{shows}");
+    }
+    Ok(())
+}
+
+/// How many numbers the search for 3 reads in a lone node.
+fn looks_in_a_lone_node(alloc: Global) -> Result<Option<u64>, DrawingError> {
+    let mut tree = numbered(alloc, "Markup[ ]", 2..4)?;
+    let mut slots = slots(alloc, &[Ask::Find(3)])?;
+    session::run(alloc, &mut tree, &mut slots);
+    Ok(match slots.first().and_then(Slot::reply) {
+        Some(Reply::NotFound { looks }) => Some(*looks),
+        _ => None,
+    })
+}
+
+#[test]
+fn a_search_in_a_lone_node_reads_its_number(rt: HostRuntime) -> Result<(), Fail> {
+    assert_eq!(rt; looks_in_a_lone_node(rt.alloc())?, Some(1));
+    Ok(())
+}
+
+#[test]
+fn a_slot_that_waits_has_no_reply(rt: HostRuntime) -> Result<(), Fail> {
+    let slots = slots(rt.alloc(), &[Ask::Find(3), Ask::Answered])?;
+    assert_eq!(rt; all_said(rt.alloc(), &slots)?.as_str(), "waits; NoMemory; ");
+    Ok(())
+}
+
+#[test]
+fn a_reply_is_copied_whole(rt: HostRuntime) -> Result<(), Fail> {
+    let mut path = Vec::new(rt.alloc());
+    path.push(1)?;
+    path.push(0)?;
+    let reply = Reply::Found {
+        path,
+        offset: 4,
+        looks: 3,
+    };
+    assert!(rt;
+        matches!(&reply.clone()?, Reply::Found { path, offset: 4, looks: 3 } if path.as_slice() == [1, 0].as_slice())
+    );
+    Ok(())
+}
