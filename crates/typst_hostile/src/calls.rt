@@ -32,6 +32,7 @@ pub enum Call {
 pub const CALLS: &[(&str, Call)] = &[
     ("RangeMapper::new", Call::MakeMapper),
     ("leaf", Call::Make(Making::Leaf)),
+    ("leaf of 22 bytes", Call::Make(Making::LongLeaf)),
     ("error", Call::Make(Making::Error)),
     ("inner", Call::Make(Making::Inner)),
     ("clone", Call::Make(Making::Clone)),

@@ -9,8 +9,10 @@ use typst_node::SyntaxNode;
 /// A call that makes a node.
 #[derive(Clone, Copy)]
 pub enum Making {
-    /// `SyntaxNode::leaf`
+    /// `SyntaxNode::leaf` of a text that the node holds.
     Leaf,
+    /// `SyntaxNode::leaf` of a text that is too long for that.
+    LongLeaf,
     /// `SyntaxNode::error`
     Error,
     /// `SyntaxNode::inner`
@@ -41,6 +43,11 @@ impl Making {
     ) -> Result<SyntaxNode, Fault> {
         match self {
             Making::Leaf => Ok(SyntaxNode::leaf(alloc, SyntaxKind::Text, "ab")?),
+            Making::LongLeaf => Ok(SyntaxNode::leaf(
+                alloc,
+                SyntaxKind::Text,
+                "a text of 22 bytes....",
+            )?),
             Making::Error => Ok(SyntaxNode::error(alloc, "m", "#")?),
             Making::Inner => Ok(SyntaxNode::inner(alloc, SyntaxKind::Markup, parts)?),
             Making::Clone => Ok(lent.clone()?),

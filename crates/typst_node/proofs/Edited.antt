@@ -6,7 +6,7 @@ use Rattle.typst_node.specs.Labels.{number, bound, bound_of}
 use Rattle.typst_node.specs.Plain.{plain, plain_label, plain_forest}
 use Rattle.typst_node.specs.Interval.{IsWithin}
 use Rattle.typst_node.specs.Numbered.{IsNumbered, IsNumberedFor}
-use Rattle.typst_node.specs.View.{tree_of, below, content}
+use Rattle.typst_node.specs.View.{tree_of, below, content, shown_warnings}
 use Rattle.typst_node.specs.declared.node.InnerNode.{InnerNode}
 use Rattle.typst_node.specs.declared.node.Node.TheVariants.{Inner}
 use Rattle.typst_node.specs.declared.node.SyntaxNode.TheInside.{Inside}
@@ -37,18 +37,18 @@ module _ (a : Inside) (b : Box InnerNode Global) (t : Tree) (is : a.node ≡ Inn
   inner_number = ap (λ (u : Tree). number u.label) (sym view)
 
   -- with other contents of the inner node, the label is the same
-  pub inner_label : (new : InnerNode) → new.kind ≡ b.value.kind → new.upper ≡ b.value.upper → (tree_of record { node = Inner (with_value b new); span = a.span; warnings = a.warnings }).label ≡ t.label
-  inner_label new kind upper =
-      (λ i. record { span = a.span; warnings = (tree_of a).label.warnings; content = AsInner (kind i) (upper i) })
-      ∙ (ap (λ n. (tree_of record { node = n; span = a.span; warnings = a.warnings }).label) (sym is) ∙ ap (λ (u : Tree). u.label) view)
+  pub inner_label : (new : InnerNode) → new.kind ≡ b.value.kind → new.upper ≡ b.value.upper → new.warnings ≡ b.value.warnings → (tree_of record { node = Inner (with_value b new); span = a.span }).label ≡ t.label
+  inner_label new kind upper warned =
+      (λ i. record { span = a.span; warnings = shown_warnings (warned i).items; content = AsInner (kind i) (upper i) })
+      ∙ (ap (λ n. (tree_of record { node = n; span = a.span }).label) (sym is) ∙ ap (λ (u : Tree). u.label) view)
 
   -- and the whole is the plain edit where the children are
-  pub inner_edited : (new : InnerNode) (from to : ℕ) (others : List Tree) → new.kind ≡ b.value.kind → new.upper ≡ b.value.upper → map plain new.children.items ≡ map plain (splice b.value.children.items from to others)
-      → plain (tree_of record { node = Inner (with_value b new); span = a.span; warnings = a.warnings }) ≡ plain (edited from to others t)
-  inner_edited new from to others kind upper same =
+  pub inner_edited : (new : InnerNode) (from to : ℕ) (others : List Tree) → new.kind ≡ b.value.kind → new.upper ≡ b.value.upper → new.warnings ≡ b.value.warnings → map plain new.children.items ≡ map plain (splice b.value.children.items from to others)
+      → plain (tree_of record { node = Inner (with_value b new); span = a.span }) ≡ plain (edited from to others t)
+  inner_edited new from to others kind upper warned same =
       let kids : plain_forest (forest new.children.items) ≡ plain_forest (forest (splice (trees t.children) from to others)) =
       sym (forest_plain new.children.items) ∙ (ap forest same ∙ (forest_plain (splice b.value.children.items from to others) ∙ ap (λ (ts : List Tree). plain_forest (forest (splice ts from to others))) (sym inner_kids))) in
-      λ i. record { label = plain_label (inner_label new kind upper i); children = kids i }
+      λ i. record { label = plain_label (inner_label new kind upper warned i); children = kids i }
 
   pub inner_file : t.label.span.file ≡ a.span.file
   inner_file = ap (λ (u : Tree). u.label.span.file) (sym view)

@@ -33,3 +33,4 @@ pub mod MappedPaths
 pub mod SamePlain
 pub mod EntryLemmas
 pub mod TellAlike
+pub mod Measured

@@ -8,7 +8,7 @@ use Rattle.typst_node.specs.Text.{content_text, own_text, joined, text, text_of_
 use Rattle.typst_node.specs.Count.{count, count_of_all}
 use Rattle.typst_node.specs.Diagnosis.{is_error_content, is_error, is_warned, has_error, has_warning}
 use Rattle.typst_node.specs.Plain.{unbounded, plain_label, plain_forest, plain}
-use Rattle.typst_node.specs.View.{ends_from, IsMeasured, IsKept, tree_of, below}
+use Rattle.typst_node.specs.View.{ends_from, IsMeasured, IsKept, tree_of, below, shown_warnings}
 use Rattle.typst_node.specs.declared.node.Node.TheVariants.{Inner}
 use Rattle.typst_node.specs.declared.node.SyntaxNode.TheInside.{Inside}
 use Rattle.typst_base.specs.Span.{SpanParts, detached}
@@ -100,11 +100,11 @@ module _ (ts us : List Tree) (same : map plain ts ≡ map plain us) where
   }
 
 -- an inner node, after a change of spans and bounds alone
-pub same_plain_inner : (a : Inside) (b : Box InnerNode Global) (t : Tree) (new : InnerNode) (s : SpanParts) → a.node ≡ Inner b → tree_of a ≡ t → new.kind ≡ b.value.kind → map plain new.children.items ≡ map plain b.value.children.items
-    → plain (tree_of record { node = Inner (with_value b new); span = s; warnings = a.warnings }) ≡ plain t
-same_plain_inner a b t new s is view kind same =
-    (λ i. record { label = record { span = detached; warnings = (tree_of a).label.warnings; content = AsInner (kind i) 0 }; children = (sym (forest_plain new.children.items) ∙ ap forest same ∙ forest_plain b.value.children.items) i })
-    ∙ sym (ap (λ n. plain (tree_of record { node = n; span = a.span; warnings = a.warnings })) is) ∙ ap plain view
+pub same_plain_inner : (a : Inside) (b : Box InnerNode Global) (t : Tree) (new : InnerNode) (s : SpanParts) → a.node ≡ Inner b → tree_of a ≡ t → new.kind ≡ b.value.kind → new.warnings ≡ b.value.warnings → map plain new.children.items ≡ map plain b.value.children.items
+    → plain (tree_of record { node = Inner (with_value b new); span = s }) ≡ plain t
+same_plain_inner a b t new s is view kind warned same =
+    (λ i. record { label = record { span = detached; warnings = shown_warnings (warned i).items; content = AsInner (kind i) 0 }; children = (sym (forest_plain new.children.items) ∙ ap forest same ∙ forest_plain b.value.children.items) i })
+    ∙ sym (ap (λ n. plain (tree_of record { node = n; span = a.span })) is) ∙ ap plain view
 
 -- how many nodes an inner node says that it has
 pub inner_count : (a : Inside) (b : Box InnerNode Global) (t : Tree) → a.node ≡ Inner b → IsKept a.node → tree_of a ≡ t → b.value.descendants ≡ count t

@@ -4,7 +4,7 @@ use Rattle.std.proofs.lemmas.List.{length-map, reverse-reverse}
 use Rattle.typst_base.specs.Span.{detached}
 use Rattle.typst_node.specs.Tree.{Tree, forest, trees}
 use Rattle.typst_node.specs.Plain.{plain, plain_forest, unbounded}
-use Rattle.typst_node.specs.View.{warning_text, content, below, tree_of}
+use Rattle.typst_node.specs.View.{warning_text, warnings_in, content, below, tree_of}
 use Rattle.typst_node.specs.declared.node.SyntaxNode.TheInside.{Inside}
 use Rattle.typst_node.proofs.Plain.{forest_plain}
 use Rattle.typst_node.proofs.Trees.{trees_of_forest}
@@ -31,13 +31,13 @@ pub same_more : {X Y : Type 0} (f : X → Y) (xs ys : List X) (i : ℕ) (x y : X
 same_more f xs ys i x y h k e p q s = rw add-one (same_more_suc f xs ys i x y h k e (sym (ap f p) ∙ s ∙ ap f q))
 
 -- what is the same in the parts of two nodes is the same of the nodes
-pub alike_whole : (a b : Inside) → map warning_text a.warnings.items ≡ map warning_text b.warnings.items → unbounded (content a.node) ≡ unbounded (content b.node) → map plain (below a.node) ≡ map plain (below b.node) → plain (tree_of a) ≡ plain (tree_of b)
+pub alike_whole : (a b : Inside) → map warning_text (warnings_in a.node) ≡ map warning_text (warnings_in b.node) → unbounded (content a.node) ≡ unbounded (content b.node) → map plain (below a.node) ≡ map plain (below b.node) → plain (tree_of a) ≡ plain (tree_of b)
 alike_whole a b w e k =
     let kids : plain_forest (forest (below a.node)) ≡ plain_forest (forest (below b.node)) = sym (forest_plain (below a.node)) ∙ ap forest k ∙ forest_plain (below b.node) in
     λ i. record { label = record { span = detached; warnings = reverse (w i); content = e i }; children = kids i }
 
-pub alike_warnings : (a b : Inside) → plain (tree_of a) ≡ plain (tree_of b) → map warning_text a.warnings.items ≡ map warning_text b.warnings.items
-alike_warnings a b e = sym (reverse-reverse (map warning_text a.warnings.items)) ∙ ap (λ (t : Tree). reverse t.label.warnings) e ∙ reverse-reverse (map warning_text b.warnings.items)
+pub alike_warnings : (a b : Inside) → plain (tree_of a) ≡ plain (tree_of b) → map warning_text (warnings_in a.node) ≡ map warning_text (warnings_in b.node)
+alike_warnings a b e = sym (reverse-reverse (map warning_text (warnings_in a.node))) ∙ ap (λ (t : Tree). reverse t.label.warnings) e ∙ reverse-reverse (map warning_text (warnings_in b.node))
 
 pub alike_content : (a b : Inside) → plain (tree_of a) ≡ plain (tree_of b) → unbounded (content a.node) ≡ unbounded (content b.node)
 alike_content a b e = ap (λ (t : Tree). t.label.content) e

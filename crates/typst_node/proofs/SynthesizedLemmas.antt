@@ -66,8 +66,8 @@ forest_synthesized span (t ∷ ts) = ap (λ f. tree (synthesized_label span t.la
 
 -- an inner node, after its children are synthesized
 pub synthesized_inner : (span : SpanParts) (a : Inside) (b : Box InnerNode Global) (t : Tree) (new : InnerNode) (ws : List WarningText) → a.node ≡ Inner b → tree_of a ≡ t
-    → new.kind ≡ b.value.kind → new.upper ≡ span.low → ws ≡ map whole_warning (shown_warnings a.warnings.items) → new.children.items ≡ map (synthesized span) b.value.children.items
+    → new.kind ≡ b.value.kind → new.upper ≡ span.low → ws ≡ map whole_warning (shown_warnings b.value.warnings.items) → new.children.items ≡ map (synthesized span) b.value.children.items
     → record { label = record { span = span; warnings = ws; content = AsInner new.kind new.upper }; children = forest new.children.items } ≡ synthesized span t
 synthesized_inner span a b t new ws is view kind upper warned below =
     (λ i. record { label = record { span = span; warnings = warned i; content = AsInner (kind i) (upper i) }; children = (ap forest below ∙ forest_synthesized span b.value.children.items) i })
-    ∙ sym (ap (λ n. synthesized span (tree_of record { node = n; span = a.span; warnings = a.warnings })) is) ∙ ap (synthesized span) view
+    ∙ sym (ap (λ n. synthesized span (tree_of record { node = n; span = a.span })) is) ∙ ap (synthesized span) view

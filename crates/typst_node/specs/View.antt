@@ -11,7 +11,7 @@ use Rattle.typst_node.specs.declared.node.Hint.{Hint}
 use Rattle.typst_node.specs.declared.node.Warning.{Warning}
 use Rattle.typst_node.specs.declared.node.InnerNode.{InnerNode}
 use Rattle.typst_node.specs.declared.node.Node.{Node}
-use Rattle.typst_node.specs.declared.node.Node.TheVariants.{Short, Long, Inner, Error}
+use Rattle.typst_node.specs.declared.node.Node.TheVariants.{Short, Leaf, Inner, Error}
 use Rattle.typst_node.specs.declared.node.SyntaxNode.TheInside.{Inside}
 
 abbrev pub hint_text : Hint → HintText
@@ -26,20 +26,27 @@ shown_warnings ws = reverse (map warning_text ws)
 
 abbrev pub content : Node → Content
 content (Short kind text) = AsLeaf kind text
-content (Long b) = AsLeaf b.value.kind (string_bytes b.value.text)
+content (Leaf b) = AsLeaf b.value.kind (string_bytes b.value.text)
 content (Inner b) = AsInner b.value.kind b.value.upper
 content (Error b) = AsError (string_bytes b.value.text) (string_bytes b.value.message) (map hint_text b.value.hints.items)
+
+-- the warnings as they are kept, innermost first
+abbrev pub warnings_in : Node → List Warning
+warnings_in (Short kind text) = []
+warnings_in (Leaf b) = b.value.warnings.items
+warnings_in (Inner b) = b.value.warnings.items
+warnings_in (Error b) = b.value.warnings.items
 
 -- the node's children
 abbrev pub below : Node → List Tree
 below (Short kind text) = []
-below (Long b) = []
+below (Leaf b) = []
 below (Inner b) = b.value.children.items
 below (Error b) = []
 
 abbrev pub tree_of : Inside → Tree
 tree_of a = record {
-  label = record { span = a.span; warnings = shown_warnings a.warnings.items; content = content a.node };
+  label = record { span = a.span; warnings = shown_warnings (warnings_in a.node); content = content a.node };
   children = forest (below a.node);
 }
 
@@ -59,6 +66,6 @@ pub record IsMeasured (inner : InnerNode) : Type 0 where
 
 abbrev pub IsKept : Node → Type 0
 IsKept (Short kind text) = kind ≢ kinds.Error
-IsKept (Long b) = b.value.kind ≢ kinds.Error
+IsKept (Leaf b) = b.value.kind ≢ kinds.Error
 IsKept (Inner b) = IsMeasured b.value
 IsKept (Error b) = Unit {0}

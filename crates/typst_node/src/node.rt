@@ -6,6 +6,7 @@ ghost use Rattle.typst_node.specs.Count.{count};
 ghost use Rattle.typst_base.specs.declared.kind.SyntaxKind.TheVariants.{Error};
 ghost use Rattle.typst_node.specs.Diagnosis.{has_error, has_warning, is_error};
 ghost use Rattle.typst_node.specs.Labels.{bound};
+ghost use Rattle.typst_node.specs.View.{warnings_in};
 
 use crate::diagnosis::Diagnosis;
 use crate::short_text::ShortText;
@@ -43,16 +44,16 @@ mod window;
 pub struct SyntaxNode {
     node: Node,
     span: Span,
-    // From the innermost to the outermost.
-    warnings: Vec<Warning>,
 }
 
-/// A node without its span and its warnings. A leaf is `Short` or `Long`, and its kind is never `Error`.
+/// A node without its span. The kind of a leaf is never `Error`.
 #[cycle(node)]
 #[derive(Drop)]
 enum Node {
+    // A leaf without warnings that holds its text itself.
     Short(SyntaxKind, ShortText),
-    Long(Box<LongLeaf>),
+    // Any other leaf.
+    Leaf(Box<LeafNode>),
     Inner(Box<InnerNode>),
     Error(Box<ErrorNode>),
 }
@@ -72,13 +73,17 @@ struct InnerNode {
     children: Vec<SyntaxNode>,
     // At each place the joined length of the children up to and with the one there.
     ends: Vec<usize>,
+    // From the innermost to the outermost.
+    warnings: Vec<Warning>,
 }
 
-/// A leaf with a text that isn't kept in the node itself. Its kind is never `Error`.
+/// A leaf whose text may be long, and which may have warnings. Its kind is never `Error`.
 #[derive(Drop)]
-struct LongLeaf {
+struct LeafNode {
     kind: SyntaxKind,
     text: String,
+    // From the innermost to the outermost.
+    warnings: Vec<Warning>,
 }
 
 /// What is said of a text that is no syntax.
@@ -87,6 +92,8 @@ struct ErrorNode {
     text: String,
     message: String,
     hints: Vec<Hint>,
+    // From the innermost to the outermost.
+    warnings: Vec<Warning>,
 }
 
 /// What is said of a node that is syntax, but dubious.
@@ -126,6 +133,20 @@ impl Model for SyntaxNode {
     ghost size_decreases = { λ a h. children_are_smaller a.node };
 }
 
+impl Node {
+    /// The warnings round the node, from the innermost to the outermost.
+    fn warnings(&self) -> &[Warning]
+        ensures { result.now ≡ warnings_in self.now }
+    {
+        match self {
+            Node::Short(..) => &[],
+            Node::Leaf(leaf) => &leaf.warnings,
+            Node::Inner(inner) => &inner.warnings,
+            Node::Error(error) => &error.warnings,
+        }
+    }
+}
+
 /// # What the node is
 impl SyntaxNode {
     /// The node's kind, whatever its warnings. It is `Error` for errors alone.
@@ -135,7 +156,7 @@ impl SyntaxNode {
     {
         match &self.node {
             Node::Short(kind, _) => *kind,
-            Node::Long(leaf) => leaf.kind,
+            Node::Leaf(leaf) => leaf.kind,
             Node::Inner(inner) => inner.kind,
             Node::Error(_) => SyntaxKind::Error,
         }
@@ -146,7 +167,7 @@ impl SyntaxNode {
         ensures { IsTrue result ↔ IsLeaf self.now.label.content }
     {
         match &self.node {
-            Node::Short(..) | Node::Long(_) => true,
+            Node::Short(..) | Node::Leaf(_) => true,
             Node::Inner(_) => false,
             Node::Error(error) => !error.text.is_empty(),
         }
@@ -173,7 +194,7 @@ impl SyntaxNode {
     {
         match &self.node {
             Node::Inner(inner) => inner.upper,
-            Node::Short(..) | Node::Long(_) | Node::Error(_) => self.span.number() + 1,
+            Node::Short(..) | Node::Leaf(_) | Node::Error(_) => self.span.number() + 1,
         }
     }
 }
@@ -186,7 +207,7 @@ impl SyntaxNode {
     {
         match &self.node {
             Node::Short(_, text) => text.len(),
-            Node::Long(leaf) => leaf.text.len(),
+            Node::Leaf(leaf) => leaf.text.len(),
             Node::Inner(inner) => inner.len,
             Node::Error(error) => error.text.len(),
         }
@@ -205,7 +226,7 @@ impl SyntaxNode {
     {
         match &self.node {
             Node::Inner(inner) => inner.descendants,
-            Node::Short(..) | Node::Long(_) | Node::Error(_) => 1,
+            Node::Short(..) | Node::Leaf(_) | Node::Error(_) => 1,
         }
     }
 
@@ -215,7 +236,7 @@ impl SyntaxNode {
         ensures warnings { result.warnings ≡ has_warning self.now }
     {
         let below = match &self.node {
-            Node::Short(..) | Node::Long(_) => Diagnosis {
+            Node::Short(..) | Node::Leaf(_) => Diagnosis {
                 errors: false,
                 warnings: false,
             },
@@ -227,7 +248,7 @@ impl SyntaxNode {
         };
         Diagnosis {
             errors: below.errors,
-            warnings: below.warnings || !self.warnings.is_empty(),
+            warnings: below.warnings || !self.node.warnings().is_empty(),
         }
     }
 
@@ -237,7 +258,7 @@ impl SyntaxNode {
     {
         match &self.node {
             Node::Short(_, text) => text.as_str(),
-            Node::Long(leaf) => leaf.text.as_str(),
+            Node::Leaf(leaf) => leaf.text.as_str(),
             Node::Inner(_) => "",
             Node::Error(error) => error.text.as_str(),
         }
@@ -258,7 +279,7 @@ impl SyntaxNode {
     {
         match &self.node {
             Node::Short(_, text) => out.push_str(text.as_str()),
-            Node::Long(leaf) => out.push_str(leaf.text.as_str()),
+            Node::Leaf(leaf) => out.push_str(leaf.text.as_str()),
             Node::Inner(inner) => {
                 for child in &inner.children {
                     child.push_text(out)?;
@@ -285,7 +306,7 @@ impl SyntaxNode {
     {
         match &self.node {
             Node::Inner(inner) => &inner.children,
-            Node::Short(..) | Node::Long(_) | Node::Error(_) => &[],
+            Node::Short(..) | Node::Leaf(_) | Node::Error(_) => &[],
         }
     }
 
@@ -298,7 +319,7 @@ impl SyntaxNode {
     {
         match &self.node {
             Node::Inner(inner) => inner.ends[index],
-            Node::Short(..) | Node::Long(_) | Node::Error(_) => unreachable!(),
+            Node::Short(..) | Node::Leaf(_) | Node::Error(_) => unreachable!(),
         }
     }
 }

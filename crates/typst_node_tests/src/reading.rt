@@ -104,9 +104,10 @@ fn nodes_are_read(rt: HostRuntime) -> Result<(), Fail> {
 
 #[test]
 fn a_placeholder_is_an_empty_leaf(rt: HostRuntime) -> Result<(), Fail> {
-    let leaf = SyntaxNode::placeholder(rt.alloc(), SyntaxKind::End);
-    assert!(rt; leaf.kind() == SyntaxKind::End && leaf.is_empty());
-    assert!(rt; leaf == drawn(rt.alloc(), "End:")?);
+    let leaf = SyntaxNode::placeholder(SyntaxKind::Space);
+    assert!(rt; leaf.kind() == SyntaxKind::Space && leaf.is_empty());
+    assert!(rt; leaf == drawn(rt.alloc(), "Space:")?);
+    assert!(rt; SyntaxNode::default() == drawn(rt.alloc(), "End:")?);
     assert!(rt; !drawn(rt.alloc(), "Text:a")?.is_empty());
     Ok(())
 }

@@ -1,11 +1,11 @@
 ghost use Rattle.std.specs.Prelude.{◌≡◌, ◌≢◌, ◌≤◌, ◌↔◌, [], length, IfOk, IsErrOf, IsOk};
-ghost use Rattle.typst_base.specs.declared.kind.SyntaxKind.TheVariants.{Error};
+ghost use Rattle.typst_base.specs.declared.kind.SyntaxKind.TheVariants.{End, Error};
 ghost use Rattle.typst_node.specs.Tree.{leaf_tree, inner_tree};
 ghost use Rattle.typst_node.specs.Count.{SumsFit};
 ghost use Rattle.typst_node.specs.declared.node.build.InnerError.TheVariants.{Overflow, Memory};
 
 use crate::node::inner::{ends_of, sums_of};
-use crate::node::{InnerNode, LongLeaf, Node, SyntaxNode};
+use crate::node::{InnerNode, LeafNode, Node, SyntaxNode};
 use crate::short_text::{LONGEST, ShortText};
 use std::alloc::{AllocError, AllocFailed, Global};
 use thiserror::Error;
@@ -51,25 +51,28 @@ impl SyntaxNode {
             Node::Short(kind, ShortText::new(text))
         } else {
             let text = String::from_str(alloc, text)?;
-            Node::Long(Box::new(alloc, LongLeaf { kind, text })?)
+            let leaf = LeafNode {
+                kind,
+                text,
+                warnings: Vec::new(alloc),
+            };
+            Node::Leaf(Box::new(alloc, leaf)?)
         };
         Ok(SyntaxNode {
             node,
             span: Span::detached(),
-            warnings: Vec::new(alloc),
         })
     }
 
-    /// A detached leaf with an empty text. It takes no memory: the allocator is kept for what is added later.
+    /// A detached leaf with an empty text. It takes no memory.
     /// The test of the condition is `SyntaxKind::is_error`.
-    pub fn placeholder(alloc: Global, kind: SyntaxKind) -> SyntaxNode
+    pub fn placeholder(kind: SyntaxKind) -> SyntaxNode
         requires { kind ≢ Error }
         ensures { result ≡ leaf_tree kind [] }
     {
         SyntaxNode {
             node: Node::Short(kind, ShortText::new("")),
             span: Span::detached(),
-            warnings: Vec::new(alloc),
         }
     }
 
@@ -98,11 +101,20 @@ impl SyntaxNode {
             upper: 0,
             children,
             ends,
+            warnings: Vec::new(alloc),
         };
         Ok(SyntaxNode {
             node: Node::Inner(Box::new(alloc, inner)?),
             span: Span::detached(),
-            warnings: Vec::new(alloc),
         })
+    }
+}
+
+/// The empty detached leaf of kind `End`.
+impl Default for SyntaxNode {
+    ghost is_default = { λ node. node ≡ leaf_tree End [] };
+
+    fn default() -> Self {
+        SyntaxNode::placeholder(SyntaxKind::End)
     }
 }

@@ -27,7 +27,7 @@ impl SyntaxNode {
     {
         match &mut self.node {
             Node::Short(old, _) => *old = kind,
-            Node::Long(leaf) => leaf.kind = kind,
+            Node::Leaf(leaf) => leaf.kind = kind,
             Node::Inner(inner) => inner.kind = kind,
             Node::Error(_) => unreachable!(),
         }

@@ -22,13 +22,14 @@ impl fmt::Debug for SyntaxNode {
 impl SyntaxNode {
     /// Writes the node under its warnings, outermost first.
     fn write_line<W: fmt::Write>(&self, f: &mut fmt::Formatter<W>) -> fmt::Result {
-        let count = self.warnings.len();
+        let warnings = self.node.warnings();
+        let count = warnings.len();
         for done in 0..count {
-            self.write_warning(f, &self.warnings[count - 1 - done])?;
+            self.write_warning(f, &warnings[count - 1 - done])?;
         }
         match &self.node {
             Node::Short(kind, text) => write!(f, "{kind:?}: {:?}", text.as_str())?,
-            Node::Long(leaf) => write!(f, "{:?}: {:?}", leaf.kind, leaf.text)?,
+            Node::Leaf(leaf) => write!(f, "{:?}: {:?}", leaf.kind, leaf.text)?,
             Node::Error(error) => self.write_error(f, error)?,
             Node::Inner(inner) => {
                 write!(f, "{:?}: {}", inner.kind, inner.len)?;
@@ -114,7 +115,7 @@ impl SyntaxNode {
     fn is_boundary(&self, at: usize) -> bool {
         match &self.node {
             Node::Short(_, text) => text.as_str().is_char_boundary(at),
-            Node::Long(leaf) => leaf.text.as_str().is_char_boundary(at),
+            Node::Leaf(leaf) => leaf.text.as_str().is_char_boundary(at),
             Node::Error(error) => error.text.as_str().is_char_boundary(at),
             Node::Inner(inner) => {
                 let mut rest = at;
@@ -138,7 +139,7 @@ impl SyntaxNode {
     ) -> fmt::Result {
         match &self.node {
             Node::Short(_, text) => write_escaped(f, text.as_str(), start, end),
-            Node::Long(leaf) => write_escaped(f, leaf.text.as_str(), start, end),
+            Node::Leaf(leaf) => write_escaped(f, leaf.text.as_str(), start, end),
             Node::Error(error) => write_escaped(f, error.text.as_str(), start, end),
             Node::Inner(inner) => {
                 let mut start = start;

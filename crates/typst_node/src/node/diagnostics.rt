@@ -60,9 +60,9 @@ impl SyntaxNode {
         if !self.diagnosis().either() {
             return Ok(());
         }
-        push_warnings(alloc, self.span, &self.warnings, warnings)?;
+        push_warnings(alloc, self.span, self.node.warnings(), warnings)?;
         match &self.node {
-            Node::Short(..) | Node::Long(_) => Ok(()),
+            Node::Short(..) | Node::Leaf(_) => Ok(()),
             Node::Inner(inner) => {
                 for child in &inner.children {
                     child.push_reports(alloc, errors, warnings)?;

@@ -21,7 +21,7 @@ impl SyntaxNode {
         if !same_span(self.span, other.span) {
             return false;
         }
-        same_warnings(&self.warnings, &other.warnings) && self.node.same(&other.node)
+        same_warnings(self.node.warnings(), other.node.warnings()) && self.node.same(&other.node)
     }
 }
 
@@ -32,14 +32,14 @@ impl Node {
     {
         match self {
             Node::Short(kind, text) => other.is_leaf_of(*kind, text.as_str()),
-            Node::Long(leaf) => other.is_leaf_of(leaf.kind, leaf.text.as_str()),
+            Node::Leaf(leaf) => other.is_leaf_of(leaf.kind, leaf.text.as_str()),
             Node::Inner(inner) => match other {
                 Node::Inner(other_inner) => {
                     same_kind(inner.kind, other_inner.kind)
                         && inner.upper == other_inner.upper
                         && all_same(&inner.children, &other_inner.children)
                 }
-                Node::Short(..) | Node::Long(_) | Node::Error(_) => false,
+                Node::Short(..) | Node::Leaf(_) | Node::Error(_) => false,
             },
             Node::Error(error) => match other {
                 Node::Error(other_error) => {
@@ -47,7 +47,7 @@ impl Node {
                         && error.message.as_str() == other_error.message.as_str()
                         && same_hints(&error.hints, &other_error.hints)
                 }
-                Node::Short(..) | Node::Long(_) | Node::Inner(_) => false,
+                Node::Short(..) | Node::Leaf(_) | Node::Inner(_) => false,
             },
         }
     }

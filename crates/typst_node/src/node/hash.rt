@@ -76,7 +76,7 @@ impl Node {
     {
         match self {
             Node::Short(kind, text) => feed_leaf(*kind, text.as_str(), state),
-            Node::Long(leaf) => feed_leaf(leaf.kind, leaf.text.as_str(), state),
+            Node::Leaf(leaf) => feed_leaf(leaf.kind, leaf.text.as_str(), state),
             Node::Error(error) => {
                 state.write_u8(1);
                 error.text.as_str().hash(state);
@@ -98,7 +98,7 @@ impl SyntaxNode {
         ensures { state.new ≡ fold H.write state.old (label_input self.now.label) }
     {
         feed_span(self.span, state);
-        feed_warnings(&self.warnings, state);
+        feed_warnings(self.node.warnings(), state);
         self.node.feed_content(state);
     }
 

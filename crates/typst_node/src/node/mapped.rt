@@ -67,18 +67,18 @@ impl SyntaxNode {
         let end = at + self.len();
         let span = Span::from_range(id, mapper.map(at..end));
         match &mut self.node {
-            Node::Short(..) | Node::Long(_) => {
+            Node::Short(..) => self.span = span,
+            Node::Leaf(leaf) => {
                 self.span = span;
-                map_parts(&mut self.warnings, mapper, at, end);
+                map_parts(&mut leaf.warnings, mapper, at, end);
             }
             Node::Error(error) => {
                 self.span = span;
-                map_parts(&mut self.warnings, mapper, at, end);
+                map_parts(&mut error.warnings, mapper, at, end);
                 map_hint_parts(&mut error.hints, mapper, at, end);
             }
             Node::Inner(inner) => {
                 self.span = span;
-                map_parts(&mut self.warnings, mapper, at, end);
                 inner.map_places_below(id, mapper, at, span);
             }
         }
@@ -94,10 +94,13 @@ impl InnerNode {
         ensures kind { self.new.kind ≡ self.old.kind }
         ensures upper { self.new.upper ≡ span.low }
         ensures children { self.new.children.items ≡ mapped_trees mapper.now id at self.old.children.items }
+        ensures warnings { shown_warnings self.new.warnings.items
+            ≡ map (mapped_warning mapper.now (interval at (at + length (text_of_all self.old.children.items)))) (shown_warnings self.old.warnings.items) }
     {
         // Read for the proof: the mapper's length is a usize, so no offset below it overflows.
         let _total = mapper.total_len();
         self.upper = span.number();
+        map_parts(&mut self.warnings, mapper, at, at + self.len);
         let mut at = at;
         for child in self.children.iter_mut() {
             let end = at + child.len();

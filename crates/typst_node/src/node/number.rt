@@ -99,7 +99,7 @@ impl SyntaxNode {
                 self.span = Span::from_number(id, SpanNumber(start + stride / 2));
                 inner.number_below(id, start, end, stride);
             }
-            Node::Short(..) | Node::Long(_) | Node::Error(_) => {
+            Node::Short(..) | Node::Leaf(_) | Node::Error(_) => {
                 self.span = Span::from_number(id, SpanNumber((start + end) / 2));
             }
         }
@@ -117,6 +117,7 @@ impl InnerNode {
         ensures measured { IsMeasured self.new }
         ensures kind { self.new.kind ≡ self.old.kind }
         ensures upper { self.new.upper ≡ end }
+        ensures warnings { self.new.warnings ≡ self.old.warnings }
         ensures plain { map plain self.new.children.items ≡ map plain self.old.children.items }
         ensures within { IsWithin id (start + stride) (start + stride * self.old.descendants)
             (forest self.new.children.items) }

@@ -23,6 +23,7 @@ impl InnerNode {
         ensures measured { IsMeasured self.new }
         ensures kind { self.new.kind ≡ self.old.kind }
         ensures upper { self.new.upper ≡ self.old.upper }
+        ensures warnings { self.new.warnings ≡ self.old.warnings }
         ensures before { take from self.new.children.items ≡ take from self.old.children.items }
         ensures behind { drop to self.new.children.items ≡ drop to self.old.children.items }
         ensures plain { map plain self.new.children.items ≡ map plain self.old.children.items }

@@ -104,6 +104,7 @@ impl InnerNode {
         ensures measured { IsMeasured self.new }
         ensures kind { self.new.kind ≡ self.old.kind }
         ensures upper { self.new.upper ≡ self.old.upper }
+        ensures warnings { self.new.warnings ≡ self.old.warnings }
         ensures children { self.new.children.items ≡ self.old.children.items }
         ensures room { OnOk result (length self.new.children.items + more ≤ vec_capacity self.new.children) }
         ensures room_of_ends { OnOk result (length self.new.children.items + more ≤ vec_capacity self.new.ends) }
@@ -129,6 +130,7 @@ impl InnerNode {
         ensures measured { IsMeasured self.new }
         ensures kind { self.new.kind ≡ self.old.kind }
         ensures upper { self.new.upper ≡ self.old.upper }
+        ensures warnings { self.new.warnings ≡ self.old.warnings }
         ensures ok { OnOk result (self.new.children.items ≡ splice self.old.children.items from to others.items) }
         ensures err { OnErr result (self.new.children.items ≡ self.old.children.items) }
         ensures succeeds { length others.items ≤ to - from → IsOk result }
@@ -192,6 +194,7 @@ impl InnerNode {
         ensures measured { IsMeasured self.new }
         ensures kind { self.new.kind ≡ self.old.kind }
         ensures upper { self.new.upper ≡ self.old.upper }
+        ensures warnings { self.new.warnings ≡ self.old.warnings }
         ensures err { OnErr result (self.new.children.items ≡ self.old.children.items) }
         ensures overflow { IsErrOf result Overflow ↔ ¬ (SumsFit (splice self.old.children.items from to others.items)) }
         ensures unnumberable { let s : Site = site_at (number + 1) self.old.upper from to others.items self.old.children.items in IsErrOf result Unnumberable ↔ (SumsFit (splice self.old.children.items from to others.items) × ((id ≡ None) ⊎ HasNoFirst s)) }
@@ -240,6 +243,7 @@ impl InnerNode {
         ensures measured { IsMeasured self.new }
         ensures kind { self.new.kind ≡ self.old.kind }
         ensures upper { self.new.upper ≡ self.old.upper }
+        ensures warnings { self.new.warnings ≡ self.old.warnings }
         ensures err { OnErr result (self.new.children.items ≡ self.old.children.items) }
         ensures overflow { IsErrOf result Overflow ↔ ¬ (SumsFit (splice self.old.children.items from to others.items)) }
         ensures unnumberable { let s : Site = site_among (number + 1) self.old.upper from to others.items self.old.children.items in IsErrOf result Unnumberable ↔ (SumsFit (splice self.old.children.items from to others.items) × ((id ≡ None) ⊎ HasNoFirst s)) }
@@ -287,7 +291,7 @@ impl SyntaxNode {
                 let result = inner.replace(id, number, range.start, range.end, replacement);
                 return result;
             }
-            Node::Short(..) | Node::Long(_) | Node::Error(_) => {
+            Node::Short(..) | Node::Leaf(_) | Node::Error(_) => {
                 return Ok(Renumbered {
                     window: 0..0,
                     tried: 0,

@@ -54,7 +54,7 @@ impl SyntaxNode {
                     let result = inner.replace_in(*index, rest, range, replacement);
                     return result;
                 }
-                Node::Short(..) | Node::Long(_) | Node::Error(_) => unreachable!(),
+                Node::Short(..) | Node::Leaf(_) | Node::Error(_) => unreachable!(),
             },
         }
     }
@@ -77,6 +77,7 @@ impl InnerNode {
         ensures measured { IsMeasured self.new }
         ensures kind { self.new.kind ≡ self.old.kind }
         ensures upper { self.new.upper ≡ self.old.upper }
+        ensures warnings { self.new.warnings ≡ self.old.warnings }
         ensures err { OnErr result (self.new.children.items ≡ self.old.children.items) }
         ensures frame { self.new.children.items ≡ set self.old.children.items index (with_children path.now (trees (tree_at path.now (get_or self.new.children.items index no_tree)).children) (get_or self.old.children.items index no_tree)) }
         ensures at { IsReplacement range.start range.end replacement.items (tree_at path.now (get_or self.old.children.items index no_tree)) (tree_at path.now (get_or self.new.children.items index no_tree)) result }

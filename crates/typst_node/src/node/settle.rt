@@ -127,6 +127,7 @@ impl InnerNode {
         ensures measured { IsMeasured self.new }
         ensures kind { self.new.kind ≡ self.old.kind }
         ensures upper { self.new.upper ≡ self.old.upper }
+        ensures warnings { self.new.warnings ≡ self.old.warnings }
         ensures children { self.new.children ≡ self.old.children }
     {
         self.len = self.len - gone.len + added.len;

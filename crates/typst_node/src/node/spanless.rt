@@ -62,7 +62,7 @@ impl Node {
     {
         match self {
             Node::Short(own, own_text) => same_kind(*own, kind) && own_text.as_str() == text,
-            Node::Long(leaf) => same_kind(leaf.kind, kind) && leaf.text.as_str() == text,
+            Node::Leaf(leaf) => same_kind(leaf.kind, kind) && leaf.text.as_str() == text,
             Node::Inner(_) | Node::Error(_) => false,
         }
     }
@@ -76,7 +76,8 @@ impl SyntaxNode {
     pub fn spanless_eq(&self, other: &SyntaxNode) -> bool
         ensures { IsTrue result ↔ (plain self.now ≡ plain other.now) }
     {
-        same_warnings(&self.warnings, &other.warnings) && self.node.spanless_eq(&other.node)
+        same_warnings(self.node.warnings(), other.node.warnings())
+            && self.node.spanless_eq(&other.node)
     }
 }
 
@@ -87,13 +88,13 @@ impl Node {
     {
         match self {
             Node::Short(kind, text) => other.is_leaf_of(*kind, text.as_str()),
-            Node::Long(leaf) => other.is_leaf_of(leaf.kind, leaf.text.as_str()),
+            Node::Leaf(leaf) => other.is_leaf_of(leaf.kind, leaf.text.as_str()),
             Node::Inner(inner) => match other {
                 Node::Inner(other_inner) => {
                     same_kind(inner.kind, other_inner.kind)
                         && all_alike(&inner.children, &other_inner.children)
                 }
-                Node::Short(..) | Node::Long(_) | Node::Error(_) => false,
+                Node::Short(..) | Node::Leaf(_) | Node::Error(_) => false,
             },
             Node::Error(error) => match other {
                 Node::Error(other_error) => {
@@ -101,7 +102,7 @@ impl Node {
                         && error.message.as_str() == other_error.message.as_str()
                         && same_hints(&error.hints, &other_error.hints)
                 }
-                Node::Short(..) | Node::Long(_) | Node::Inner(_) => false,
+                Node::Short(..) | Node::Leaf(_) | Node::Inner(_) => false,
             },
         }
     }

@@ -17,18 +17,18 @@ impl SyntaxNode {
         ensures { self.new ≡ synthesized span self.old }
     {
         match &mut self.node {
-            Node::Short(..) | Node::Long(_) => {
+            Node::Short(..) => self.span = span,
+            Node::Leaf(leaf) => {
                 self.span = span;
-                make_whole(&mut self.warnings);
+                make_whole(&mut leaf.warnings);
             }
             Node::Error(error) => {
                 self.span = span;
-                make_whole(&mut self.warnings);
+                make_whole(&mut error.warnings);
                 make_hints_whole(&mut error.hints);
             }
             Node::Inner(inner) => {
                 self.span = span;
-                make_whole(&mut self.warnings);
                 inner.synthesize_below(span);
             }
         }
@@ -42,9 +42,11 @@ impl InnerNode {
         ensures measured { IsMeasured self.new }
         ensures kind { self.new.kind ≡ self.old.kind }
         ensures upper { self.new.upper ≡ span.low }
+        ensures warnings { shown_warnings self.new.warnings.items ≡ map whole_warning (shown_warnings self.old.warnings.items) }
         ensures children { self.new.children.items ≡ map (synthesized span) self.old.children.items }
     {
         self.upper = span.number();
+        make_whole(&mut self.warnings);
         for child in self.children.iter_mut() {
             child.synthesize(span);
         }

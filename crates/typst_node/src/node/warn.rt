@@ -1,13 +1,13 @@
 // Errors, warnings and hints.
-ghost use Rattle.std.specs.Prelude.{◌≡◌, ◌<◌, ◌∷◌, ◌++◌, ◌↔◌, [], map, None, string_bytes, vec_len, IfOk, IsTrue, OnErr, OnOk};
+ghost use Rattle.std.specs.Prelude.{◌≡◌, ◌<◌, ◌∷◌, ◌++◌, ◌↔◌, [], length, map, None, string_bytes, vec_len, IfOk, IsTrue, OnErr, OnOk};
 ghost use Rattle.typst_node.specs.Hints.{error_tree, hint_for, hint_outermost, hinted, plain_hints, CanHint};
 ghost use Rattle.typst_node.specs.Warnings.{part_for, warned, warning, FitsRange};
-ghost use Rattle.typst_node.specs.View.{hint_text, shown_warnings};
+ghost use Rattle.typst_node.specs.View.{below, content, hint_text, shown_warnings, warning_text, warnings_in, IsKept};
 
-use crate::node::{ErrorNode, Hint, Node, SyntaxNode, Warning};
+use crate::node::{ErrorNode, Hint, LeafNode, Node, SyntaxNode, Warning};
 use std::alloc::{AllocError, Global};
 use std::ops::Range;
-use typst_base::{Span, SubRange};
+use typst_base::{Span, SubRange, SyntaxKind};
 
 /// # Making errors
 impl SyntaxNode {
@@ -33,11 +33,11 @@ impl SyntaxNode {
             text,
             message,
             hints: Vec::new(alloc),
+            warnings: Vec::new(alloc),
         };
         Ok(SyntaxNode {
             node: Node::Error(Box::new(alloc, error)?),
             span: Span::detached(),
-            warnings: Vec::new(alloc),
         })
     }
 }
@@ -82,12 +82,12 @@ impl SyntaxNode {
         ensures err { OnErr result (self.new ≡ self.old) }
     {
         let message = String::from_str(alloc, message)?;
-        self.warnings.push(Warning {
+        let warning = Warning {
             sub_range,
             message,
             hints: Vec::new(alloc),
-        })?;
-        Ok(())
+        };
+        self.node.push_warning(alloc, warning)
     }
 
     /// Whether a range of the node's bytes can be the part that a warning or a hint is about: it isn't empty, ends
@@ -108,7 +108,7 @@ impl SyntaxNode {
     pub fn can_hint(&self) -> bool
         ensures { IsTrue result ↔ CanHint self.now.label }
     {
-        !self.warnings.is_empty() || matches!(&self.node, Node::Error(_))
+        !self.node.warnings().is_empty() || matches!(&self.node, Node::Error(_))
     }
 
     /// Adds a hint with a copy of the text. The test of the condition is `can_hint`.
@@ -179,13 +179,81 @@ impl SyntaxNode {
         ensures ok { OnOk result (self.new ≡ hinted (hint_text hint ∷ []) self.old) }
         ensures err { OnErr result (self.new ≡ self.old) }
     {
-        if !self.warnings.is_empty() {
-            return hint_last(&mut self.warnings, hint);
+        if !self.node.warnings().is_empty() {
+            return self.node.hint_outermost(hint);
         }
         match &mut self.node {
             Node::Error(error) => error.push_hint(hint),
-            Node::Short(..) | Node::Long(_) | Node::Inner(_) => unreachable!(),
+            Node::Short(..) | Node::Leaf(_) | Node::Inner(_) => unreachable!(),
         }
+    }
+}
+
+impl Node {
+    /// Puts one more warning round the node, outside those that it has. A short leaf gets a list for it.
+    #[tactic(auto, using(crate::proofs::Measured::measured_under))]
+    fn push_warning(&mut self, alloc: Global, warning: Warning) -> Result<(), AllocError>
+        requires { IsKept self.old }
+        ensures kept { IsKept self.new }
+        ensures content { content self.new ≡ content self.old }
+        ensures below { below self.new ≡ below self.old }
+        ensures ok { OnOk result (shown_warnings (warnings_in self.new)
+            ≡ warning_text warning ∷ shown_warnings (warnings_in self.old)) }
+        ensures err { OnErr result (shown_warnings (warnings_in self.new) ≡ shown_warnings (warnings_in self.old)) }
+    {
+        match self {
+            Node::Short(kind, text) => {
+                let leaf = LeafNode::warned(alloc, *kind, text.as_str(), warning)?;
+                *self = Node::Leaf(Box::new(alloc, leaf)?);
+                Ok(())
+            }
+            Node::Leaf(leaf) => warn_last(&mut leaf.warnings, warning),
+            Node::Inner(inner) => warn_last(&mut inner.warnings, warning),
+            Node::Error(error) => warn_last(&mut error.warnings, warning),
+        }
+    }
+
+    /// Adds a hint after those of the outermost warning.
+    #[tactic(auto, using(crate::proofs::Measured::measured_under))]
+    fn hint_outermost(&mut self, hint: Hint) -> Result<(), AllocError>
+        requires kept { IsKept self.old }
+        requires warned { 0 < length (warnings_in self.old) }
+        ensures kept { IsKept self.new }
+        ensures content { content self.new ≡ content self.old }
+        ensures below { below self.new ≡ below self.old }
+        ensures ok { OnOk result (shown_warnings (warnings_in self.new)
+            ≡ hint_outermost (hint_text hint ∷ []) (shown_warnings (warnings_in self.old))) }
+        ensures err { OnErr result (shown_warnings (warnings_in self.new) ≡ shown_warnings (warnings_in self.old)) }
+    {
+        match self {
+            Node::Short(..) => unreachable!(),
+            Node::Leaf(leaf) => hint_last(&mut leaf.warnings, hint),
+            Node::Inner(inner) => hint_last(&mut inner.warnings, hint),
+            Node::Error(error) => hint_last(&mut error.warnings, hint),
+        }
+    }
+}
+
+impl LeafNode {
+    /// A leaf under one warning, with a copy of the text.
+    fn warned(
+        alloc: Global,
+        kind: SyntaxKind,
+        text: &str,
+        warning: Warning,
+    ) -> Result<LeafNode, AllocError>
+        ensures kind { IfOk result (λ n. n.kind ≡ kind) }
+        ensures text { IfOk result (λ n. string_bytes n.text ≡ text.now) }
+        ensures warnings { IfOk result (λ n. n.warnings.items ≡ warning ∷ []) }
+    {
+        let text = String::from_str(alloc, text)?;
+        let mut warnings = Vec::with_capacity(alloc, 1)?;
+        warnings.push(warning)?;
+        Ok(LeafNode {
+            kind,
+            text,
+            warnings,
+        })
     }
 }
 
@@ -194,12 +262,23 @@ impl ErrorNode {
     fn push_hint(&mut self, hint: Hint) -> Result<(), AllocError>
         ensures text { self.new.text ≡ self.old.text }
         ensures message { self.new.message ≡ self.old.message }
+        ensures warnings { self.new.warnings ≡ self.old.warnings }
         ensures ok { OnOk result (self.new.hints.items ≡ self.old.hints.items ++ hint ∷ []) }
         ensures err { OnErr result (self.new.hints.items ≡ self.old.hints.items) }
     {
         self.hints.push(hint)?;
         Ok(())
     }
+}
+
+/// Adds a warning after the others, outside them.
+fn warn_last(warnings: &mut Vec<Warning>, warning: Warning) -> Result<(), AllocError>
+    ensures ok { OnOk result (shown_warnings warnings.new.items
+        ≡ warning_text warning ∷ shown_warnings warnings.old.items) }
+    ensures err { OnErr result (shown_warnings warnings.new.items ≡ shown_warnings warnings.old.items) }
+{
+    warnings.push(warning)?;
+    Ok(())
 }
 
 /// Adds a hint after those of the last warning, which is the outermost one.

@@ -102,12 +102,12 @@ SyntaxNode::replace_below-replace_in-result-requires t c =
 pub SyntaxNode::replace_below-returns-in-Inner-clause-frame : goal.SyntaxNode::replace_below-returns-in-Inner-clause-frame
 SyntaxNode::replace_below-returns-in-Inner-clause-frame t c =
     let kids : trees c.args.self.now.children ≡ c.deref_mut.result.now.children.items = inner_kids c.self.inside c.in-Inner.inner c.args.self.now c.in-Inner.is c.self.view_is ∙ sym (ap (λ b. b.children.items) c.deref_mut.ensures.value) in
-    let same = inner_label c.self.inside c.in-Inner.inner c.args.self.now c.in-Inner.is c.self.view_is c.replace_in-result.new.self (c.replace_in-result.ensures.kind ∙ ap (λ b. b.kind) c.deref_mut.ensures.value) (c.replace_in-result.ensures.upper ∙ ap (λ b. b.upper) c.deref_mut.ensures.value) in
-    frame_cons c.args.path.now c.in-Some.index.now c.in-Some.rest.now c.args.self.now (tree_of record { node = Inner (with_value c.in-Inner.inner c.replace_in-result.new.self); span = c.self.inside.span; warnings = c.self.inside.warnings })
+    let same = inner_label c.self.inside c.in-Inner.inner c.args.self.now c.in-Inner.is c.self.view_is c.replace_in-result.new.self (c.replace_in-result.ensures.kind ∙ ap (λ b. b.kind) c.deref_mut.ensures.value) (c.replace_in-result.ensures.upper ∙ ap (λ b. b.upper) c.deref_mut.ensures.value) (c.replace_in-result.ensures.warnings ∙ ap (λ b. b.warnings) c.deref_mut.ensures.value) in
+    frame_cons c.args.path.now c.in-Some.index.now c.in-Some.rest.now c.args.self.now (tree_of record { node = Inner (with_value c.in-Inner.inner c.replace_in-result.new.self); span = c.self.inside.span })
     c.deref_mut.result.now.children.items c.replace_in-result.new.self.children.items c.in-Some.ensures.cases.0 kids same refl c.replace_in-result.ensures.frame
 
 pub SyntaxNode::replace_below-returns-in-Inner-clause-at : goal.SyntaxNode::replace_below-returns-in-Inner-clause-at
 SyntaxNode::replace_below-returns-in-Inner-clause-at t c =
     let kids : trees c.args.self.now.children ≡ c.deref_mut.result.now.children.items = inner_kids c.self.inside c.in-Inner.inner c.args.self.now c.in-Inner.is c.self.view_is ∙ sym (ap (λ b. b.children.items) c.deref_mut.ensures.value) in
-    at_cons c.args.path.now c.in-Some.index.now c.in-Some.rest.now c.args.range.start c.args.range.end c.args.replacement.items c.args.self.now (tree_of record { node = Inner (with_value c.in-Inner.inner c.replace_in-result.new.self); span = c.self.inside.span; warnings = c.self.inside.warnings })
+    at_cons c.args.path.now c.in-Some.index.now c.in-Some.rest.now c.args.range.start c.args.range.end c.args.replacement.items c.args.self.now (tree_of record { node = Inner (with_value c.in-Inner.inner c.replace_in-result.new.self); span = c.self.inside.span })
     c.deref_mut.result.now.children.items c.replace_in-result.new.self.children.items c.replace_in-result.result c.in-Some.ensures.cases.0 kids refl c.replace_in-result.ensures.at

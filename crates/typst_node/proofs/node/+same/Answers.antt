@@ -1,7 +1,7 @@
 use Rattle.std.proofs.Common.{◌≡◌, arith, ap, sym, ◌∙◌, rules, map, length}
 use Rattle.typst_node.specs.Tree.{Tree}
 use Rattle.typst_node.specs.Count.{count}
-use Rattle.typst_node.specs.View.{warning_text, tree_of}
+use Rattle.typst_node.specs.View.{warning_text, warnings_in, tree_of}
 use Rattle.typst_node.proofs.Same.{whole_same, same_warning_texts, same_below, equal_more, equal_at}
 use Rattle.typst_node.proofs.Trees.{count_at}
 use Rattle.typst_node.proofs.node.+same.Goals as goal
@@ -37,7 +37,7 @@ SyntaxNode::same-returns-then-same_warnings t c = (
   λ h.
       let both = c.same.ensures.0 h in
       let span : c.self.inside.span ≡ c.other.inside.span = c.if-not-same_span.ensures.0 (search rules) in
-      let warned : map warning_text c.self.inside.warnings.items ≡ map warning_text c.other.inside.warnings.items = ap (map warning_text) (sym c.deref.ensures.value) ∙ (c.same_warnings.ensures.0 (search rules) ∙ ap (map warning_text) c.deref-2.ensures.value) in
+      let warned : map warning_text (warnings_in c.self.inside.node) ≡ map warning_text (warnings_in c.other.inside.node) = ap (map warning_text) (sym c.warnings.ensures) ∙ (c.same_warnings.ensures.0 (search rules) ∙ ap (map warning_text) c.warnings-2.ensures) in
       sym c.self.view_is ∙ (whole_same c.self.inside c.other.inside span warned both.0 both.1 ∙ c.other.view_is),
   λ e.
       let same : tree_of c.self.inside ≡ tree_of c.other.inside = c.self.view_is ∙ (e ∙ sym c.other.view_is) in
@@ -49,5 +49,5 @@ SyntaxNode::same-returns-else-same_warnings t c = (
   λ h. cc,
   λ e.
       let same : tree_of c.self.inside ≡ tree_of c.other.inside = c.self.view_is ∙ (e ∙ sym c.other.view_is) in
-      c.same_warnings.ensures.1 (ap (map warning_text) c.deref.ensures.value ∙ (same_warning_texts c.self.inside c.other.inside same ∙ sym (ap (map warning_text) c.deref-2.ensures.value))),
+      c.same_warnings.ensures.1 (ap (map warning_text) c.warnings.ensures ∙ (same_warning_texts c.self.inside c.other.inside same ∙ sym (ap (map warning_text) c.warnings-2.ensures))),
 )

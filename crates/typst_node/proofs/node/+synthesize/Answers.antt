@@ -2,7 +2,8 @@ use Rattle.std.proofs.Common.{◌≡◌, map, get_or, refl, ap, sym, ◌∙◌, 
 use Rattle.std.proofs.Math.Seq.{map-set_same}
 use Rattle.std.proofs.lemmas.List.{with_items_is}
 use Rattle.typst_node.specs.Count.{count_of_all}
-use Rattle.typst_node.specs.Synthesized.{synthesized}
+use Rattle.typst_node.specs.Synthesized.{synthesized, whole_warning}
+use Rattle.typst_node.specs.View.{shown_warnings}
 use Rattle.typst_node.proofs.Each.{each_next, each_all, map_same}
 use Rattle.typst_node.proofs.Relabelled.{relabelled, measured_by_relabelled, same_count}
 use Rattle.typst_node.proofs.SynthesizedLemmas.{bare, bare_keeps, bare_of, synthesized_inner}
@@ -39,5 +40,5 @@ InnerNode::synthesize_below-returns-clause-children t c =
 pub SyntaxNode::synthesize-returns-in-Inner : goal.SyntaxNode::synthesize-returns-in-Inner
 SyntaxNode::synthesize-returns-in-Inner t c =
     synthesized_inner c.args.span c.self.inside c.in-Inner.inner c.args.self.now c.synthesize_below.new.self _ c.in-Inner.is c.self.view_is
-    (c.synthesize_below.ensures.kind ∙ ap (λ x. x.kind) c.deref_mut-in-Inner.ensures.value) c.synthesize_below.ensures.upper c.make_whole-in-Inner.ensures
+    (c.synthesize_below.ensures.kind ∙ ap (λ x. x.kind) c.deref_mut-in-Inner.ensures.value) c.synthesize_below.ensures.upper (c.synthesize_below.ensures.warnings ∙ ap (λ x. map whole_warning (shown_warnings x.warnings.items)) c.deref_mut-in-Inner.ensures.value)
     (c.synthesize_below.ensures.children ∙ ap (λ x. map (synthesized c.args.span) x.children.items) c.deref_mut-in-Inner.ensures.value)

@@ -85,7 +85,7 @@ pub returns-in-Inner-clause-plain : goal.returns-in-Inner-clause-plain
 returns-in-Inner-clause-plain c =
     IfOk_weaker c.replace-result.result c.replace-result.ensures.plain
     (λ r h is. inner_edited c.self.inside c.in-Inner.inner c.args.self.now c.in-Inner.is c.self.view_is c.replace-result.new.self c.args.range.start c.args.range.end c.args.replacement.items
-    (c.replace-result.ensures.kind ∙ ap (λ b. b.kind) c.deref_mut.ensures.value) (c.replace-result.ensures.upper ∙ ap (λ b. b.upper) c.deref_mut.ensures.value)
+    (c.replace-result.ensures.kind ∙ ap (λ b. b.kind) c.deref_mut.ensures.value) (c.replace-result.ensures.upper ∙ ap (λ b. b.upper) c.deref_mut.ensures.value) (c.replace-result.ensures.warnings ∙ ap (λ b. b.warnings) c.deref_mut.ensures.value)
     (h ∙ ap (λ b. map plain (splice b.children.items c.args.range.start c.args.range.end c.args.replacement.items)) c.deref_mut.ensures.value))
 
 pub returns-in-Inner-clause-numbered : goal.returns-in-Inner-clause-numbered
@@ -100,7 +100,7 @@ returns-in-Inner-clause-numbered c =
     let at : site_among (c.number-number.result + 1) c.deref_mut.result.now.upper a b ys c.deref_mut.result.now.children.items ≡ site_of a b ys c.args.self.now = λ i. site_among (sym num i + 1) (sym up i) a b ys (sym kids i) in
     let file : c.args.self.now.label.span.file ≡ c.self.inside.span.file = inner_file c.self.inside c.in-Inner.inner c.args.self.now c.in-Inner.is c.self.view_is in
     let same = inner_label c.self.inside c.in-Inner.inner c.args.self.now c.in-Inner.is c.self.view_is c.replace-result.new.self
-    (c.replace-result.ensures.kind ∙ ap (λ b. b.kind) c.deref_mut.ensures.value) (c.replace-result.ensures.upper ∙ ap (λ b. b.upper) c.deref_mut.ensures.value) in
+    (c.replace-result.ensures.kind ∙ ap (λ b. b.kind) c.deref_mut.ensures.value) (c.replace-result.ensures.upper ∙ ap (λ b. b.upper) c.deref_mut.ensures.value) (c.replace-result.ensures.warnings ∙ ap (λ b. b.warnings) c.deref_mut.ensures.value) in
     IfOk_weaker c.replace-result.result c.replace-result.ensures.within
-    (λ r h is. numbered_after c.id-id.result c.args.self.now (tree_of record { node = Inner (with_value c.in-Inner.inner c.replace-result.new.self); span = c.self.inside.span; warnings = c.self.inside.warnings }) c.number-number.result c.deref_mut.result.now.upper
+    (λ r h is. numbered_after c.id-id.result c.args.self.now (tree_of record { node = Inner (with_value c.in-Inner.inner c.replace-result.new.self); span = c.self.inside.span }) c.number-number.result c.deref_mut.result.now.upper
     (rw (← file) at c.id-id.ensures) c.requires.numbered num up same h)
