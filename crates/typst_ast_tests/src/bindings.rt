@@ -39,18 +39,6 @@ fn a_let_binding_binds_the_names_of_its_parts_in_order(rt: HostRuntime) -> Resul
 }
 
 #[test]
-fn a_pattern_and_its_destructuring_bind_the_same_names(rt: HostRuntime) -> Result<(), Fail> {
-    let tree = drawn(rt.alloc(), PARTS)?;
-    let pattern = cast::<Pattern>(&tree)?;
-    let names = joined(rt.alloc(), pattern.bindings(rt.alloc())?)?;
-    assert_eq!(rt; names.as_str(), "a,c,d,");
-    let view = cast::<of::Destructuring>(&tree)?;
-    let names = joined(rt.alloc(), view.bindings(rt.alloc())?)?;
-    assert_eq!(rt; names.as_str(), "a,c,d,");
-    Ok(())
-}
-
-#[test]
 fn a_run_of_edits_changes_what_a_binding_binds(rt: HostRuntime) -> Result<(), Fail> {
     let mut tree = binding(rt.alloc())?;
     let file = FileId::new(1).ok_or("no file")?;
@@ -85,19 +73,6 @@ fn a_group_binds_what_it_holds(rt: HostRuntime) -> Result<(), Fail> {
     // By hand the group can be made an expression, which binds nothing.
     let by_hand = Pattern::Normal(Expr::Parenthesized(cast::<of::Parenthesized>(&tree)?));
     assert!(rt; by_hand.bindings(rt.alloc())?.is_empty());
-    Ok(())
-}
-
-#[test]
-fn a_closure_is_bound_by_its_name(rt: HostRuntime) -> Result<(), Fail> {
-    let tree = drawn(
-        rt.alloc(),
-        "LetBinding[ Closure[ Ident:f Params[ ] Int:1 ] ]",
-    )?;
-    let kind = cast::<of::LetBinding>(&tree)?.kind();
-    assert!(rt; matches!(kind, LetBindingKind::Closure(_)));
-    let names = joined(rt.alloc(), kind.bindings(rt.alloc())?)?;
-    assert_eq!(rt; names.as_str(), "f,");
     Ok(())
 }
 

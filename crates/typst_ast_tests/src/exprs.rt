@@ -55,22 +55,6 @@ fn markup_is_read_from_both_ends(rt: HostRuntime) -> Result<(), Fail> {
 }
 
 #[test]
-fn math_keeps_all_spaces(rt: HostRuntime) -> Result<(), Fail> {
-    let tree = spaced(rt.alloc(), SyntaxKind::Math)?;
-    let mut exprs = cast::<of::Math>(&tree)?.exprs();
-    let first = exprs.next().ok_or("no space")?;
-    assert!(rt; matches!(first, Expr::Space(_)));
-    let last = exprs.next_back().ok_or("no text")?;
-    assert!(rt; matches!(last, Expr::Text(_)));
-    let space = exprs.next_back().ok_or("no second space")?;
-    assert!(rt; matches!(space, Expr::Space(_)) && text(space) == "  ");
-    let binding = exprs.next().ok_or("no binding")?;
-    assert!(rt; matches!(binding, Expr::LetBinding(_)));
-    assert!(rt; exprs.next().is_none());
-    Ok(())
-}
-
-#[test]
 fn a_placeholder_of_an_expression_is_none(rt: HostRuntime) {
     let blank = Expr::placeholder();
     assert!(rt; matches!(blank, Expr::None(_)));
@@ -78,11 +62,4 @@ fn a_placeholder_of_an_expression_is_none(rt: HostRuntime) {
     assert!(rt; blank.to_untyped().is_none());
     assert!(rt; blank.span().is_detached());
     assert!(rt; blank.is_literal() && blank.hash());
-}
-
-#[test]
-fn a_space_is_no_expression_by_itself(rt: HostRuntime) -> Result<(), Fail> {
-    let space = drawn(rt.alloc(), "Space:~")?;
-    assert!(rt; space.cast::<Expr>().is_none() && !space.is::<Expr>());
-    Ok(())
 }

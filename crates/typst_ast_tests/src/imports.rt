@@ -1,7 +1,7 @@
-use crate::trees::{cast, drawn, hollow, text};
+use crate::trees::{cast, drawn, hollow};
 use std::alloc::{AllocError, Global};
 use std::test::Fail;
-use typst_ast::{BareImportError, Imports, file_stem, views as of};
+use typst_ast::{BareImportError, file_stem, views as of};
 use typst_base::SyntaxKind;
 use typst_node::{AstNode, SyntaxNode};
 
@@ -90,45 +90,5 @@ fn errors_are_shown_by_their_names(rt: HostRuntime) -> Result<(), Fail> {
     for (error, shown) in rows {
         assert_eq!(rt; format!(in rt.alloc(); "{error:?}")?.as_str(), shown);
     }
-    Ok(())
-}
-
-#[test]
-fn a_name_or_a_field_names_its_module(rt: HostRuntime) -> Result<(), Fail> {
-    let tree = import(rt.alloc(), "Ident:x")?;
-    let view = cast::<of::ModuleImport>(&tree)?;
-    let name = view.bare_name(rt.alloc(), |_: &str| false, |_: &str| Ok(None))?;
-    assert!(rt; name.is_ok_and(|name| name.as_str() == "x"));
-    let tree = import(rt.alloc(), "FieldAccess[ Ident:a Dot:. Ident:b ]")?;
-    let view = cast::<of::ModuleImport>(&tree)?;
-    let name = view.bare_name(rt.alloc(), |_: &str| false, |_: &str| Ok(None))?;
-    assert!(rt; name.is_ok_and(|name| name.as_str() == "b"));
-    Ok(())
-}
-
-#[test]
-fn an_import_may_be_renamed(rt: HostRuntime) -> Result<(), Fail> {
-    let tree = drawn(rt.alloc(), "ModuleImport[ Ident:x As:as Ident:y Star:* ]")?;
-    let view = cast::<of::ModuleImport>(&tree)?;
-    assert_eq!(rt; text(view.source()), "x");
-    assert!(rt; view.new_name().is_some_and(|name| name.get() == "y"));
-    assert!(rt; matches!(view.imports(), Some(Imports::Wildcard)));
-    Ok(())
-}
-
-#[test]
-fn the_first_imports_count(rt: HostRuntime) -> Result<(), Fail> {
-    let tree = drawn(
-        rt.alloc(),
-        "ModuleImport[ ImportItems[ ImportItemPath:a ] Star:* ]",
-    )?;
-    let view = cast::<of::ModuleImport>(&tree)?;
-    assert!(rt; matches!(view.imports(), Some(Imports::Items(_))));
-    assert!(rt; view.new_name().is_none());
-    let tree = drawn(rt.alloc(), "ModuleInclude[ Str:\"a.typ\" ]")?;
-    assert_eq!(rt;
-        text(cast::<of::ModuleInclude>(&tree)?.source()),
-        "\"a.typ\""
-    );
     Ok(())
 }

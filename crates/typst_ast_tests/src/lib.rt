@@ -12,13 +12,7 @@ mod exprs;
 #[cfg(test)]
 mod imports;
 #[cfg(test)]
-mod markup;
-#[cfg(test)]
 mod math;
-#[cfg(test)]
-mod missing_code;
-#[cfg(test)]
-mod missing_markup;
 #[cfg(test)]
 mod no_parser_makes;
 pub mod trees;

@@ -223,7 +223,7 @@ pub fn find_among_thousand(alloc: Global, requests: Requests) -> Result<End, Sto
         leaves.push(if index % 100 == 0 {
             SyntaxNode::leaf(alloc, SyntaxKind::Text, "x")?
         } else {
-            SyntaxNode::placeholder(SyntaxKind::Space)
+            SyntaxNode::placeholder(alloc, SyntaxKind::Space)
         })?;
     }
     let tree = SyntaxNode::inner(alloc, SyntaxKind::Markup, leaves)?;

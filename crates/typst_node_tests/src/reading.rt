@@ -104,7 +104,7 @@ fn nodes_are_read(rt: HostRuntime) -> Result<(), Fail> {
 
 #[test]
 fn a_placeholder_is_an_empty_leaf(rt: HostRuntime) -> Result<(), Fail> {
-    let leaf = SyntaxNode::placeholder(SyntaxKind::Space);
+    let leaf = SyntaxNode::placeholder(rt.alloc(), SyntaxKind::Space);
     assert!(rt; leaf.kind() == SyntaxKind::Space && leaf.is_empty());
     assert!(rt; leaf == drawn(rt.alloc(), "Space:")?);
     assert!(rt; SyntaxNode::default() == drawn(rt.alloc(), "End:")?);

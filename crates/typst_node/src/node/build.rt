@@ -64,9 +64,9 @@ impl SyntaxNode {
         })
     }
 
-    /// A detached leaf with an empty text. It takes no memory.
+    /// A detached leaf with an empty text. It takes the allocator as each call that makes a node does, and no memory.
     /// The test of the condition is `SyntaxKind::is_error`.
-    pub fn placeholder(kind: SyntaxKind) -> SyntaxNode
+    pub fn placeholder(_alloc: Global, kind: SyntaxKind) -> SyntaxNode
         requires { kind ≢ Error }
         ensures { result ≡ leaf_tree kind [] }
     {
@@ -115,6 +115,9 @@ impl Default for SyntaxNode {
     ghost is_default = { λ node. node ≡ leaf_tree End [] };
 
     fn default() -> Self {
-        SyntaxNode::placeholder(SyntaxKind::End)
+        SyntaxNode {
+            node: Node::Short(SyntaxKind::End, ShortText::new("")),
+            span: Span::detached(),
+        }
     }
 }
