@@ -1,6 +1,7 @@
 ghost use Rattle.std.specs.Prelude.{◌≢◌};
 ghost use Rattle.typst_base.specs.declared.kind.SyntaxKind.TheVariants as kinds;
 
+use crate::trees::cast;
 use std::alloc::Global;
 use std::test::Fail;
 use typst_atoms::{
@@ -60,6 +61,22 @@ fn views_tell_node_kind_and_span(rt: HostRuntime) -> Result<(), Fail> {
     assert!(rt; view.kind() == SyntaxKind::Ident);
     assert!(rt; view.span() == node.span());
     assert!(rt; of::Ident::placeholder().span().is_detached());
+    Ok(())
+}
+
+// What line ends are, a caller says; the comparison has one reader for all its trees.
+#[test]
+fn a_block_of_raw_text_asks_its_reader_what_ends_a_line(rt: HostRuntime) -> Result<(), Fail> {
+    let open = SyntaxNode::leaf(rt.alloc(), SyntaxKind::RawDelim, "```")?;
+    let trimmed = SyntaxNode::leaf(rt.alloc(), SyntaxKind::RawTrimmed, "x\n")?;
+    let children = vec![in rt.alloc(); open, trimmed]?;
+    let node = SyntaxNode::inner(rt.alloc(), SyntaxKind::Raw, children)?;
+    let view = cast::<of::Raw>(&node)?;
+    for (line_end, block) in [('\n', true), ('x', true), ('y', false)] {
+        assert_eq!(rt; view.block(|c| c == line_end), block, "{line_end}");
+    }
+    assert!(rt; !view.block(|_| false));
+    assert!(rt; !of::Raw::placeholder().block(|_| true));
     Ok(())
 }
 

@@ -109,6 +109,14 @@ fn errors_and_warnings_are_listed(rt: HostRuntime) -> Result<(), Fail> {
     Ok(())
 }
 
+#[test]
+fn a_warning_about_a_part_has_its_nodes_number(rt: HostRuntime) -> Result<(), Fail> {
+    let tree = numbered(rt.alloc(), "Text:ab ^0..1@m", 4..6)?;
+    let said = listed(rt.alloc(), &tree)?;
+    assert_eq!(rt; said.as_str(), "| warning m at 1/5:0..1 ");
+    Ok(())
+}
+
 /// Whether the tree's errors are equal to their clones, and what these are, in words.
 fn cloned(alloc: Global, tree: &SyntaxNode) -> Result<String, AllocError> {
     let (errors, _warnings) = tree.errors_and_warnings(alloc)?;

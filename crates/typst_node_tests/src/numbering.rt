@@ -13,7 +13,7 @@ type Row = (
     &'static str,
 );
 
-const NUMBERINGS: [Row; 10] = [
+const NUMBERINGS: [Row; 11] = [
     (
         "a new tree has no numbers",
         "Markup[ Text:ab Text:c ]",
@@ -67,6 +67,12 @@ const NUMBERINGS: [Row; 10] = [
         "Markup[ Strong[ !m:# ] Text:c ]",
         &[(2, 18)],
         "done 3..18[4..8[5..6] 9..10] numbered",
+    ),
+    (
+        "a warning takes no number",
+        "Strong[ Text:abcd ] ^0..4@m",
+        &[(2, 100)],
+        "done 14..100[38..39] numbered",
     ),
     (
         "eight leaves within the fewest numbers for a second stride",

@@ -261,7 +261,7 @@ fn replacements_are_numbered_within_windows(rt: HostRuntime) -> Result<(), Fail>
     Ok(())
 }
 
-/// The words for what a tree that isn't numbered answers.
+/// The words for what a tree that isn't numbered answers. It doesn't change.
 fn edit_detached(
     alloc: Global,
     drawing: &str,
@@ -274,6 +274,9 @@ fn edit_detached(
     }
     let before = tree.clone()?;
     let answer = tree.replace_children(alloc, range, drawn_all(alloc, others)?);
+    if tree != before {
+        return Err(DrawingError::Nodes);
+    }
     answered(alloc, &answer, &tree, &before)
 }
 
@@ -293,9 +296,11 @@ fn a_replacement_is_numbered_for_the_trees_file(rt: HostRuntime) -> Result<(), F
     let mut other = drawn(alloc, "Text:x")?;
     let two = FileId::new(2).ok_or("no file")?;
     assert!(rt; other.numberize(two, 2..100).is_ok());
+    let before = tree.clone()?;
     assert!(rt; tree.is_numbered() && tree.edit_fits(&[], 1..1));
     let done = tree.replace_children(alloc, 1..1, vec![in alloc; other]?);
-    assert!(rt; done.is_ok());
+    let said = answered(alloc, &done, &tree, &before)?;
+    assert_eq!(rt; said.as_str(), "window 0..3 tried 2 <abxc>");
     assert_eq!(rt; labels(alloc, &tree)?.as_str(), "3..14[4..5 5..6 6..7]");
     assert!(rt; is_of(&tree, FileId::new(1)));
     Ok(())

@@ -1,5 +1,6 @@
 // Spans that synthesis gives.
 use crate::diagnostics::listed;
+use crate::numbering::is_of;
 use std::alloc::{AllocError, Global};
 use std::test::Fail;
 use typst_base::{FileId, RangeMapper, Span, SpanKind};
@@ -12,6 +13,7 @@ fn synthesis_gives_one_span(rt: HostRuntime) -> Result<(), Fail> {
     let mut tree = numbered(alloc, "Markup[ Text:ab Text:c ^0..1@m +0..1@h ]", 2..14)?;
     tree.synthesize(Span::detached());
     assert_eq!(rt; labels(alloc, &tree)?.as_str(), "1..1[1..2 1..2]");
+    assert!(rt; is_of(&tree, None));
     assert_eq!(rt;
         listed(alloc, &tree)?.as_str(),
         "| warning m at - hint h at - "
