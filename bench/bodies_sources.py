@@ -27,7 +27,7 @@ class Function:
     subject: str  # the type of its impl block; empty of a free function
     name: str
     start: int
-    body: int  # the offset right behind the `{`
+    body: int  # the offset right after the `{`
     end: int
     cycle: str
 
@@ -92,7 +92,7 @@ def blanked(text):
 
 
 def closing(text, at):
-    """The offset behind the `}` of the `{` at this place."""
+    """The offset after the `}` of the `{` at this place."""
     depth = 0
     for it in re.compile(r"[{}]").finditer(text, at):
         depth += 1 if it[0] == "{" else -1
@@ -102,7 +102,7 @@ def closing(text, at):
 
 
 def body_of(text, at):
-    """The offset of the `{` of the body of the function whose head goes on here, behind its clauses; none for a bare signature."""
+    """The offset of the `{` of the body of the function whose head goes on here, after its clauses; none for a bare signature."""
     while True:
         brace, stop = text.find("{", at), text.find(";", at)
         if brace < 0 or 0 <= stop < brace:

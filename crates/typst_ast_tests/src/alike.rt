@@ -1,14 +1,15 @@
-use crate::trees::{cast, drawn};
+use crate::trees::cast;
 use std::alloc::Global;
 use std::test::Fail;
 use typst_ast::{is_alike, views as of};
 use typst_base::{FileId, SyntaxKind};
+use typst_drawn::drawn;
 use typst_node::{AstNode, SyntaxNode};
 
 // Strong content of a text.
 fn strong(alloc: Global, text: &str) -> Result<SyntaxNode, Fail> {
     let drawing = format!(in alloc; "Strong[ Markup[ Text:{text} ] ]")?;
-    drawn(alloc, drawing.as_str())
+    Ok(drawn(alloc, drawing.as_str())?)
 }
 
 #[test]

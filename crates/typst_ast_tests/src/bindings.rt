@@ -1,8 +1,9 @@
-use crate::trees::{cast, drawn, text};
+use crate::trees::{cast, text};
 use std::alloc::Global;
 use std::test::Fail;
 use typst_ast::{Expr, LetBindingKind, Pattern, views as of};
 use typst_base::{FileId, SyntaxKind};
+use typst_drawn::drawn;
 use typst_node::{AstNode, SyntaxNode};
 use typst_tree::ast;
 use typst_tree::session::{self, Reply, Request, Slot};
@@ -15,10 +16,10 @@ const PARTS: &str =
 // `let(a,b: c,..d)=v`.
 fn binding(alloc: Global) -> Result<SyntaxNode, Fail> {
     let drawing = format!(in alloc; "LetBinding[ Let:let {PARTS} Eq:= Ident:v ]")?;
-    drawn(alloc, drawing.as_str())
+    Ok(drawn(alloc, drawing.as_str())?)
 }
 
-// The names as one text, a comma behind each.
+// The names as one text, a comma after each.
 fn joined(alloc: Global, names: Vec<of::Ident>) -> Result<String, Fail> {
     let mut all = String::new(alloc);
     for name in &names {

@@ -1,9 +1,10 @@
-use crate::trees::{cast, drawn, shows, text};
+use crate::trees::{cast, shows, text};
 use std::test::Fail;
 use typst_ast::{
     Arg, ArrayItem, DestructuringItem, DictItem, Expr, LetBindingKind, Param, Pattern, views as of,
 };
 use typst_atoms::BinOp;
+use typst_drawn::drawn;
 
 #[test]
 fn not_in_is_one_operator(rt: HostRuntime) -> Result<(), Fail> {

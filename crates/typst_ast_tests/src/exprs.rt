@@ -1,14 +1,15 @@
-use crate::trees::{cast, drawn, text};
+use crate::trees::{cast, text};
 use std::alloc::Global;
 use std::test::Fail;
 use typst_ast::{Expr, views as of};
 use typst_base::SyntaxKind;
+use typst_drawn::drawn;
 use typst_node::{AstNode, SyntaxNode};
 
 // A node of this kind over a space, a binding, two spaces and a text.
 fn spaced(alloc: Global, kind: SyntaxKind) -> Result<SyntaxNode, Fail> {
     let drawing = format!(in alloc; "{kind:?}[ Space:~ LetBinding[ Let:let ] Space:~~ Text:a ]")?;
-    drawn(alloc, drawing.as_str())
+    Ok(drawn(alloc, drawing.as_str())?)
 }
 
 #[test]

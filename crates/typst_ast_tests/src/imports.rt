@@ -1,14 +1,15 @@
-use crate::trees::{cast, drawn, hollow};
+use crate::trees::cast;
 use std::alloc::{AllocError, Global};
 use std::test::Fail;
 use typst_ast::{BareImportError, file_stem, views as of};
 use typst_base::SyntaxKind;
+use typst_drawn::{drawn, hollow};
 use typst_node::{AstNode, SyntaxNode};
 
 // `import` and its source.
 fn import(alloc: Global, source: &str) -> Result<SyntaxNode, Fail> {
     let drawing = format!(in alloc; "ModuleImport[ Import:import {source} ]")?;
-    drawn(alloc, drawing.as_str())
+    Ok(drawn(alloc, drawing.as_str())?)
 }
 
 #[test]

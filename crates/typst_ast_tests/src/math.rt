@@ -1,15 +1,16 @@
-use crate::trees::{cast, drawn, text};
+use crate::trees::{cast, text};
 use std::alloc::Global;
 use std::test::Fail;
 use typst_ast::{Arg, Expr, MathArgItem, views as of};
+use typst_drawn::drawn;
 use typst_node::{AstNode, SyntaxNode};
 
 // `(`, `#`, `x`, `;`, `y`, `;` and `)`.
 fn arguments(alloc: Global) -> Result<SyntaxNode, Fail> {
-    drawn(
+    Ok(drawn(
         alloc,
         "MathArgs[ LeftParen:( Hash:# Ident:x Semicolon:; MathText:y Semicolon:; RightParen:) ]",
-    )
+    )?)
 }
 
 #[test]

@@ -1,10 +1,11 @@
 //! Trees that no parser makes: inner nodes without children, of kinds that are leaves or always have some.
-use crate::trees::{cast, hollow, is_missing};
+use crate::trees::{cast, is_missing};
 use std::alloc::Global;
 use std::test::Fail;
 use typst_ast::{Arg, ArrayItem, DestructuringItem, DictItem, Expr, Param, Pattern, views as of};
 use typst_atoms::{ImportItem, views as atoms};
 use typst_base::SyntaxKind;
+use typst_drawn::hollow;
 use typst_node::{AstNode, SyntaxNode};
 
 /// The kinds of literals.
@@ -18,7 +19,7 @@ const LITERALS: [SyntaxKind; 7] = [
     SyntaxKind::Str,
 ];
 
-/// The kinds of the other expressions that may stand behind a hash.
+/// The kinds of the other expressions that may stand after a hash.
 const AFTER_HASH: [SyntaxKind; 20] = [
     SyntaxKind::Ident,
     SyntaxKind::CodeBlock,
@@ -45,7 +46,7 @@ const AFTER_HASH: [SyntaxKind; 20] = [
 /// How many kinds are those of expressions.
 const EXPRESSIONS: usize = 60;
 
-/// The expression that a node is: its kind, whether it is a literal and whether it may stand behind a hash.
+/// The expression that a node is: its kind, whether it is a literal and whether it may stand after a hash.
 fn told(node: &SyntaxNode) -> Option<(SyntaxKind, bool, bool)> {
     let expr = node.cast::<Expr>()?;
     Some((expr.kind(), expr.is_literal(), expr.hash()))

@@ -1,8 +1,9 @@
-use crate::trees::{cast, hollow};
+use crate::trees::cast;
 use std::alloc::Global;
 use std::test::Fail;
 use typst_ast::{Expr, Pattern, views as of};
 use typst_base::SyntaxKind;
+use typst_drawn::hollow;
 use typst_node::AstNode;
 
 // How an expression of this kind shows itself, if nodes of the kind are expressions.

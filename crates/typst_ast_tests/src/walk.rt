@@ -1,16 +1,17 @@
-use crate::trees::{cast, drawn};
+use crate::trees::cast;
 use std::alloc::Global;
 use std::test::Fail;
 use typst_ast::Expr;
 use typst_ast::views::Markup;
+use typst_drawn::drawn;
 use typst_node::{AstNode, SyntaxNode};
 
 // `= Hi` and ` *there*`.
 fn document(alloc: Global) -> Result<SyntaxNode, Fail> {
-    drawn(
+    Ok(drawn(
         alloc,
         "Markup[ Heading[ HeadingMarker:= Markup[ Text:Hi ] ] Space:~ Strong[ Markup[ Text:there ] ] ]",
-    )
+    )?)
 }
 
 // A short walk over a tree by typed views: the texts of headings and of strong content.

@@ -1,7 +1,8 @@
-use crate::trees::{cast, hollow};
+use crate::trees::cast;
 use std::test::Fail;
 use typst_atoms::{ImportItem, views as of};
 use typst_base::SyntaxKind;
+use typst_drawn::hollow;
 use typst_node::AstNode;
 
 #[test]

@@ -1,13 +1,15 @@
 //! Trees from drawings.
-ghost use Rattle.std.specs.Prelude.{IfOk};
+ghost use Rattle.std.specs.Prelude.{◌≡◌, ◌≢◌, [], IfOk};
+ghost use Rattle.typst_base.specs.declared.kind.SyntaxKind.TheVariants.{Error};
 ghost use Rattle.typst_node.specs.Numbered.{IsNumbered};
+ghost use Rattle.typst_node.specs.Tree.{inner_tree};
 
 use crate::canvas::Canvas;
 use crate::error::DrawingError;
 use std::alloc::Global;
 use std::ops::Range;
-use typst_base::FileId;
-use typst_node::SyntaxNode;
+use typst_base::{FileId, SyntaxKind};
+use typst_node::{InnerError, SyntaxNode};
 
 /// The detached tree that a drawing of one node shows.
 ///
@@ -52,4 +54,12 @@ pub fn numbered(
     }
     tree.numberize(id, within)?;
     Ok(tree)
+}
+
+/// An inner node without children.
+pub fn hollow(alloc: Global, kind: SyntaxKind) -> Result<SyntaxNode, InnerError>
+    requires { kind ≢ Error }
+    ensures { IfOk result (λ node. node ≡ inner_tree kind []) }
+{
+    SyntaxNode::inner(alloc, kind, Vec::new(alloc))
 }

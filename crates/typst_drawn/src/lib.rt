@@ -6,7 +6,7 @@
 //! ```
 #![tactic(auto)]
 
-pub use drawing::{drawn, drawn_all, numbered};
+pub use drawing::{drawn, drawn_all, hollow, numbered};
 pub use error::DrawingError;
 pub use words::{labels, sizes};
 

@@ -10,7 +10,7 @@ use typst_tree::session::{self, Reply, Request, Slot};
 /// A request as it is written in a table.
 #[derive(Clone, Copy)]
 pub enum Asked {
-    /// A path, the first child to be replaced, the first behind those, and what comes for them.
+    /// A path, the first child to be replaced, the first after those, and what comes for them.
     Replace(&'static [usize], usize, usize, &'static [Step]),
     /// A number.
     Find(u64),

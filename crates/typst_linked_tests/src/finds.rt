@@ -15,7 +15,7 @@ const AROUND_NOTHING: &str = "Markup[ Text:ab Markup[ ] Text:c ]";
 
 const FOUND: [Row; 10] = [
     (
-        "an empty node behind another is missed",
+        "an empty node after another is missed",
         AROUND_NOTHING,
         &[],
         Ask::Bytes(2, 2),

@@ -280,7 +280,7 @@ const MODES: [Row; 14] = [
         "Some(Markup) in None",
     ),
     (
-        "an equation behind a hash is code",
+        "an equation after a hash is code",
         HASHED_EQUATION,
         &[1, 2],
         Ask::Modes,
@@ -302,7 +302,7 @@ const MODES: [Row; 14] = [
         "Some(Markup) in Some(Markup)",
     ),
     (
-        "raw text behind a hash is code",
+        "raw text after a hash is code",
         HASHED_RAW,
         &[1, 2],
         Ask::Modes,

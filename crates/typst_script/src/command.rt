@@ -10,17 +10,17 @@ use typst_tree::{FileId, SyntaxKind};
 /// What one line asks for.
 #[derive(Clone, Copy, Debug, PartialEq, Eq)]
 pub enum Command<'a> {
-    /// `leaf K TEXT`: pushes a leaf. The text is all that stands behind the second blank.
+    /// `leaf K TEXT`: pushes a leaf. The text is all that stands after the second blank.
     Leaf {
         kind: SyntaxKind,
         text: &'a str,
     },
-    /// `error MESSAGE<tab>TEXT`: pushes an error. The text is all that stands behind the first tab.
+    /// `error MESSAGE<tab>TEXT`: pushes an error. The text is all that stands after the first tab.
     Error {
         message: &'a str,
         text: &'a str,
     },
-    /// `warn M`: puts a warning round the newest node. The message is all that stands behind the first blank.
+    /// `warn M`: puts a warning round the newest node. The message is all that stands after the first blank.
     Warn {
         message: &'a str,
     },

@@ -16,7 +16,7 @@ use typst_tree::SyntaxNode;
 /// empty. They are done one by one, so a fault counts only once the lines before it are done.
 ///
 /// `BadCommand` comes from a line that is no command, or asks for nodes or a tree that aren't there; `Read` from the
-/// reader, from a line that isn't UTF-8, and from input that goes on behind 2^40 bytes; `Write` from the writer;
+/// reader, from a line that isn't UTF-8, and from input that goes on after 2^40 bytes; `Write` from the writer;
 /// `Memory` where memory runs out; `Overflow` where the sums of an inner node pass a `usize`.
 ///
 /// Reading and writing go through buffers. A line takes time in proportion to its bytes, and `inner`, `number` and

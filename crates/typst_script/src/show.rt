@@ -7,7 +7,7 @@ use std::io::Write;
 use typst_tree::SyntaxNode;
 
 /// Prints the nodes in preorder, indented two blanks a level: the kind's number, the span's number,
-/// the bound and the length in bytes, and behind them the text of a leaf or an error, if it has one.
+/// the bound and the length in bytes, and after them the text of a leaf or an error, if it has one.
 pub fn show<W: Write>(out: &mut W, tree: &SyntaxNode) -> Result<(), Fault>
     ensures { IfErr result IsWriteFault }
 {

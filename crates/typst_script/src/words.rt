@@ -7,7 +7,7 @@ ghost use Rattle.typst_script.specs.Path.{dot, IsIndices, IsPathOf, IsPathWord};
 use std::alloc::{AllocError, Global};
 use typst_tree::{FileId, SyntaxKind};
 
-/// The first word, and what stands behind the blank that ends it. None where there is no blank.
+/// The first word, and what stands after the blank that ends it. None where there is no blank.
 pub fn first_word(text: &str) -> Option<(&str, &str)>
     ensures reads { IfSome result (λ parts. IsSplit text.now parts.0.now parts.1.now) }
     ensures every { (word rest : List ℕ) → IsSplit text.now word rest
@@ -16,7 +16,7 @@ pub fn first_word(text: &str) -> Option<(&str, &str)>
     text.split_once(' ')
 }
 
-/// What stands before the first tab, and what stands behind it. None where there is no tab.
+/// What stands before the first tab, and what stands after it. None where there is no tab.
 pub fn until_tab(text: &str) -> Option<(&str, &str)>
     ensures reads { IfSome result (λ parts. IsSplitAt tab text.now parts.0.now parts.1.now) }
     ensures every { (first rest : List ℕ) → IsSplitAt tab text.now first rest
@@ -25,7 +25,7 @@ pub fn until_tab(text: &str) -> Option<(&str, &str)>
     text.split_once('\t')
 }
 
-/// What stands before the first dot, and what stands behind it. None where there is no dot.
+/// What stands before the first dot, and what stands after it. None where there is no dot.
 fn until_dot(text: &str) -> Option<(&str, &str)>
     ensures reads { IfSome result (λ parts. IsSplitAt dot text.now parts.0.now parts.1.now) }
     ensures every { (first rest : List ℕ) → IsSplitAt dot text.now first rest

@@ -347,7 +347,7 @@ fn answers_replacements_and_searches(rt: HostRuntime) -> Result<(), Fail> {
             "",
             0,
         ),
-        // A replacement, and a search behind it.
+        // A replacement, and a search after it.
         (
             b"leaf 6 ab\nleaf 6 c\ninner 5 2\nroot\nnumber 1 2 14\nshow\nleaf 6 x\nreplace - 1 1 1\nfind 1 6\nrun\n",
             b"5 3 14 3\n  6 5 6 2 ab\n  6 7 8 1 c\ndone window 0..3 tried 2\nfound 2 offset 3\n",
