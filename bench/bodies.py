@@ -220,7 +220,10 @@ class Judge:
         paths = {path for it in edit.functions for path in it.paths(self.room.crate.name, said)}
         lines = [line for it, line in said.items() if any(is_part(it, path) for path in paths)]
         own = {"/".join(path.split("::")[1:]).replace("/+", "/") for path in paths}
-        lines += [f"error: {text}" for file, text in errors if file.rpartition("/")[0].replace("/+", "/") in own]
+        cycles = [f"/+{it.cycle}/" for it in edit.functions if it.cycle]
+        for file, text in errors:
+            if file.rpartition("/")[0].replace("/+", "/") in own or any(cycle in f"/{file}" for cycle in cycles):
+                lines.append(f"error: {text}")
         return sorted({goal or declaration for line in lines for goal, declaration in NAMED.findall(line)})
 
     def unowned(self, batch, said, errors):
@@ -348,7 +351,7 @@ def apply_all():
 def main():
     words = argparse.ArgumentParser(description=__doc__, formatter_class=argparse.RawDescriptionHelpFormatter)
     words.add_argument("crates", nargs="*")
-    words.add_argument("--only", default="", help="the edits whose names hold this word alone")
+    words.add_argument("--only", default="", help="the edits alone whose names hold this word, or one of these, parted by commas")
     words.add_argument("--beside", metavar="LOG", default="")
     words.add_argument("--jobs", type=int, default=2)
     words.add_argument("--lanes", type=int, default=1, help="how many crates are judged at a time")

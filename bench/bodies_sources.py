@@ -221,7 +221,7 @@ def edits_of(crate, all_functions, bad, only=""):
     """The crate's edits. What cannot be placed is told in bad."""
     found = []
     for file in sorted([*(crate / "must-fail").glob("*.edit"), *(crate / "wrong-bodies").glob("*.edit")]):
-        if only not in file.stem:
+        if not any(word in file.stem for word in only.split(",")):
             continue
         try:
             changes = pairs(file.read_text())
