@@ -1,5 +1,5 @@
 #!/usr/bin/env python3
-"""Says whether each piece of code in docs/GUIDE.md is taken from a program or a test that the gate runs.
+"""Says whether each piece of code in README.md and docs/GUIDE.md is taken from a program or a test that the gate runs.
 
     bench/guide.py
 
@@ -11,6 +11,7 @@ import sys
 from pathlib import Path
 
 TOP = Path(__file__).resolve().parent.parent
+PAGES = ("README.md", "docs/GUIDE.md")
 PIECE = re.compile(r"^```rust\n(.*?)^```$", re.M | re.S)
 
 
@@ -38,12 +39,15 @@ def stands_in(piece, source):
 def main():
     files = sorted(TOP.glob("crates/typst_guide_tests/src/*.rt")) + sorted(TOP.glob("crates/example_*/src/*.rt"))
     sources = [file.read_text() for file in files]
-    pieces = PIECE.findall((TOP / "docs/GUIDE.md").read_text())
-    strange = [piece for piece in pieces if not any(stands_in(piece, source) for source in sources)]
-    for piece in strange:
-        print(f"docs/GUIDE.md: in no program and no test:\n{piece}")
-    print(f"{len(pieces)} pieces of code in docs/GUIDE.md, {len(strange)} of them in no source")
-    return 1 if strange or not pieces else 0
+    is_well = True
+    for name in PAGES:
+        pieces = PIECE.findall((TOP / name).read_text())
+        strange = [piece for piece in pieces if not any(stands_in(piece, source) for source in sources)]
+        for piece in strange:
+            print(f"{name}: in no program and no test:\n{piece}")
+        print(f"{len(pieces)} pieces of code in {name}, {len(strange)} of them in no source")
+        is_well = is_well and bool(pieces) and not strange
+    return 0 if is_well else 1
 
 
 if __name__ == "__main__":

@@ -1,9 +1,10 @@
 -- What a clause sees of an `Arg`.
-use Rattle.std.specs.Prelude.{Option, IfSome, true, ◌≡◌}
+use Rattle.std.specs.Prelude.{Option, Some, IfSome, true, ◌≡◌}
 use Rattle.typst_ast.specs.Expr.{expr_node, expr_kind, expr_kind_is_node_kind}
 use Rattle.typst_ast.specs.View.{node_of}
 use Rattle.typst_ast.specs.declared.arg.Arg.{Arg}
 use Rattle.typst_ast.specs.declared.arg.Arg.TheVariants.{Pos, Named, Spread}
+use Rattle.typst_atoms.specs.Classes.{is_arg_kind}
 use Rattle.typst_atoms.specs.OfKind.{kind_from_test}
 use Rattle.typst_base.specs.declared.kind.SyntaxKind.{SyntaxKind}
 use Rattle.typst_base.specs.declared.kind.SyntaxKind.TheVariants as kinds
@@ -27,6 +28,6 @@ arg_kind_is_node_kind (Pos v) = expr_kind_is_node_kind v
 arg_kind_is_node_kind (Named v) = kind_from_test kinds.Named v.node v.of_kind
 arg_kind_is_node_kind (Spread v) = kind_from_test kinds.Spread v.node v.of_kind
 
--- the `Arg` is that of this node, or the placeholder where there is no node
-abbrev pub IsArgOf : Option Tree → Arg → Type 0
-IsArgOf = IsViewOf arg_node arg_kind (λ _. true) kinds.None
+-- the node is an argument, and the `Arg` is that of it
+abbrev pub IsProperArgOf : Tree → Arg → Type 0
+IsProperArgOf t arg = (is_arg_kind (node_kind t) ≡ true) × (arg_node arg ≡ Some t) × (arg_kind arg ≡ node_kind t)

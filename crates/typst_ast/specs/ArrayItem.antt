@@ -23,7 +23,3 @@ array_item_kind (Spread v) = kinds.Spread
 pub array_item_kind_is_node_kind : (v : ArrayItem) → IfSome (array_item_node v) (λ t. array_item_kind v ≡ node_kind t)
 array_item_kind_is_node_kind (Pos v) = expr_kind_is_node_kind v
 array_item_kind_is_node_kind (Spread v) = kind_from_test kinds.Spread v.node v.of_kind
-
--- the `ArrayItem` is that of this node, or the placeholder where there is no node
-abbrev pub IsArrayItemOf : Option Tree → ArrayItem → Type 0
-IsArrayItemOf = IsViewOf array_item_node array_item_kind (λ _. true) kinds.None

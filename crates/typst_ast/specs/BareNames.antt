@@ -1,5 +1,5 @@
 -- The name that an import gives its module.
-use Rattle.std.specs.Prelude.{ℕ, ◌≡◌, Bool, true, false, MatchBool, List, Option, Result, Ok, Err, MatchOption, MatchResult, String, string_bytes}
+use Rattle.std.specs.Prelude.{ℕ, ◌≡◌, ◌≢◌, Bool, true, false, MatchBool, List, Option, Result, Ok, Err, MatchOption, MatchResult, String, string_bytes}
 use Rattle.std.specs.declared.alloc.AllocError.{AllocError}
 use Rattle.std.specs.declared.alloc.Global.{Global}
 use Rattle.typst_ast.specs.Paths.{IsFileStemOf}
@@ -8,6 +8,7 @@ use Rattle.typst_ast.specs.declared.bare_names.BareImportError.TheVariants.{Path
 use Rattle.typst_atoms.specs.Children.{first_child}
 use Rattle.typst_atoms.specs.Classes.{is_expr_kind}
 use Rattle.typst_atoms.specs.Strings.{begins_with, IsStringValue}
+use Rattle.typst_atoms.specs.Texts.{text_in}
 use Rattle.typst_base.specs.declared.kind.SyntaxKind.{SyntaxKind}
 use Rattle.typst_base.specs.declared.kind.SyntaxKind.TheVariants as kinds
 use Rattle.typst_node.specs.Tree.{Tree}
@@ -19,6 +20,11 @@ import_source import = first_child is_expr_kind import
 
 abbrev pub import_kind : Option Tree → SyntaxKind
 import_kind import = kind_or kinds.None (import_source import)
+
+-- the source is neither a name, nor a field access, nor a string
+abbrev pub IsDynamic : Option Tree → Type 0
+IsDynamic import =
+    (import_kind import ≢ kinds.Ident) × (import_kind import ≢ kinds.FieldAccess) × (import_kind import ≢ kinds.Str)
 
 -- it is the name with this text
 abbrev pub IsName : List ℕ → Result (String Global) BareImportError → Type 0
@@ -51,3 +57,7 @@ module _ (is_ident : List ℕ → Bool → Type 0) (package_of : List ℕ → Re
   -- the name that a string with this text gives
   abbrev pub IsStringName : List ℕ → Result (String Global) BareImportError → Type 0
   IsStringName written name = (text : List ℕ) × IsStringValue written text × IsImportName text name
+
+  -- the name that an import's source gives, which is a string
+  abbrev pub IsSourceName : Option Tree → Result (String Global) BareImportError → Type 0
+  IsSourceName import name = IsStringName (text_in (import_source import)) name

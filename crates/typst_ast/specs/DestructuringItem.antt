@@ -32,7 +32,3 @@ abbrev pub is_proper_destructuring_item : DestructuringItem → Bool
 is_proper_destructuring_item (PatternItem v) = is_proper_pattern v
 is_proper_destructuring_item (Named v) = true
 is_proper_destructuring_item (Spread v) = true
-
--- the `DestructuringItem` is that of this node, or the placeholder where there is no node
-abbrev pub IsDestructuringItemOf : Option Tree → DestructuringItem → Type 0
-IsDestructuringItemOf = IsViewOf destructuring_item_node destructuring_item_kind is_proper_destructuring_item kinds.None

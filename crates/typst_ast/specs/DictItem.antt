@@ -25,7 +25,3 @@ pub dict_item_kind_is_node_kind : (v : DictItem) → IfSome (dict_item_node v) (
 dict_item_kind_is_node_kind (Named v) = kind_from_test kinds.Named v.node v.of_kind
 dict_item_kind_is_node_kind (Keyed v) = kind_from_test kinds.Keyed v.node v.of_kind
 dict_item_kind_is_node_kind (Spread v) = kind_from_test kinds.Spread v.node v.of_kind
-
--- the `DictItem` is that of this node, or the placeholder where there is no node
-abbrev pub IsDictItemOf : Option Tree → DictItem → Type 0
-IsDictItemOf = IsViewOf dict_item_node dict_item_kind (λ _. true) kinds.Spread

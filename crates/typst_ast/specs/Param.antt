@@ -32,7 +32,3 @@ abbrev pub is_proper_param : Param → Bool
 is_proper_param (Pos v) = is_proper_pattern v
 is_proper_param (Named v) = true
 is_proper_param (Spread v) = true
-
--- the `Param` is that of this node, or the placeholder where there is no node
-abbrev pub IsParamOf : Option Tree → Param → Type 0
-IsParamOf = IsViewOf param_node param_kind is_proper_param kinds.None

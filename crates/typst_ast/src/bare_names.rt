@@ -1,7 +1,7 @@
 //! The names that imports give their modules.
 ghost use Rattle.std.specs.Prelude.{◌≡◌, ◌≢◌, Err, IfOk, string_bytes};
 ghost use Rattle.std.specs.Fn.{FnReturnsAt};
-ghost use Rattle.typst_ast.specs.BareNames.{import_kind, import_source, IsAccepted, IsFileName, IsImportName, IsName, IsPackageName, IsStringName};
+ghost use Rattle.typst_ast.specs.BareNames.{import_kind, import_source, IsAccepted, IsDynamic, IsFileName, IsImportName, IsName, IsPackageName, IsSourceName, IsStringName};
 ghost use Rattle.typst_ast.specs.View.{node_of};
 ghost use Rattle.typst_atoms.specs.Children.{last_child};
 ghost use Rattle.typst_atoms.specs.Kinds.{is_kind};
@@ -119,12 +119,8 @@ impl<'a> ModuleImport<'a> {
         ensures field { import_kind (node_of self.entry) ≡ kinds.FieldAccess
             → IfOk result (IsName (text_in (last_child (is_kind kinds.Ident) (import_source (node_of self.entry))))) }
         ensures string { import_kind (node_of self.entry) ≡ kinds.Str
-            → IfOk result (IsStringName (FnReturnsAt I.Fn is_ident) (FnReturnsAt P.Fn «package»)
-            (text_in (import_source (node_of self.entry)))) }
-        ensures dynamic { import_kind (node_of self.entry) ≢ kinds.Ident
-            → import_kind (node_of self.entry) ≢ kinds.FieldAccess
-            → import_kind (node_of self.entry) ≢ kinds.Str
-            → IfOk result (λ name. name ≡ Err BareImportError.Dynamic) }
+            → IfOk result (IsSourceName (FnReturnsAt I.Fn is_ident) (FnReturnsAt P.Fn «package») (node_of self.entry)) }
+        ensures dynamic { IsDynamic (node_of self.entry) → IfOk result (λ name. name ≡ Err BareImportError.Dynamic) }
     {
         match self.source() {
             Expr::Ident(name) => copied(alloc, name.get()),

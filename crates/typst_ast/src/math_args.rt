@@ -1,7 +1,7 @@
 //! The arguments of a function call in math.
 ghost use Rattle.std.specs.Prelude.{◌≡◌, true, false, MatchOption, Some};
 ghost use Rattle.std.specs.Iterator.{YieldsFirstBy, YieldsLastBy, item_count};
-ghost use Rattle.typst_ast.specs.Arg.{arg_node, arg_kind};
+ghost use Rattle.typst_ast.specs.Arg.{arg_node, arg_kind, IsProperArgOf};
 ghost use Rattle.typst_ast.specs.MathArgItem.{item_node, item_kind, is_proper_item, told_arg};
 ghost use Rattle.typst_ast.specs.MathArgs.{items_left, told_items_left, args_left, told_args_left};
 ghost use Rattle.typst_ast.specs.View.{node_of};
@@ -103,10 +103,7 @@ pub struct MathArgList<'a> {
 
 // The argument, if the node is one.
 fn cast_arg<'a>(node: &'a SyntaxNode) -> Option<Arg<'a>>
-    ensures { MatchOption result
-        (is_arg_kind (node_kind node.now) ≡ false)
-        (λ arg. (is_arg_kind (node_kind node.now) ≡ true)
-        × (arg_node arg ≡ Some node.now) × (arg_kind arg ≡ node_kind node.now)) }
+    ensures { MatchOption result (is_arg_kind (node_kind node.now) ≡ false) (IsProperArgOf node.now) }
 {
     match Arg::from_untyped(node) {
         Some(arg) => Some(arg),

@@ -1,55 +1,78 @@
+use crate::rows::assert_all;
 use crate::trees::cast;
-use std::alloc::Global;
+use std::process::Abort;
 use std::test::Fail;
 use typst_ast::{is_alike, views as of};
-use typst_base::{FileId, SyntaxKind};
-use typst_drawn::drawn;
+use typst_drawn::{drawn, drawn_all, numbered};
 use typst_node::{AstNode, SyntaxNode};
 
-// Strong content of a text.
-fn strong(alloc: Global, text: &str) -> Result<SyntaxNode, Fail> {
-    let drawing = format!(in alloc; "Strong[ Markup[ Text:{text} ] ]")?;
-    Ok(drawn(alloc, drawing.as_str())?)
+// How views compare of an edited tree and of one that was built anew.
+fn compare_edited(rt: &impl Abort, edited: &SyntaxNode, anew: &SyntaxNode) -> Result<(), Fail> {
+    let view = cast::<of::Strong>(edited)?;
+    let other = cast::<of::Strong>(anew)?;
+    let rows = [
+        ("the views", is_alike(view, other)),
+        ("their parts", is_alike(view.body(), other.body())),
+        ("the spans differ", view.span() != other.span()),
+    ];
+    assert_all(rt, &rows);
+    Ok(())
 }
 
 #[test]
 fn views_of_an_edited_tree_read_as_those_of_the_tree_built_anew(
     rt: HostRuntime,
 ) -> Result<(), Fail> {
-    let mut edited = strong(rt.alloc(), "a")?;
-    let file = FileId::new(1).ok_or("no file")?;
-    edited.numberize(file, 2..1 << 47)?;
+    let mut edited = numbered(rt.alloc(), "Strong[ Markup[ Text:a ] ]", 2..1 << 47)?;
     assert!(rt; edited.edit_fits(&[0], 0..1) && edited.is_numbered());
-    let b = drawn(rt.alloc(), "Text:b")?;
-    edited.replace_at(rt.alloc(), &[0], 0..1, vec![in rt.alloc(); b]?)?;
-    let anew = strong(rt.alloc(), "b")?;
-    let view = cast::<of::Strong>(&edited)?;
-    let other = cast::<of::Strong>(&anew)?;
-    assert!(rt; is_alike(view, other) && is_alike(view.body(), other.body()));
-    assert!(rt; view.span() != other.span());
+    let b = drawn_all(rt.alloc(), "Text:b")?;
+    edited.replace_at(rt.alloc(), &[0], 0..1, b)?;
+    let anew = drawn(rt.alloc(), "Strong[ Markup[ Text:b ] ]")?;
+    compare_edited(&rt, &edited, &anew)
+}
+
+// How views compare of strong content: of `a`, of `a`, of `b`, and twice of nothing.
+fn compare(rt: &impl Abort, nodes: &[SyntaxNode]) -> Result<(), Fail> {
+    let [a, again, b, hollow, hollow_again] = nodes else {
+        return Err("no nodes")?;
+    };
+    let view = cast::<of::Strong>(a)?;
+    let equal = cast::<of::Strong>(again)?;
+    let other = cast::<of::Strong>(b)?;
+    let hollow = cast::<of::Strong>(hollow)?;
+    let hollow_again = cast::<of::Strong>(hollow_again)?;
+    let blank = of::Strong::placeholder();
+    let rows = [
+        ("another text is not alike", !is_alike(view, other)),
+        ("no node is not alike", !is_alike(view, blank)),
+        (
+            "placeholders are alike",
+            is_alike(blank, of::Strong::placeholder()),
+        ),
+        ("equal nodes are equal", view.is_equal(equal)),
+        ("another text is not equal", !view.is_equal(other)),
+        ("no node is not equal", !view.is_equal(blank)),
+        (
+            "placeholders are equal",
+            blank.is_equal(of::Strong::placeholder()),
+        ),
+        ("hollow nodes are equal by ==", hollow == hollow_again),
+        (
+            "placeholders are equal by ==",
+            blank == of::Strong::placeholder(),
+        ),
+        ("a hollow node is no placeholder", hollow != blank),
+    ];
+    assert_all(rt, &rows);
     Ok(())
 }
 
 #[test]
-fn views_of_other_texts_are_not_alike(rt: HostRuntime) -> Result<(), Fail> {
-    let a = strong(rt.alloc(), "a")?;
-    let b = strong(rt.alloc(), "b")?;
-    let view = cast::<of::Strong>(&a)?;
-    assert!(rt; !is_alike(view, cast::<of::Strong>(&b)?));
-    assert!(rt; !is_alike(view, of::Strong::placeholder()));
-    assert!(rt; is_alike(of::Strong::placeholder(), of::Strong::placeholder()));
-    Ok(())
-}
-
-#[test]
-fn equal_views_have_equal_nodes(rt: HostRuntime) -> Result<(), Fail> {
-    let a = strong(rt.alloc(), "a")?;
-    let again = strong(rt.alloc(), "a")?;
-    let b = strong(rt.alloc(), "b")?;
-    let view = cast::<of::Strong>(&a)?;
-    assert!(rt; view.is_equal(cast::<of::Strong>(&again)?));
-    assert!(rt; !view.is_equal(cast::<of::Strong>(&b)?));
-    assert!(rt; !view.is_equal(of::Strong::placeholder()));
-    assert!(rt; of::Strong::placeholder().is_equal(of::Strong::placeholder()));
-    Ok(())
+fn views_are_compared_by_their_nodes(rt: HostRuntime) -> Result<(), Fail> {
+    let nodes = drawn_all(
+        rt.alloc(),
+        "Strong[ Markup[ Text:a ] ] Strong[ Markup[ Text:a ] ] Strong[ Markup[ Text:b ] ] \
+        Strong[ ] Strong[ ]",
+    )?;
+    compare(&rt, &nodes)
 }

@@ -1,116 +1,119 @@
-use crate::trees::{cast, text};
-use std::alloc::Global;
+use crate::trees::view;
+use std::alloc::{AllocError, Global};
 use std::test::Fail;
-use typst_ast::{Expr, LetBindingKind, Pattern, views as of};
-use typst_base::{FileId, SyntaxKind};
-use typst_drawn::drawn;
+use typst_ast::{Expr, Pattern, views as of};
+use typst_drawn::{DrawingError, drawn_all, numbered};
 use typst_node::{AstNode, SyntaxNode};
 use typst_tree::ast;
 use typst_tree::session::{self, Reply, Request, Slot};
 
-// `(a,b: c,..d)`.
-const PARTS: &str =
-    "Destructuring[ LeftParen:( Ident:a Comma:, Named[ Ident:b Colon:: Ident:c ] Comma:, \
-    Spread[ Dots:.. Ident:d ] RightParen:) ]";
-
 // `let(a,b: c,..d)=v`.
-fn binding(alloc: Global) -> Result<SyntaxNode, Fail> {
-    let drawing = format!(in alloc; "LetBinding[ Let:let {PARTS} Eq:= Ident:v ]")?;
-    Ok(drawn(alloc, drawing.as_str())?)
-}
+pub(crate) const BINDING: &str =
+    "LetBinding[ Let:let Destructuring[ LeftParen:( Ident:a Comma:, Named[ Ident:b Colon:: Ident:c ] \
+    Comma:, Spread[ Dots:.. Ident:d ] RightParen:) ] Eq:= Ident:v ]";
 
-// The names as one text, a comma after each.
-fn joined(alloc: Global, names: Vec<of::Ident>) -> Result<String, Fail> {
+// `((a,b: c,..d))`.
+const GROUP: &str =
+    "Parenthesized[ LeftParen:( Destructuring[ LeftParen:( Ident:a Comma:, Named[ Ident:b Colon:: Ident:c ] \
+    Comma:, Spread[ Dots:.. Ident:d ] RightParen:) ] RightParen:) ]";
+
+// The names as one text, a comma after each; `-` for a placeholder.
+fn joined(alloc: Global, names: &[of::Ident]) -> Result<String, AllocError> {
     let mut all = String::new(alloc);
-    for name in &names {
-        all.push_str(name.get())?;
+    for name in names {
+        all.push_str(match name.to_untyped() {
+            Some(_) => name.get(),
+            None => "-",
+        })?;
         all.push(',')?;
     }
     Ok(all)
 }
 
+/// What a tree is viewed as.
+#[derive(Clone, Copy)]
+enum As {
+    LetBinding,
+    Destructuring,
+    Pattern,
+    /// A group as an expression that is a pattern, which by hand can be made.
+    Grouped,
+}
+
+fn bound<'a>(
+    alloc: Global,
+    tree: Option<&'a SyntaxNode>,
+    it: As,
+) -> Result<Vec<of::Ident<'a>>, AllocError> {
+    match it {
+        As::LetBinding => view::<of::LetBinding>(tree).kind().bindings(alloc),
+        As::Destructuring => view::<of::Destructuring>(tree).bindings(alloc),
+        As::Pattern => view::<Pattern>(tree).bindings(alloc),
+        As::Grouped => Pattern::Normal(Expr::Parenthesized(view(tree))).bindings(alloc),
+    }
+}
+
+/// What is shown, a drawing, what its tree is viewed as, or the placeholder of that where nothing is drawn, and
+/// the names that this binds.
+type Row = (&'static str, &'static str, As, &'static str);
+
+const BOUND: [Row; 12] = [
+    ("a let binding", BINDING, As::LetBinding, "a,c,d,"),
+    ("a group", GROUP, As::Pattern, "a,c,d,"),
+    ("a group that is an expression", GROUP, As::Grouped, ""),
+    (
+        "a closure without a name",
+        "LetBinding[ Let:let Closure[ Params[ ] Arrow:=> Int:1 ] ]",
+        As::LetBinding,
+        "-,",
+    ),
+    ("an underscore", "Underscore:_", As::Pattern, ""),
+    ("a number", "Int:1", As::Pattern, ""),
+    ("no pattern", "", As::Pattern, ""),
+    ("no parts", "", As::Destructuring, ""),
+    ("no let binding", "", As::LetBinding, ""),
+    ("a group of nothing", "Parenthesized[ ]", As::Pattern, ""),
+    ("parts without any", "Destructuring[ ]", As::Pattern, ""),
+    ("a name", "Ident:x", As::Pattern, "x,"),
+];
+
+fn names_of(alloc: Global, drawing: &str, it: As) -> Result<String, DrawingError> {
+    let trees = drawn_all(alloc, drawing)?;
+    let names = bound(alloc, trees.first(), it)?;
+    Ok(joined(alloc, &names)?)
+}
+
 #[test]
-fn a_let_binding_binds_the_names_of_its_parts_in_order(rt: HostRuntime) -> Result<(), Fail> {
-    let tree = binding(rt.alloc())?;
-    let view = cast::<of::LetBinding>(&tree)?;
-    let names = joined(rt.alloc(), view.kind().bindings(rt.alloc())?)?;
-    assert_eq!(rt; names.as_str(), "a,c,d,");
-    assert_eq!(rt; text(view.init().ok_or("no value")?), "v");
+fn bindings_and_patterns_bind_names_in_order(rt: HostRuntime) -> Result<(), Fail> {
+    for (shows, drawing, it, wanted) in &BOUND {
+        let said = names_of(rt.alloc(), drawing, *it)?;
+        assert_eq!(rt; said.as_str(), *wanted, "{shows}");
+    }
     Ok(())
+}
+
+// The window of children that a run's first reply says was numbered anew, and how many windows were tried.
+fn renumbered(slots: &[Slot]) -> Option<(usize, usize, usize)> {
+    match slots.first()? {
+        Slot::Told(Reply::Renumbered(it)) => Some((it.window.start, it.window.end, it.tried)),
+        _ => None,
+    }
 }
 
 #[test]
 fn a_run_of_edits_changes_what_a_binding_binds(rt: HostRuntime) -> Result<(), Fail> {
-    let mut tree = binding(rt.alloc())?;
-    let file = FileId::new(1).ok_or("no file")?;
-    tree.numberize(file, 2..1 << 47)?;
-    assert!(rt; tree.is_numbered());
-    let z = drawn(rt.alloc(), "Ident:z")?;
+    let mut tree = numbered(rt.alloc(), BINDING, 2..1 << 47)?;
     let request = Request::Replace {
         path: vec![in rt.alloc(); 1]?,
         range: 1..2,
-        replacement: vec![in rt.alloc(); z]?,
+        replacement: drawn_all(rt.alloc(), "Ident:z")?,
     };
     let mut slots = vec![in rt.alloc(); Slot::Ask(request)]?;
     session::run(rt.alloc(), &mut tree, &mut slots);
-    let Some(Slot::Told(Reply::Renumbered(renumbered))) = slots.first() else {
-        return Err("not renumbered")?;
-    };
-    assert_eq!(rt; renumbered.window, 1..2);
-    assert_eq!(rt; renumbered.tried, 1);
-    let view = cast::<ast::LetBinding>(&tree)?;
-    let names = joined(rt.alloc(), view.kind().bindings(rt.alloc())?)?;
-    assert_eq!(rt; names.as_str(), "z,c,d,");
-    Ok(())
-}
-
-#[test]
-fn a_group_binds_what_it_holds(rt: HostRuntime) -> Result<(), Fail> {
-    let drawing = format!(in rt.alloc(); "Parenthesized[ LeftParen:( {PARTS} RightParen:) ]")?;
-    let tree = drawn(rt.alloc(), drawing.as_str())?;
-    let names = joined(rt.alloc(), cast::<Pattern>(&tree)?.bindings(rt.alloc())?)?;
-    assert_eq!(rt; names.as_str(), "a,c,d,");
-
-    // By hand the group can be made an expression, which binds nothing.
-    let by_hand = Pattern::Normal(Expr::Parenthesized(cast::<of::Parenthesized>(&tree)?));
-    assert!(rt; by_hand.bindings(rt.alloc())?.is_empty());
-    Ok(())
-}
-
-#[test]
-fn a_closure_without_a_name_is_bound_by_a_placeholder(rt: HostRuntime) -> Result<(), Fail> {
-    let tree = drawn(
-        rt.alloc(),
-        "LetBinding[ Let:let Closure[ Params[ ] Arrow:=> Int:1 ] ]",
-    )?;
-    let kind = cast::<of::LetBinding>(&tree)?.kind();
-    assert!(rt; matches!(kind, LetBindingKind::Closure(_)));
-    let names = kind.bindings(rt.alloc())?;
-    assert_eq!(rt; names.len(), 1);
-    let name = names.as_slice().first().ok_or("no name")?;
-    assert!(rt; name.to_untyped().is_none());
-    Ok(())
-}
-
-#[test]
-fn other_patterns_bind_nothing(rt: HostRuntime) -> Result<(), Fail> {
-    let underscore = drawn(rt.alloc(), "Underscore:_")?;
-    let pattern = cast::<Pattern>(&underscore)?;
-    assert!(rt; matches!(pattern, Pattern::Placeholder(_)));
-    assert!(rt; pattern.bindings(rt.alloc())?.is_empty());
-    let one = drawn(rt.alloc(), "Int:1")?;
-    assert!(rt; cast::<Pattern>(&one)?.bindings(rt.alloc())?.is_empty());
-    assert!(rt; Pattern::placeholder().bindings(rt.alloc())?.is_empty());
-    assert!(rt;
-        of::Destructuring::placeholder()
-            .bindings(rt.alloc())?
-            .is_empty()
-    );
-    assert!(rt;
-        of::LetBinding::placeholder()
-            .kind()
-            .bindings(rt.alloc())?
-            .is_empty()
-    );
+    assert_eq!(rt; renumbered(&slots), Some((1, 2, 1)));
+    let names = view::<ast::LetBinding>(Some(&tree))
+        .kind()
+        .bindings(rt.alloc())?;
+    assert_eq!(rt; joined(rt.alloc(), &names)?.as_str(), "z,c,d,");
     Ok(())
 }

@@ -1,41 +1,48 @@
-use crate::trees::cast;
+use crate::trees::view;
 use std::alloc::{AllocError, Global};
 use std::test::Fail;
 use typst_ast::{file_stem, views as of};
-use typst_base::SyntaxKind;
-use typst_drawn::{drawn, hollow};
-use typst_node::{AstNode, SyntaxNode};
+use typst_drawn::{DrawingError, drawn};
 
-// `import` and its source.
-fn import(alloc: Global, source: &str) -> Result<SyntaxNode, Fail> {
-    let drawing = format!(in alloc; "ModuleImport[ Import:import {source} ]")?;
-    Ok(drawn(alloc, drawing.as_str())?)
-}
+const STEMS: [(&str, Option<&str>); 14] = [
+    ("a/b.typ", Some("b")),
+    (".x", Some(".x")),
+    ("a.tar.gz", Some("a.tar")),
+    ("a/.", Some("a")),
+    ("a//b/", Some("b")),
+    ("", None),
+    ("/", None),
+    (".", None),
+    ("..", None),
+    ("a/..", None),
+    ("../a", Some("a")),
+    ("a.", Some("a")),
+    ("...", Some("..")),
+    ("a/b/c", Some("c")),
+];
 
 #[test]
 fn stems_of_files(rt: HostRuntime) {
-    for (path, stem) in [
-        ("a/b.typ", Some("b")),
-        (".x", Some(".x")),
-        ("a.tar.gz", Some("a.tar")),
-        ("a/.", Some("a")),
-        ("a//b/", Some("b")),
-        ("", None),
-        ("/", None),
-        (".", None),
-        ("..", None),
-        ("a/..", None),
-        ("../a", Some("a")),
-        ("a.", Some("a")),
-        ("...", Some("..")),
-        ("a/b/c", Some("c")),
-    ] {
-        assert!(rt; file_stem(path) == stem, "{path}");
+    for (path, stem) in &STEMS {
+        assert!(rt; file_stem(path) == *stem, "{path}");
     }
 }
 
 /// What a package is called by its manifest: its name, nothing, or that memory was refused.
-type Called = Result<Option<&'static str>, AllocError>;
+#[derive(Clone, Copy)]
+enum Called {
+    Name(&'static str),
+    Nothing,
+    Refused,
+}
+
+fn answer_of(alloc: Global, package: Called) -> Result<Option<String>, AllocError> {
+    match package {
+        Called::Name(name) => Ok(Some(String::from_str(alloc, name)?)),
+        Called::Nothing => Ok(None),
+        Called::Refused => Err(AllocError),
+    }
+}
 
 /// The name that an import without one of its own binds, or the error that says why there is none. Each word fits a name,
 /// or none does, and each package is called the same.
@@ -43,61 +50,97 @@ fn named(
     alloc: Global,
     import: of::ModuleImport,
     fits: bool,
-    called: Called,
+    package: Called,
 ) -> Result<String, AllocError> {
-    let name = import.bare_name(
-        alloc,
-        |_: &str| fits,
-        |_: &str| match called? {
-            Some(name) => Ok(Some(String::from_str(alloc, name)?)),
-            None => Ok(None),
-        },
-    )?;
-    match name {
+    match import.bare_name(alloc, |_: &str| fits, |_: &str| answer_of(alloc, package))? {
         Ok(name) => Ok(name),
         Err(error) => format!(in alloc; "{error:?}"),
     }
 }
 
-/// The same of an import of this source.
-fn named_by(alloc: Global, source: &str, fits: bool, called: Called) -> Result<String, Fail> {
-    let tree = import(alloc, source)?;
-    Ok(named(alloc, cast(&tree)?, fits, called)?)
-}
+/// What is shown, a drawing, whether each word fits a name, what a package is called, and the name that the import
+/// binds, the error that says why there is none, or that memory was refused. A drawing of something else stands for
+/// the placeholder.
+type Row = (&'static str, &'static str, bool, Called, &'static str);
 
-#[test]
-fn a_path_names_its_module_by_its_stem(rt: HostRuntime) -> Result<(), Fail> {
-    for (source, fits, wanted) in [
-        ("Str:\"a/b.typ\"", true, "b"),
-        ("Str:\"a/b.typ\"", false, "PathInvalid"),
-        ("Str:\"a/..\"", true, "PathInvalid"),
-        ("Int:1", true, "Dynamic"),
-    ] {
-        let name = named_by(rt.alloc(), source, fits, Ok(None))?;
-        assert_eq!(rt; name.as_str(), wanted, "{source}");
+const NAMED: [Row; 9] = [
+    (
+        "a path",
+        "ModuleImport[ Import:import Str:\"a/b.typ\" ]",
+        true,
+        Called::Nothing,
+        "b",
+    ),
+    (
+        "a path whose stem is no name",
+        "ModuleImport[ Import:import Str:\"a/b.typ\" ]",
+        false,
+        Called::Nothing,
+        "PathInvalid",
+    ),
+    (
+        "a path without a stem",
+        "ModuleImport[ Import:import Str:\"a/..\" ]",
+        true,
+        Called::Nothing,
+        "PathInvalid",
+    ),
+    (
+        "a number",
+        "ModuleImport[ Import:import Int:1 ]",
+        true,
+        Called::Nothing,
+        "Dynamic",
+    ),
+    (
+        "a package",
+        "ModuleImport[ Import:import Str:\"@preview/cetz:0.1.0\" ]",
+        true,
+        Called::Name("cetz"),
+        "cetz",
+    ),
+    (
+        "a package without a name",
+        "ModuleImport[ Import:import Str:\"@preview/cetz:0.1.0\" ]",
+        true,
+        Called::Nothing,
+        "PackageInvalid",
+    ),
+    (
+        "a package whose name is refused memory",
+        "ModuleImport[ Import:import Str:\"@preview/cetz:0.1.0\" ]",
+        true,
+        Called::Refused,
+        "memory was refused",
+    ),
+    ("no import", "Space:~", true, Called::Nothing, "Dynamic"),
+    (
+        "an import of nothing",
+        "ModuleImport[ ]",
+        true,
+        Called::Nothing,
+        "Dynamic",
+    ),
+];
+
+fn named_by(
+    alloc: Global,
+    drawing: &str,
+    fits: bool,
+    package: Called,
+) -> Result<String, DrawingError> {
+    let tree = drawn(alloc, drawing)?;
+    match named(alloc, view(Some(&tree)), fits, package) {
+        Ok(name) => Ok(name),
+        Err(_) => Ok(String::from_str(alloc, "memory was refused")?),
     }
-    Ok(())
 }
 
 #[test]
-fn a_package_names_its_module(rt: HostRuntime) -> Result<(), Fail> {
-    let source = "Str:\"@preview/cetz:0.1.0\"";
-    for (called, wanted) in [(Some("cetz"), "cetz"), (None, "PackageInvalid")] {
-        let name = named_by(rt.alloc(), source, true, Ok(called))?;
-        assert_eq!(rt; name.as_str(), wanted);
-    }
-    let tree = import(rt.alloc(), source)?;
-    let refused = named(rt.alloc(), cast(&tree)?, true, Err(AllocError));
-    assert!(rt; refused.is_err());
-    Ok(())
-}
-
-#[test]
-fn a_source_that_is_missing_gives_no_name(rt: HostRuntime) -> Result<(), Fail> {
-    let hollow = hollow(rt.alloc(), SyntaxKind::ModuleImport)?;
-    for view in [of::ModuleImport::placeholder(), cast(&hollow)?] {
-        let name = named(rt.alloc(), view, true, Ok(None))?;
-        assert_eq!(rt; name.as_str(), "Dynamic");
+fn a_source_names_its_module(rt: HostRuntime) -> Result<(), Fail> {
+    for (shows, drawing, fits, package, wanted) in &NAMED {
+        let said = named_by(rt.alloc(), drawing, *fits, *package)?;
+        assert_eq!(rt; said.as_str(), *wanted, "{shows}");
     }
     Ok(())
 }

@@ -1,4 +1,6 @@
 //! Tests of `typst_ast`, in a crate of their own, so that the code is proved without them.
+//!
+//! Most are tables: a drawn tree, what it is viewed as, and the words for what is read of the view.
 #![tactic(auto)]
 
 #[cfg(test)]
@@ -6,17 +8,15 @@ mod alike;
 #[cfg(test)]
 mod bindings;
 #[cfg(test)]
-mod code;
-#[cfg(test)]
-mod exprs;
-#[cfg(test)]
 mod imports;
 #[cfg(test)]
-mod math;
+mod items;
+#[cfg(test)]
+mod lists;
 #[cfg(test)]
 mod no_parser_makes;
-pub mod trees;
 #[cfg(test)]
-mod variants;
+mod rows;
+pub mod trees;
 #[cfg(test)]
 mod walk;

@@ -1,11 +1,12 @@
 //! Trees that no parser makes: inner nodes without children, of kinds that are leaves or always have some.
-use crate::trees::{cast, is_missing};
-use std::alloc::Global;
+use crate::trees::{is_missing, view};
+use std::alloc::{AllocError, Global};
+use std::fmt::Debug;
 use std::test::Fail;
-use typst_ast::{Arg, ArrayItem, DestructuringItem, DictItem, Expr, Param, Pattern, views as of};
+use typst_ast::{Expr, views as of};
 use typst_atoms::{ImportItem, views as atoms};
 use typst_base::SyntaxKind;
-use typst_drawn::hollow;
+use typst_drawn::{DrawingError, drawn, hollow};
 use typst_node::{AstNode, SyntaxNode};
 
 /// The kinds of literals.
@@ -46,10 +47,21 @@ const AFTER_HASH: [SyntaxKind; 20] = [
 /// How many kinds are those of expressions.
 const EXPRESSIONS: usize = 60;
 
-/// The expression that a node is: its kind, whether it is a literal and whether it may stand after a hash.
-fn told(node: &SyntaxNode) -> Option<(SyntaxKind, bool, bool)> {
-    let expr = node.cast::<Expr>()?;
-    Some((expr.kind(), expr.is_literal(), expr.hash()))
+/// Whether a node's view is of the node's kind, and shows its name.
+fn is_named<'a, T: AstNode<'a> + Debug>(
+    alloc: Global,
+    node: &'a SyntaxNode,
+) -> Result<bool, AllocError> {
+    let view = view::<T>(Some(node));
+    let kind = node.kind();
+    let name = format!(in alloc; "{kind:?}(")?;
+    let shown = format!(in alloc; "{view:?}")?;
+    Ok(view.kind() == kind && shown.as_str().starts_with(name.as_str()))
+}
+
+/// Whether an expression is a literal, and whether it may stand after a hash.
+fn told(expr: Expr) -> (bool, bool) {
+    (expr.is_literal(), expr.hash())
 }
 
 #[test]
@@ -61,14 +73,18 @@ fn expressions_without_children_are_told_by_their_kinds(rt: HostRuntime) -> Resu
             continue;
         }
         let node = hollow(rt.alloc(), kind)?;
-        let literal = LITERALS.contains(&kind);
-        let after_hash = literal || AFTER_HASH.contains(&kind);
-        match told(&node) {
-            Some(found) => {
-                assert!(rt; found == (kind, literal, after_hash), "kind {raw}");
-                count = count.saturating_add(1);
-            }
-            None => assert!(rt; !after_hash, "kind {raw}"),
+        let is_literal = LITERALS.contains(&kind);
+        let after_hash = is_literal || AFTER_HASH.contains(&kind);
+        if node.is::<Expr>() {
+            assert!(rt; is_named::<Expr>(rt.alloc(), &node)?, "kind {raw}");
+            assert_eq!(rt;
+                told(view(Some(&node))),
+                (is_literal, after_hash),
+                "kind {raw}"
+            );
+            count = count.saturating_add(1);
+        } else {
+            assert!(rt; !after_hash, "kind {raw}");
         }
     }
     assert_eq!(rt; count, EXPRESSIONS);
@@ -131,58 +147,30 @@ fn views_without_accessors_view_nodes_without_children(rt: HostRuntime) -> Resul
     Ok(())
 }
 
-/// Whether this is the placeholder of expressions: that of `none`.
-fn is_blank(expr: Expr) -> bool {
-    matches!(expr, Expr::None(view) if is_missing(view))
-}
-
-/// Whether this is the placeholder of patterns: that of expressions.
-fn is_blank_pattern(pattern: Pattern) -> bool {
-    matches!(pattern, Pattern::Normal(expr) if is_blank(expr))
-}
-
-#[test]
-fn items_have_the_placeholders_of_their_first_forms(rt: HostRuntime) {
-    assert!(rt; matches!(ArrayItem::placeholder(), ArrayItem::Pos(expr) if is_blank(expr)));
-    assert!(rt; matches!(DictItem::placeholder(), DictItem::Spread(view) if is_missing(view)));
-    assert!(rt; matches!(Arg::placeholder(), Arg::Pos(expr) if is_blank(expr)));
-    assert!(rt; matches!(Param::placeholder(), Param::Pos(pattern) if is_blank_pattern(pattern)));
-    let item = DestructuringItem::placeholder();
-    assert!(rt; matches!(item, DestructuringItem::Pattern(pattern) if is_blank_pattern(pattern)));
-}
-
-/// An inner node over one node without children.
-fn over_hollow(alloc: Global, kind: SyntaxKind, below: SyntaxKind) -> Result<SyntaxNode, Fail> {
-    if kind.is_error() || below.is_error() {
-        return Err("an error")?;
+/// The form of an imported item that has a path of no names, and so no name of its own, and binds none.
+fn form(node: &SyntaxNode) -> &'static str {
+    let item = view::<ImportItem>(Some(node));
+    if is_missing(item.path())
+        || !is_missing(item.original_name())
+        || !is_missing(item.bound_name())
+    {
+        return "a path or a name too much";
     }
-    let children = vec![in alloc; hollow(alloc, below)?]?;
-    Ok(SyntaxNode::inner(alloc, kind, children)?)
+    match item {
+        ImportItem::Simple(_) => "simple",
+        ImportItem::Renamed(_) => "renamed",
+    }
 }
 
 #[test]
 fn an_imported_item_may_have_a_path_of_no_names(rt: HostRuntime) -> Result<(), Fail> {
-    let path = hollow(rt.alloc(), SyntaxKind::ImportItemPath)?;
-    let item = cast::<ImportItem>(&path)?;
-    assert!(rt; matches!(item, ImportItem::Simple(_)) && !is_missing(item.path()));
-    assert!(rt; is_missing(item.original_name()) && is_missing(item.bound_name()));
-    let renamed = over_hollow(
-        rt.alloc(),
-        SyntaxKind::RenamedImportItem,
-        SyntaxKind::ImportItemPath,
-    )?;
-    let item = cast::<ImportItem>(&renamed)?;
-    assert!(rt; matches!(item, ImportItem::Renamed(_)) && !is_missing(item.path()));
-    assert!(rt; is_missing(item.original_name()) && is_missing(item.bound_name()));
-    Ok(())
-}
-
-#[test]
-fn a_group_of_nothing_binds_nothing(rt: HostRuntime) -> Result<(), Fail> {
-    let group = hollow(rt.alloc(), SyntaxKind::Parenthesized)?;
-    let pattern = cast::<Pattern>(&group)?;
-    assert!(rt; matches!(pattern, Pattern::Parenthesized(_)));
-    assert!(rt; pattern.bindings(rt.alloc())?.is_empty());
+    for (drawing, wanted) in [
+        ("ImportItemPath[ ]", "simple"),
+        ("RenamedImportItem[ ImportItemPath[ ] ]", "renamed"),
+    ] {
+        let node = drawn(rt.alloc(), drawing)?;
+        assert_eq!(rt; form(&node), wanted);
+    }
     Ok(())
 }
 
@@ -193,49 +181,77 @@ fn last_of<'a, T: AstNode<'a>>(last: Option<T>) -> Option<(SyntaxKind, bool)> {
 }
 
 /// The last item of the list that a node of this kind is.
-fn last_item(list: &SyntaxNode) -> Option<(SyntaxKind, bool)> {
-    match list.kind() {
-        SyntaxKind::Code => last_of(list.cast::<of::Code>()?.exprs().next_back()),
-        SyntaxKind::Markup => last_of(list.cast::<of::Markup>()?.exprs().next_back()),
-        SyntaxKind::Math => last_of(list.cast::<of::Math>()?.exprs().next_back()),
-        SyntaxKind::Array => last_of(list.cast::<of::Array>()?.items().next_back()),
-        SyntaxKind::Dict => last_of(list.cast::<of::Dict>()?.items().next_back()),
-        SyntaxKind::Destructuring => {
-            last_of(list.cast::<of::Destructuring>()?.items().next_back())
-        }
-        SyntaxKind::Args => last_of(list.cast::<of::Args>()?.items().next_back()),
-        SyntaxKind::Params => last_of(list.cast::<of::Params>()?.children().next_back()),
-        SyntaxKind::ImportItems => last_of(list.cast::<atoms::ImportItems>()?.iter().next_back()),
+fn last_item(node: &SyntaxNode) -> Option<(SyntaxKind, bool)> {
+    let list = Some(node);
+    match node.kind() {
+        SyntaxKind::Code => last_of(view::<of::Code>(list).exprs().next_back()),
+        SyntaxKind::Markup => last_of(view::<of::Markup>(list).exprs().next_back()),
+        SyntaxKind::Math => last_of(view::<of::Math>(list).exprs().next_back()),
+        SyntaxKind::Array => last_of(view::<of::Array>(list).items().next_back()),
+        SyntaxKind::Dict => last_of(view::<of::Dict>(list).items().next_back()),
+        SyntaxKind::Destructuring => last_of(view::<of::Destructuring>(list).items().next_back()),
+        SyntaxKind::Args => last_of(view::<of::Args>(list).items().next_back()),
+        SyntaxKind::Params => last_of(view::<of::Params>(list).children().next_back()),
+        SyntaxKind::ImportItems => last_of(view::<atoms::ImportItems>(list).iter().next_back()),
         SyntaxKind::ImportItemPath => {
-            last_of(list.cast::<atoms::ImportItemPath>()?.iter().next_back())
+            last_of(view::<atoms::ImportItemPath>(list).iter().next_back())
         }
-        SyntaxKind::Raw => last_of(list.cast::<atoms::Raw>()?.lines().next_back()),
+        SyntaxKind::Raw => last_of(view::<atoms::Raw>(list).lines().next_back()),
         _ => None,
     }
 }
 
+/// The last item of a drawn list.
+fn last_drawn(alloc: Global, drawing: &str) -> Result<Option<(SyntaxKind, bool)>, DrawingError> {
+    let list = drawn(alloc, drawing)?;
+    Ok(last_item(&list))
+}
+
+/// Lists of one node without children, and the kind of that node.
+const LISTS: [(&str, SyntaxKind); 11] = [
+    ("Code[ LetBinding[ ] ]", SyntaxKind::LetBinding),
+    ("Markup[ Strong[ ] ]", SyntaxKind::Strong),
+    ("Math[ MathFrac[ ] ]", SyntaxKind::MathFrac),
+    ("Array[ Spread[ ] ]", SyntaxKind::Spread),
+    ("Dict[ Named[ ] ]", SyntaxKind::Named),
+    (
+        "Destructuring[ Parenthesized[ ] ]",
+        SyntaxKind::Parenthesized,
+    ),
+    ("Args[ Named[ ] ]", SyntaxKind::Named),
+    ("Params[ Destructuring[ ] ]", SyntaxKind::Destructuring),
+    (
+        "ImportItems[ RenamedImportItem[ ] ]",
+        SyntaxKind::RenamedImportItem,
+    ),
+    ("ImportItemPath[ Ident[ ] ]", SyntaxKind::Ident),
+    ("Raw[ Text[ ] ]", SyntaxKind::Text),
+];
+
+/// Lists of nothing.
+const EMPTY: [&str; 11] = [
+    "Code[ ]",
+    "Markup[ ]",
+    "Math[ ]",
+    "Array[ ]",
+    "Dict[ ]",
+    "Destructuring[ ]",
+    "Args[ ]",
+    "Params[ ]",
+    "ImportItems[ ]",
+    "ImportItemPath[ ]",
+    "Raw[ ]",
+];
+
 #[test]
 fn lists_end_in_nodes_without_children(rt: HostRuntime) -> Result<(), Fail> {
-    let cases = [
-        (SyntaxKind::Code, SyntaxKind::LetBinding),
-        (SyntaxKind::Markup, SyntaxKind::Strong),
-        (SyntaxKind::Math, SyntaxKind::MathFrac),
-        (SyntaxKind::Array, SyntaxKind::Spread),
-        (SyntaxKind::Dict, SyntaxKind::Named),
-        (SyntaxKind::Destructuring, SyntaxKind::Parenthesized),
-        (SyntaxKind::Args, SyntaxKind::Named),
-        (SyntaxKind::Params, SyntaxKind::Destructuring),
-        (SyntaxKind::ImportItems, SyntaxKind::RenamedImportItem),
-        (SyntaxKind::ImportItemPath, SyntaxKind::Ident),
-        (SyntaxKind::Raw, SyntaxKind::Text),
-    ];
-    for (kind, below) in cases {
-        let list = over_hollow(rt.alloc(), kind, below)?;
-        assert!(rt; last_item(&list) == Some((below, true)), "{kind:?}");
-        if !kind.is_error() {
-            let empty = hollow(rt.alloc(), kind)?;
-            assert!(rt; last_item(&empty).is_none(), "{kind:?}");
-        }
+    for (drawing, below) in &LISTS {
+        let last = last_drawn(rt.alloc(), drawing)?;
+        assert_eq!(rt; last, Some((*below, true)), "{drawing}");
+    }
+    for drawing in &EMPTY {
+        let last = last_drawn(rt.alloc(), drawing)?;
+        assert!(rt; last.is_none(), "{drawing}");
     }
     Ok(())
 }

@@ -1,5 +1,5 @@
 //! What the tests share.
-use std::alloc::Global;
+use std::alloc::{AllocError, Global};
 use std::fmt::Debug;
 use std::test::Fail;
 use typst_node::{AstNode, SyntaxNode};
@@ -9,15 +9,14 @@ pub(crate) fn cast<'a, T: AstNode<'a>>(node: &'a SyntaxNode) -> Result<T, Fail> 
     Ok(node.cast::<T>().ok_or("no view")?)
 }
 
-/// Whether the node has a view of this type, and the view's `Debug` text begins so.
-pub(crate) fn shows<'a, T: AstNode<'a> + Debug>(
-    alloc: Global,
-    node: &'a SyntaxNode,
-    begin: &str,
-) -> Result<bool, Fail> {
-    match node.cast::<T>() {
-        Some(view) => Ok(format!(in alloc; "{view:?}")?.as_str().starts_with(begin)),
-        None => Ok(false),
+/// The node's view; a placeholder for no node, or one of another kind.
+pub(crate) fn view<'a, T: AstNode<'a>>(node: Option<&'a SyntaxNode>) -> T {
+    match node {
+        Some(node) => match node.cast::<T>() {
+            Some(view) => view,
+            None => T::placeholder(),
+        },
+        None => T::placeholder(),
     }
 }
 
@@ -32,4 +31,12 @@ pub(crate) fn text<'a, T: AstNode<'a>>(view: T) -> &'a str {
 /// Whether the view is a placeholder.
 pub(crate) fn is_missing<'a, T: AstNode<'a>>(view: T) -> bool {
     view.to_untyped().is_none()
+}
+
+/// The `Debug` text of what there is; `-` for nothing.
+pub(crate) fn shown<T: Debug + Copy>(alloc: Global, it: Option<T>) -> Result<String, AllocError> {
+    match it {
+        Some(it) => format!(in alloc; "{it:?}"),
+        None => String::from_str(alloc, "-"),
+    }
 }

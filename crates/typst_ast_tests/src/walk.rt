@@ -1,25 +1,19 @@
-use crate::trees::cast;
-use std::alloc::Global;
+use crate::trees::view;
+use std::alloc::{AllocError, Global};
 use std::test::Fail;
 use typst_ast::Expr;
 use typst_ast::views::Markup;
 use typst_drawn::drawn;
-use typst_node::{AstNode, SyntaxNode};
+use typst_node::AstNode;
 
 // `= Hi` and ` *there*`.
-fn document(alloc: Global) -> Result<SyntaxNode, Fail> {
-    Ok(drawn(
-        alloc,
-        "Markup[ Heading[ HeadingMarker:= Markup[ Text:Hi ] ] Space:~ Strong[ Markup[ Text:there ] ] ]",
-    )?)
-}
+const DOCUMENT: &str =
+    "Markup[ Heading[ HeadingMarker:= Markup[ Text:Hi ] ] Space:~ Strong[ Markup[ Text:there ] ] ]";
 
-// A short walk over a tree by typed views: the texts of headings and of strong content.
-#[test]
-fn a_short_walk_over_a_tree_by_typed_views(rt: HostRuntime) -> Result<(), Fail> {
-    let tree = document(rt.alloc())?;
-    let mut found = String::new(rt.alloc());
-    for expr in cast::<Markup>(&tree)?.exprs() {
+// The texts of headings and of strong content, each on a line.
+fn texts(alloc: Global, markup: Markup) -> Result<String, AllocError> {
+    let mut found = String::new(alloc);
+    for expr in markup.exprs() {
         let body = match expr {
             Expr::Heading(heading) => heading.body(),
             Expr::Strong(strong) => strong.body(),
@@ -30,6 +24,13 @@ fn a_short_walk_over_a_tree_by_typed_views(rt: HostRuntime) -> Result<(), Fail> 
             found.push('\n')?;
         }
     }
+    Ok(found)
+}
+
+#[test]
+fn a_short_walk_over_a_tree_by_typed_views(rt: HostRuntime) -> Result<(), Fail> {
+    let tree = drawn(rt.alloc(), DOCUMENT)?;
+    let found = texts(rt.alloc(), view(Some(&tree)))?;
     assert_eq!(rt; found.as_str(), "Hi\nthere\n");
     Ok(())
 }

@@ -152,9 +152,6 @@ module _ (p : ℕ → Bool) (bs r : List ℕ) (e : r ≡ without_trailing p bs) 
       let front : take (length r) bs ≡ r = ap (λ k. take k bs) length-trimmed ∙ sym e in
       IsCharBoundary-from_take bs (length r) whole (omega (arith, length-trimmed)) (subst IsUtf8 (sym front) cut)
 
-  pub drop-trimmed : drop (length r) bs ≡ ending p bs
-  drop-trimmed = ap (λ k. drop k bs) length-trimmed
-
 -- trimming by a function that tells of each character what the test tells
 pub trimmed_end_by_function : (tells : (ℕ → Bool) → Type 0) (t : ℕ → Bool) → ((c : ℕ) → t c ≡ true → c < 128) → tells t → (s r : List ℕ) → IsTrimEndMatches (λ m o. (k : ℕ → Bool) → tells k → FindsSuffixBy k m o) s r → r ≡ without_trailing t s
 trimmed_end_by_function tells t small told s r h =

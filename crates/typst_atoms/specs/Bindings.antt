@@ -2,7 +2,7 @@
 use Rattle.std.specs.Prelude.{ℕ, zero, suc, cond, List, [], ◌∷◌, Option, Some, None}
 use Rattle.std.specs.List.{flat_map}
 use Rattle.std.specs.Option.{option_to_list}
-use Rattle.typst_atoms.specs.Children.{all_children, first_child, last_child}
+use Rattle.typst_atoms.specs.Children.{all_children, all_in, first_child, last_child}
 use Rattle.typst_atoms.specs.Classes.{is_destructuring_item_kind, is_pattern_kind}
 use Rattle.typst_atoms.specs.Kinds.{is_kind}
 use Rattle.typst_base.specs.declared.kind.SyntaxKind.TheVariants as kinds
@@ -16,6 +16,10 @@ abbrev pub names_of_item : (Option Tree → List Tree) → Tree → List Tree
 names_of_item names t =
     cond (is_kind kinds.Named (node_kind t)) (names (last_child is_pattern_kind (Some t)))
     (cond (is_kind kinds.Spread (node_kind t)) (option_to_list (first_child (is_kind kinds.Ident) (Some t))) (names (Some t)))
+
+-- what the items of a destructuring among these trees bind, one after the other
+abbrev pub names_among : (Option Tree → List Tree) → List Tree → List Tree
+names_among names ts = flat_map (names_of_item names) (all_in is_destructuring_item_kind ts)
 
 -- what the items of a destructuring bind, one after the other
 abbrev pub names_of_items : (Option Tree → List Tree) → Option Tree → List Tree

@@ -1,5 +1,6 @@
 -- Raw texts.
-use Rattle.std.specs.Prelude.{ℕ, Bool, false, nat_le, cond, List, [], ◌∷◌, ◌++◌, length, Option, None, ◌⊎◌}
+use Rattle.std.specs.Prelude.{ℕ, ◌≡◌, Bool, true, false, nat_le, cond, List, [], ◌∷◌, ◌++◌, length, Option, None, ◌⊎◌}
+use Rattle.std.specs.List.{AllByRecursion}
 use Rattle.std.specs.Option.{option_map_or}
 use Rattle.std.specs.Str.{chars}
 use Rattle.typst_atoms.specs.Children.{children_in, first_child}
@@ -29,3 +30,13 @@ trimmed_chars node = trimmed_in (children_in node)
 abbrev pub AnyByRecursion : {X : Type 0} → (X → Type 0) → List X → Type 0
 AnyByRecursion P [] = ⊥
 AnyByRecursion P (x ∷ xs) = P x ⊎ AnyByRecursion P xs
+
+-- `is_newline c b`: the test of newlines may answer b for the character c.
+module _ (is_newline : ℕ → Bool → Type 0) where
+  -- it stands between delimiters of at least three backticks, with a newline trimmed off
+  abbrev pub IsBlock : Option Tree → Type 0
+  IsBlock node = (is_fenced node ≡ true) × AnyByRecursion (λ c. is_newline c true) (trimmed_chars node)
+
+  -- it doesn't
+  abbrev pub IsInline : Option Tree → Type 0
+  IsInline node = (is_fenced node ≡ false) ⊎ AllByRecursion (λ c. is_newline c false) (trimmed_chars node)

@@ -29,8 +29,8 @@ begins_with c (x ∷ xs) = x == c
 abbrev pub hex_len : List ℕ → ℕ
 hex_len cs = prefix_len (λ c. is_digit c 16) cs
 
--- Of what follows a backslash, how many characters belong to it: `u{`, the hexadecimal digits behind that and one `}`
--- if it stands behind these, else one character if there is one.
+-- Of what follows a backslash, how many characters belong to it: `u{`, the hexadecimal digits after that and one `}`
+-- if it stands after these, else one character if there is one.
 abbrev pub escape_len : List ℕ → ℕ
 escape_len [] = 0
 escape_len (c ∷ cs) =
@@ -57,7 +57,7 @@ char_or cs None = cs
 abbrev pub escape_value : List ℕ → List ℕ
 escape_value cs = char_or (92 ∷ take (escape_len cs) cs) (escape_char cs)
 
--- What characters stand for behind the first k, which belong to what was read before:
+-- What characters stand for after the first k, which belong to what was read before:
 -- a backslash, which is 92, for what its escape stands for, and any other character for itself.
 abbrev pub unescaped : ℕ → List ℕ → List ℕ
 unescaped k [] = []

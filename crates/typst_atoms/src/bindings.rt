@@ -2,7 +2,7 @@
 ghost use Rattle.std.specs.Prelude.{◌≡◌, ◌++◌, map, option_to_list, IfOk, Some};
 ghost use Rattle.std.specs.List.{flat_map};
 ghost use Rattle.std.specs.Option.{option_copied};
-ghost use Rattle.typst_atoms.specs.Bindings.{names_bound, names_of_item};
+ghost use Rattle.typst_atoms.specs.Bindings.{names_among, names_bound, names_of_item};
 ghost use Rattle.typst_atoms.specs.Children.{all_in, first_child, last_child};
 ghost use Rattle.typst_atoms.specs.Classes.{is_destructuring_item_kind, is_pattern_kind};
 ghost use Rattle.typst_atoms.specs.View.{node_of};
@@ -98,8 +98,7 @@ fn push_item<'a>(names: &mut Vec<Ident<'a>>, item: &'a SyntaxNode) -> Result<(),
 #[cycle(bindings)]
 pub fn push_items<'a>(names: &mut Vec<Ident<'a>>, nodes: &'a [SyntaxNode]) -> Result<(), AllocError>
     ensures { IfOk result (λ _. map node_of names.new.items
-        ≡ map node_of names.old.items
-        ++ map Some (flat_map (names_of_item names_bound) (all_in is_destructuring_item_kind nodes.now))) }
+        ≡ map node_of names.old.items ++ map Some (names_among names_bound nodes.now)) }
 {
     for node in nodes {
         push_item(names, node)?;

@@ -16,7 +16,7 @@ fn first_char(text: &str) -> char
     text.chars().next().unwrap_or('\0')
 }
 
-// The text behind one leading backslash.
+// The text after one leading backslash.
 fn behind_backslash(text: &str) -> &str
     ensures { result.now ≡ without_backslash text.now }
 {

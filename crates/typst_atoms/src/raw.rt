@@ -5,7 +5,7 @@ ghost use Rattle.std.specs.Str.{chars};
 ghost use Rattle.typst_atoms.specs.Children.{all_children};
 ghost use Rattle.typst_atoms.specs.Items.{nodes_left};
 ghost use Rattle.typst_atoms.specs.Kinds.{is_kind};
-ghost use Rattle.typst_atoms.specs.Raws.{is_fenced, lang_node, trimmed_chars, trimmed_in, AnyByRecursion};
+ghost use Rattle.typst_atoms.specs.Raws.{is_fenced, lang_node, trimmed_chars, trimmed_in, AnyByRecursion, IsBlock, IsInline};
 ghost use Rattle.typst_atoms.specs.Texts.{text_in};
 ghost use Rattle.typst_atoms.specs.View.{node_of, IsOptionalView};
 ghost use Rattle.typst_base.specs.declared.kind.SyntaxKind.TheVariants as kinds;
@@ -112,13 +112,8 @@ impl<'a> Raw<'a> {
     /// The caller tells which characters are newlines.
     pub fn block<F: Fn(char) -> bool>(self, is_newline: F) -> bool
         requires { F.IsAlwaysCallable is_newline }
-        ensures { MatchBool result
-            ((is_fenced (node_of self.entry) ≡ true)
-            × AnyByRecursion (λ c. F.post is_newline c true)
-            (trimmed_chars (node_of self.entry)))
-            ((is_fenced (node_of self.entry) ≡ false)
-            ⊎ AllByRecursion (λ c. F.post is_newline c false)
-            (trimmed_chars (node_of self.entry))) }
+        ensures { MatchBool result (IsBlock (λ c b. F.post is_newline c b) (node_of self.entry))
+            (IsInline (λ c b. F.post is_newline c b) (node_of self.entry)) }
     {
         self.is_fenced() && any_trimmed_char(children(self.node()), &is_newline)
     }

@@ -24,7 +24,7 @@ fn simple_escape(c: char) -> Option<char>
     }
 }
 
-// How many characters behind a backslash belong to it.
+// How many characters after a backslash belong to it.
 fn escape_len(chars: &[char]) -> usize
     ensures value { result ≡ escape_len chars.now }
     ensures within { result ≤ length chars.now }
@@ -67,7 +67,7 @@ fn push_all(text: &mut String, chars: &[char]) -> Result<(), AllocError>
     Ok(())
 }
 
-// Writes the character that was read, or a backslash and the characters behind it.
+// Writes the character that was read, or a backslash and the characters after it.
 fn push_escape(out: &mut String, escape: &[char], read: Option<char>) -> Result<(), AllocError>
     ensures { IfOk result (λ _. string_bytes out.new
         ≡ string_bytes out.old ++ encodes (char_or (92 ∷ escape.now) read)) }

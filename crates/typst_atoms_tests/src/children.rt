@@ -1,53 +1,56 @@
-use std::alloc::Global;
+use crate::rows::{assert_all, assert_texts};
+use crate::trees::got;
 use std::test::Fail;
 use typst_atoms::casts::{first_in, last_in};
 use typst_atoms::nodes::{behind, children, first_of_kind, leaf_text};
 use typst_atoms::{Items, views as of};
 use typst_base::SyntaxKind;
-use typst_node::SyntaxNode;
+use typst_drawn::drawn;
 
 // The pair `a: b`.
-fn pair(alloc: Global) -> Result<SyntaxNode, Fail> {
-    let a = SyntaxNode::leaf(alloc, SyntaxKind::Ident, "a")?;
-    let colon = SyntaxNode::leaf(alloc, SyntaxKind::Colon, ":")?;
-    let space = SyntaxNode::leaf(alloc, SyntaxKind::Space, " ")?;
-    let b = SyntaxNode::leaf(alloc, SyntaxKind::Ident, "b")?;
-    let children = vec![in alloc; a, colon, space, b]?;
-    Ok(SyntaxNode::inner(alloc, SyntaxKind::Named, children)?)
-}
+const PAIR: &str = "Named[ Ident:a Colon:: Space:~ Ident:b ]";
 
 #[test]
 fn children_are_found_by_kind(rt: HostRuntime) -> Result<(), Fail> {
-    let node = pair(rt.alloc())?;
-    assert_eq!(rt; children(Some(&node)).len(), 4);
-    let colon = first_of_kind(Some(&node), SyntaxKind::Colon);
-    assert!(rt; colon.is_some_and(|colon| colon.leaf_text() == ":"));
-    assert_eq!(rt; leaf_text(colon), ":");
-    assert_eq!(rt; leaf_text(Some(&node)), "");
-    assert!(rt; first_of_kind(Some(&node), SyntaxKind::Comma).is_none());
-    assert_eq!(rt; behind(Some(&node), SyntaxKind::Colon).len(), 2);
-    assert_eq!(rt; behind(Some(&node), SyntaxKind::Comma).len(), 0);
+    let pair = drawn(rt.alloc(), PAIR)?;
+    let node = Some(&pair);
+    let colon = first_of_kind(node, SyntaxKind::Colon);
+    let rows = [
+        ("children", children(node).len() == 4),
+        ("a colon", colon.is_some() && leaf_text(colon) == ":"),
+        ("an inner node's text", leaf_text(node) == ""),
+        ("no comma", first_of_kind(node, SyntaxKind::Comma).is_none()),
+        (
+            "after the colon",
+            behind(node, SyntaxKind::Colon).len() == 2,
+        ),
+        ("after no comma", behind(node, SyntaxKind::Comma).len() == 0),
+        ("no node's children", children(None).len() == 0),
+        ("no node's text", leaf_text(None) == ""),
+        (
+            "no node's colon",
+            first_of_kind(None, SyntaxKind::Colon).is_none(),
+        ),
+        (
+            "after no node's colon",
+            behind(None, SyntaxKind::Colon).len() == 0,
+        ),
+    ];
+    assert_all(&rt, &rows);
     Ok(())
 }
 
 #[test]
-fn a_missing_node_has_no_children(rt: HostRuntime) {
-    assert_eq!(rt; children(None).len(), 0);
-    assert_eq!(rt; leaf_text(None), "");
-    assert!(rt; first_of_kind(None, SyntaxKind::Colon).is_none());
-    assert_eq!(rt; behind(None, SyntaxKind::Colon).len(), 0);
-}
-
-#[test]
 fn views_are_found_in_a_list_of_nodes(rt: HostRuntime) -> Result<(), Fail> {
-    let node = pair(rt.alloc())?;
-    let first: of::Ident = first_in(children(Some(&node))).ok_or("no view")?;
-    assert_eq!(rt; first.get(), "a");
-    let last: of::Ident = last_in(children(Some(&node))).ok_or("no view")?;
-    assert_eq!(rt; last.get(), "b");
-    let rest = behind(Some(&node), SyntaxKind::Colon);
-    let mut items = Items::<of::Ident>::over(rest);
-    assert!(rt; items.next().is_some_and(|view| view.get() == "b"));
-    assert!(rt; items.next().is_none());
+    let pair = drawn(rt.alloc(), PAIR)?;
+    let node = Some(&pair);
+    let mut items = Items::<of::Ident>::over(behind(node, SyntaxKind::Colon));
+    let rows = [
+        ("the first", got(first_in(children(node))), "a"),
+        ("the last", got(last_in(children(node))), "b"),
+        ("after the colon", got(items.next()), "b"),
+        ("then none", got(items.next()), "-"),
+    ];
+    assert_texts(&rt, &rows);
     Ok(())
 }

@@ -1,8 +1,11 @@
+use crate::rows::assert_all;
 use crate::trees::cast;
 use std::hash::{DefaultHasher, Hash, Hasher};
+use std::process::Abort;
 use std::test::Fail;
 use typst_atoms::{ImportItem, MathAccess, views as of};
-use typst_base::{FileId, SyntaxKind};
+use typst_base::SyntaxKind;
+use typst_drawn::{drawn, drawn_all, numbered};
 use typst_node::{AstNode, SyntaxNode};
 
 fn hash_of<T: Hash>(value: &T) -> u64 {
@@ -14,90 +17,94 @@ fn hash_of<T: Hash>(value: &T) -> u64 {
 #[test]
 fn placeholders_of_one_type_are_equal(rt: HostRuntime) {
     let blank = of::Ident::placeholder();
-    assert!(rt; blank == of::Ident::placeholder());
-    assert_eq!(rt; hash_of(&blank), hash_of(&of::Ident::placeholder()));
+    let again = of::Ident::placeholder();
+    let access = MathAccess::placeholder();
     let ident = MathAccess::MathIdent(of::MathIdent::placeholder());
-    let access = MathAccess::MathFieldAccess(of::MathFieldAccess::placeholder());
-    assert!(rt; MathAccess::placeholder() == ident);
-    assert!(rt; MathAccess::placeholder() != access);
+    let field = MathAccess::MathFieldAccess(of::MathFieldAccess::placeholder());
+    let item = ImportItem::placeholder();
     let simple = ImportItem::Simple(of::ImportItemPath::placeholder());
     let renamed = ImportItem::Renamed(of::RenamedImportItem::placeholder());
-    assert!(rt; ImportItem::placeholder() == simple);
-    assert!(rt; ImportItem::placeholder() != renamed);
+    let rows = [
+        ("one type", blank == again),
+        ("their hashes", hash_of(&blank) == hash_of(&again)),
+        ("an access is an identifier", access == ident),
+        ("and no field", access != field),
+        ("an item is simple", item == simple),
+        ("and not renamed", item != renamed),
+        ("an access's node", access.is_equal(access)),
+        ("is no field's", !access.is_equal(field)),
+        ("an item's node", item.is_equal(item)),
+        ("is no renamed one's", !item.is_equal(renamed)),
+    ];
+    assert_all(&rt, &rows);
 }
 
-#[test]
-fn a_placeholder_is_no_view_of_an_empty_leaf(rt: HostRuntime) -> Result<(), Fail> {
-    let empty = SyntaxNode::placeholder(rt.alloc(), SyntaxKind::Ident);
-    let view = cast::<of::Ident>(&empty)?;
-    assert!(rt; view != of::Ident::placeholder());
-    assert!(rt; of::Ident::placeholder() != view);
+// How views compare of the identifiers `it`, `it`, `at`, an empty one and a numbered `it`.
+fn compare_idents(
+    rt: &impl Abort,
+    nodes: &[SyntaxNode],
+    numbered: &SyntaxNode,
+) -> Result<(), Fail> {
+    let [one, same, other, empty] = nodes else {
+        return Err("no nodes")?;
+    };
+    let view = cast::<of::Ident>(one)?;
+    let equal = cast::<of::Ident>(same)?;
+    let other = cast::<of::Ident>(other)?;
+    let empty = cast::<of::Ident>(empty)?;
+    let numbered = cast::<of::Ident>(numbered)?;
+    let blank = of::Ident::placeholder();
+    let rows = [
+        ("equal nodes", view == equal),
+        ("their hashes", hash_of(&view) == hash_of(&equal)),
+        ("another text", view != other),
+        ("another span", view != numbered),
+        ("an empty leaf, and none", empty != blank),
+        ("none, and an empty leaf", blank != empty),
+        ("the nodes of equal ones", view.is_equal(equal)),
+        ("the node of another text", !view.is_equal(other)),
+        ("no node", !view.is_equal(blank)),
+    ];
+    assert_all(rt, &rows);
     Ok(())
 }
 
 #[test]
-fn views_of_equal_nodes_are_equal(rt: HostRuntime) -> Result<(), Fail> {
-    let one = SyntaxNode::leaf(rt.alloc(), SyntaxKind::Ident, "it")?;
-    let same = SyntaxNode::leaf(rt.alloc(), SyntaxKind::Ident, "it")?;
-    let other = SyntaxNode::leaf(rt.alloc(), SyntaxKind::Ident, "at")?;
-    let view = cast::<of::Ident>(&one)?;
-    let equal = cast::<of::Ident>(&same)?;
-    assert!(rt; view == equal);
-    assert_eq!(rt; hash_of(&view), hash_of(&equal));
-    assert!(rt; view != cast::<of::Ident>(&other)?);
-    Ok(())
+fn views_are_equal_by_their_nodes(rt: HostRuntime) -> Result<(), Fail> {
+    let mut nodes = drawn_all(rt.alloc(), "Ident:it Ident:it Ident:at")?;
+    nodes.push(SyntaxNode::placeholder(rt.alloc(), SyntaxKind::Ident))?;
+    let numbered = numbered(rt.alloc(), "Ident:it", 2..4)?;
+    compare_idents(&rt, &nodes, &numbered)
 }
 
-#[test]
-fn views_of_nodes_with_other_spans_differ(rt: HostRuntime) -> Result<(), Fail> {
-    let one = SyntaxNode::leaf(rt.alloc(), SyntaxKind::Ident, "it")?;
-    let mut numbered = SyntaxNode::leaf(rt.alloc(), SyntaxKind::Ident, "it")?;
-    let file = FileId::new(1).ok_or("no file")?;
-    numbered.numberize(file, 2..4)?;
-    assert!(rt; cast::<of::Ident>(&one)? != cast::<of::Ident>(&numbered)?);
+// How views of several kinds compare: of the identifiers `pi` and `pi`, and of a field `pi`.
+fn compare_accesses(rt: &impl Abort, nodes: &[SyntaxNode]) -> Result<(), Fail> {
+    let [one, same, field] = nodes else {
+        return Err("no nodes")?;
+    };
+    let view = cast::<MathAccess>(one)?;
+    let equal = cast::<MathAccess>(same)?;
+    let field = cast::<MathAccess>(field)?;
+    let rows = [
+        ("equal nodes", view == equal),
+        ("their hashes", hash_of(&view) == hash_of(&equal)),
+        ("another kind", view != field),
+    ];
+    assert_all(rt, &rows);
     Ok(())
 }
 
 #[test]
 fn views_of_several_kinds_compare_by_kind_and_node(rt: HostRuntime) -> Result<(), Fail> {
-    let one = SyntaxNode::leaf(rt.alloc(), SyntaxKind::MathIdent, "pi")?;
-    let same = SyntaxNode::leaf(rt.alloc(), SyntaxKind::MathIdent, "pi")?;
-    let access = SyntaxNode::leaf(rt.alloc(), SyntaxKind::MathFieldAccess, "pi")?;
-    let view = cast::<MathAccess>(&one)?;
-    let equal = cast::<MathAccess>(&same)?;
-    assert!(rt; view == equal);
-    assert_eq!(rt; hash_of(&view), hash_of(&equal));
-    assert!(rt; view != cast::<MathAccess>(&access)?);
-    Ok(())
+    let nodes = drawn_all(rt.alloc(), "MathIdent:pi MathIdent:pi MathFieldAccess:pi")?;
+    compare_accesses(&rt, &nodes)
 }
 
 #[test]
 fn a_view_shows_its_node(rt: HostRuntime) -> Result<(), Fail> {
-    let node = SyntaxNode::leaf(rt.alloc(), SyntaxKind::Ident, "it")?;
+    let node = drawn(rt.alloc(), "Ident:it")?;
     let view = cast::<of::Ident>(&node)?;
     let shown = format!(in rt.alloc(); "{view:?}")?;
     assert!(rt; shown.as_str().contains("Ident: \"it\""));
     Ok(())
-}
-
-#[test]
-fn views_of_one_kind_are_equal_by_their_nodes(rt: HostRuntime) -> Result<(), Fail> {
-    let one = SyntaxNode::leaf(rt.alloc(), SyntaxKind::Ident, "it")?;
-    let same = SyntaxNode::leaf(rt.alloc(), SyntaxKind::Ident, "it")?;
-    let other = SyntaxNode::leaf(rt.alloc(), SyntaxKind::Ident, "at")?;
-    let view = cast::<of::Ident>(&one)?;
-    assert!(rt; view.is_equal(cast::<of::Ident>(&same)?));
-    assert!(rt; !view.is_equal(cast::<of::Ident>(&other)?));
-    assert!(rt; !view.is_equal(of::Ident::placeholder()));
-    Ok(())
-}
-
-#[test]
-fn placeholders_of_other_kinds_are_not_equal(rt: HostRuntime) {
-    let access = MathAccess::placeholder();
-    let field = MathAccess::MathFieldAccess(of::MathFieldAccess::placeholder());
-    assert!(rt; access.is_equal(access) && !access.is_equal(field));
-    let item = ImportItem::placeholder();
-    let renamed = ImportItem::Renamed(of::RenamedImportItem::placeholder());
-    assert!(rt; item.is_equal(item) && !item.is_equal(renamed));
 }

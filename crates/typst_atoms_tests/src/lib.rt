@@ -1,4 +1,6 @@
 //! Tests of `typst_atoms`, in a crate of their own, so that the code is proved without them.
+//!
+//! Most are tables, whose rows are asserted one by one: what a row shows, and what comes of it.
 #![tactic(auto)]
 
 #[cfg(test)]
@@ -11,4 +13,6 @@ mod comparing;
 mod missing;
 #[cfg(test)]
 mod readings;
+#[cfg(test)]
+mod rows;
 pub mod trees;

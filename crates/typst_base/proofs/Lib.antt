@@ -1,3 +1,4 @@
+pub mod KindListLemmas
 pub mod MapperLemmas
 pub mod SetLemmas
 pub mod SpanLemmas

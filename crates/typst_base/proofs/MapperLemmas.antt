@@ -162,8 +162,6 @@ pub kept_runs : (kept : List Segment) (rs : List (Range ℕ)) → kept ≡ runni
 kept_runs kept rs e = e ∙ ap (running 0) (sym (kept_ranges kept rs e))
 
 -- ---- segments are valid after a place, and so after each place before it
-nat_lt-above : (a b : ℕ) → nat_lt a b ≡ false → b ≤ a
-nat_lt-above a b e = grind (arith, nat_tests)
 
 pub first_invalid_below : (low high : ℕ) (rs : List (Range ℕ)) → low ≤ high → first_invalid high rs ≡ None → first_invalid low rs ≡ None
 first_invalid_below low high [] le e = refl

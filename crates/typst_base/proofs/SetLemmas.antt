@@ -28,11 +28,11 @@ number_of-lt _ = lit< tt
 unfoldable pub flag_at : ℕ → ℕ → ℕ → Bool
 flag_at low high i = if nat_lt i 128 then bit_at low i == 1 else (bit_at high (i - 128) == 1)
 
-flag_at_low : (low high i : ℕ) → i < 128 → flag_at low high i ≡ (bit_at low i == 1)
+pub flag_at_low : (low high i : ℕ) → i < 128 → flag_at low high i ≡ (bit_at low i == 1)
 unfolding flag_at
 flag_at_low low high i below = grind (arith, nat_tests)
 
-flag_at_high : (low high i : ℕ) → 128 ≤ i → flag_at low high i ≡ (bit_at high (i - 128) == 1)
+pub flag_at_high : (low high i : ℕ) → 128 ≤ i → flag_at low high i ≡ (bit_at high (i - 128) == 1)
 unfolding flag_at
 flag_at_high low high i above = grind (arith, nat_tests)
 

@@ -1,5 +1,5 @@
 -- What a diagnostic span is seen as.
-use Rattle.std.specs.Prelude.{ℕ, ◌≡◌, ◌+◌, ◌-◌, ◌*◌, ◌/◌, ◌%◌, ◌^◌, ◌==◌, ◌&&◌, Bool, not, min, nat_lt, if◌then◌else◌, refl, Option, Some, None}
+use Rattle.std.specs.Prelude.{ℕ, ◌≡◌, ◌+◌, ◌-◌, ◌*◌, ◌^◌, ◌==◌, ◌&&◌, Bool, not, min, nat_lt, if◌then◌else◌, refl, Option, Some, None}
 use Rattle.std.specs.Coded.{Coded, code_by, coded×, coded⊎, coded_ℕ, coded_option}
 use Rattle.std.specs.declared.ops.Range.{Range as Interval}
 use Rattle.std.proofs.Common.{◌⊎◌, inl, inr}

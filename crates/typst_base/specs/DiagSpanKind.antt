@@ -2,8 +2,8 @@
 use Rattle.std.specs.Prelude.{ℕ, ◌^◌, ◌==◌, nat_lt, if◌then◌else◌, Option, Some, None}
 use Rattle.std.specs.declared.ops.Range.{Range as Interval}
 use Rattle.typst_base.specs.DiagSpan.{DiagPlace, OfSpan, External}
-use Rattle.typst_base.specs.Span.{range_base, range_of}
-use Rattle.typst_base.specs.SubRange.{interval, moved}
+use Rattle.typst_base.specs.Span.{range_of}
+use Rattle.typst_base.specs.SubRange.{moved}
 use Rattle.typst_base.specs.declared.diag_span.DiagSpanKind.{DiagSpanKind}
 use Rattle.typst_base.specs.declared.diag_span.DiagSpanKind.TheVariants.{Detached, Number, Range}
 

@@ -3,6 +3,7 @@ pub mod DiagSpanKind
 pub mod DiagWord
 pub mod Flags
 pub mod KindClasses
+pub mod KindList
 pub mod KindMode
 pub mod KindName
 pub mod KindNumber

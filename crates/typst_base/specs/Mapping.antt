@@ -41,3 +41,11 @@ mapped m range =
     let behind = slice_index m.positions (range.end - 1) + 1 in
     if nat_lt range.start range.end then interval (slice_index m.positions range.start) behind
     else (if nat_lt 0 range.end then interval behind behind else interval m.first m.first)
+
+-- how far the position of the byte at the offset plus i lies after that of the byte at the offset
+abbrev pub start_within : Mapping → ℕ → ℕ → ℕ
+start_within m offset i = slice_index m.positions (offset + i) - slice_index m.positions offset
+
+-- how far after that the position of the byte before the offset plus i ends
+abbrev pub end_within : Mapping → ℕ → ℕ → ℕ
+end_within m offset i = slice_index m.positions (offset + i - 1) + 1 - slice_index m.positions offset

@@ -3,7 +3,7 @@
 ghost use Rattle.std.specs.List.{flat_map};
 ghost use Rattle.std.specs.Option.{option_copied};
 ghost use Rattle.std.specs.Prelude.{ℕ, ◌≡◌, ◌+◌, ◌-◌, ◌^◌, ◌<◌, ◌≤◌, ◌↔◌, IfOk, IsErrOf, None, Some, length, slice_index};
-ghost use Rattle.typst_base.specs.Mapping.{first_invalid, mapped, mapping_of, positions_of};
+ghost use Rattle.typst_base.specs.Mapping.{end_within, first_invalid, mapped, mapping_of, positions_of, start_within};
 ghost use Rattle.typst_base.specs.Segments.{HasByte, ranges, running};
 ghost use Rattle.typst_base.specs.SubRange.{MakesSubRange, interval};
 
@@ -134,10 +134,7 @@ impl RangeMapper {
     /// at this offset, or `None` where its start is 2^32 - 1 or more.
     pub fn map_sub_range(&self, offset: usize, sub_range: SubRange) -> Option<SubRange>
         requires { offset + sub_range.end ≤ length self.now.positions }
-        ensures { let origin = slice_index self.now.positions offset in
-            MakesSubRange result
-            (slice_index self.now.positions (offset + sub_range.start) - origin)
-            (slice_index self.now.positions (offset + sub_range.end - 1) + 1 - origin) }
+        ensures { MakesSubRange result (start_within self.now offset sub_range.start) (end_within self.now offset sub_range.end) }
     {
         // The part lies within the text, so the sums below fit.
         let _text_len = self.total_len();

@@ -1,6 +1,8 @@
 // Sets of kinds.
-ghost use Rattle.std.specs.Prelude.{◌≡◌, ◌||◌, ◌&&◌, IsTrue, false, not};
+ghost use Rattle.std.specs.Prelude.{◌≡◌, ◌<◌, ◌||◌, ◌&&◌, IfNone, IfSome, IsTrue, false, length, not};
 ghost use Rattle.typst_base.specs.Flags.{flags};
+ghost use Rattle.typst_base.specs.KindList.{kinds_in};
+ghost use Rattle.typst_base.specs.KindNumber.{number_of};
 ghost use Rattle.typst_base.specs.KindSet.{holds, is_kind};
 ghost use Rattle.typst_base.specs.declared.kind.SyntaxKind.{SyntaxKind};
 
@@ -112,6 +114,27 @@ impl SyntaxSet {
         }
     }
 
+    /// The kind with the lowest number.
+    pub(crate) fn first(self) -> Option<SyntaxKind>
+        ensures none { IfNone result ((k : SyntaxKind) → holds self k ≡ false) }
+        ensures held { IfSome result (λ first. IsTrue (holds self first)) }
+        ensures lowest { IfSome result (λ first. (k : SyntaxKind) → number_of k < number_of first → holds self k ≡ false) }
+    {
+        let number = if self.low != 0 {
+            self.low.trailing_zeros()
+        } else {
+            Self::LOW_BITS + self.high.trailing_zeros()
+        };
+        SyntaxKind::from_u8(number as u8)
+    }
+
+    /// How many kinds the set contains.
+    pub(crate) fn len(self) -> usize
+        ensures { result ≡ length (kinds_in self) }
+    {
+        (self.low.count_ones() + self.high.count_ones()) as usize
+    }
+
     /// Whether a set can hold this kind: it can hold each.
     pub fn fits(_kind: SyntaxKind) -> bool
         ensures { IsTrue result }
@@ -135,14 +158,6 @@ impl Default for SyntaxSet {
 impl fmt::Debug for SyntaxSet {
     /// Writes the kinds of the set in the order of their numbers, as `{Text, Space}`.
     fn fmt<W: fmt::Write>(&self, f: &mut fmt::Formatter<W>) -> fmt::Result {
-        let mut kinds = f.debug_set();
-        for number in 0..=u8::MAX {
-            if let Some(kind) = SyntaxKind::from_u8(number)
-                && self.contains(kind)
-            {
-                kinds.entry(&kind);
-            }
-        }
-        kinds.finish()
+        f.debug_set().entries(self.kinds()).finish()
     }
 }

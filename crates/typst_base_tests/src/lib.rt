@@ -6,6 +6,8 @@ mod diag_span;
 #[cfg(test)]
 mod kind;
 #[cfg(test)]
+mod kinds;
+#[cfg(test)]
 mod mapper;
 #[cfg(test)]
 mod named_sets;

@@ -39,7 +39,7 @@ pub enum Stop {
 /// Why a call gave no answer.
 #[derive(Clone, Copy, Debug, PartialEq, Eq)]
 pub enum Fault {
-    /// For want of memory.
+    /// Memory ran out.
     Refused(Refusal),
     /// For another reason, which there isn't.
     Other,

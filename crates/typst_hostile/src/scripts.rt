@@ -29,7 +29,7 @@ const ROOM: usize = 4096;
 
 /// `script::run`, over a script whose lines are bytes at hand.
 ///
-/// Where it ends for want of memory, what it printed is to be the beginning of the whole answer. Where one request of the
+/// Where it ends because memory ran out, what it printed is to be the beginning of the whole answer. Where one request of the
 /// queue was refused, all else is to be as if that request hadn't been in the script.
 pub fn run_script(alloc: Global, requests: Requests) -> Result<End, Stop> {
     let lines = lines_but(alloc, None)?;

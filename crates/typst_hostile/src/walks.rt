@@ -217,6 +217,7 @@ fn see(found: Option<LinkedNode>, seen: &mut Vec<usize>) -> Result<(), AllocErro
 }
 
 /// `leaf_at_counted` in a node of a thousand leaves, of which each hundredth has a byte: it is to read at most ten ends.
+/// It asks for memory once it has read them, so where that is refused `looks` is to hold what the whole search reads.
 pub fn find_among_thousand(alloc: Global, requests: Requests) -> Result<End, Stop> {
     let mut leaves = Vec::with_capacity(alloc, 1000)?;
     for index in 0..1000u32 {
@@ -236,6 +237,13 @@ pub fn find_among_thousand(alloc: Global, requests: Requests) -> Result<End, Sto
     Ok(match found {
         Ok(Some(leaf)) => End::answered(few && leaf.index() == 700 && leaf.offset() == 7),
         Ok(None) => End::Wrong,
-        Err(error) => End::failed(Fault::from(error), few && tree == kept),
+        Err(error) => {
+            let mut all = Looks::new();
+            let is_found = root
+                .leaf_at_counted(alloc, 8, Side::Before, &mut all)
+                .is_ok();
+            let told = is_found && looks.count() == all.count();
+            End::failed(Fault::from(error), few && told && tree == kept)
+        }
     })
 }

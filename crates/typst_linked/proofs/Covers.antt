@@ -110,10 +110,6 @@ range_none start end p out none = nowhere
     nowhere [] path = out path
     nowhere (j ∷ q) path = none j path.1.0
 
--- the node itself
-pub range_here : (start end : ℕ) (p : Place) (t : Tree) → subtree p ≡ Some t → begin_of p ≡ start → begin_of p + length (text t) ≡ end → HasRange start end p
-range_here start end p t h a b = subst (λ (o : Option Tree). IsSomeAnd o (λ u. (begin_of p ≡ start) × (begin_of p + length (text u) ≡ end))) (sym h) (a, b)
-
 pub range_there : (start end : ℕ) (p : Place) (t : Tree) → subtree p ≡ Some t → HasRange start end p → (begin_of p ≡ start) × (begin_of p + length (text t) ≡ end)
 range_there start end p t h k = subst (λ (o : Option Tree). IsSomeAnd o (λ u. (begin_of p ≡ start) × (begin_of p + length (text u) ≡ end))) h k
 

@@ -71,15 +71,6 @@ pub covering_next : (side : Side) (cursor : ℕ) (p : Place) (i : ℕ) → Cover
 covering_next Before cursor p i cover = inl cover
 covering_next After cursor p i cover = cover
 
--- the search ends here
-pub way_end : (side : Side) (cursor old new : ℕ) (p : Place) (t : Tree) → subtree p ≡ Some t → new ≤ old + binary_digits (length (trees t.children)) → old ≤ new → HasWay side cursor p old new
-way_end side cursor old new p t h cost grows = record {
-  path = [];
-  way = tt;
-  most = λ u hu. subst (λ (v : Tree). new ≤ old + weight_along binary_digits [] v) (same_node t u p h hu) (omega (arith, cost, weight_along-root binary_digits t));
-  each = λ cover. omega (arith, grows);
-}
-
 -- the search goes on at a child
 pub way_on : (side : Side) (cursor old mid new i : ℕ) (p child : Place) (t c : Tree) → subtree p ≡ Some t → slice_get (trees t.children) i ≡ Some c → subtree child ≡ Some c → child ≡ child_place p i →
     IsNextChild side cursor p i → mid ≤ old + binary_digits (length (trees t.children)) → (CoversCursor side cursor p → (old < mid) × CoversCursor side cursor child) → HasWay side cursor child mid new → HasWay side cursor p old new
@@ -91,14 +82,6 @@ way_on side cursor old mid new i p child t c h s hc e next cost one more = recor
 }
 
 -- ---- what is found
-
-pub covering_on : (side : Side) (cursor i : ℕ) (p child found : Place) → child ≡ child_place p i → IsCoveringBelow side cursor child found → IsCoveringBelow side cursor p found
-covering_on side cursor i p child found e f = record {
-  path = i ∷ f.path;
-  place_is = f.place_is ∙ ap (λ (b : Place). below b f.path) e ∙ (λ x. record { root = p.root; path = append_assoc p.path (i ∷ []) f.path x });
-  covers = f.covers;
-  childless = f.childless;
-}
 
 pub some_and : (P : Tree → Type 0) (o : Option Tree) → IsSomeAnd o P → (t : Tree) × (o ≡ Some t) × P t
 some_and P None h = absurd h

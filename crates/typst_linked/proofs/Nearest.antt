@@ -51,9 +51,3 @@ solid_before-more ts k d h =
       | inl s ↦ rw s (let z : k + 1 - 1 - 0 ≡ k = omega arith in ap Some z)
       | inr s ↦ rw s (position_from-map (λ j. k + 1 - 1 - j) (λ j. k - 1 - j) (0 + 1) 0 (reverse (take k ts)) (λ j. omega arith))
     ]
-
--- one tree less after an index
-pub solid_from-more : (ts : List Tree) (k : ℕ) (d : Tree) → k < length ts → position_from is_solid k (drop k ts) ≡ cond (is_solid (get_or ts k d)) (Some k) (position_from is_solid (k + 1) (drop (k + 1) ts))
-solid_from-more ts k d h =
-    let e : drop k ts ≡ get_or ts k d ∷ drop (k + 1) ts = rw add-one (drop-cons ts k d h) in
-    ap (position_from is_solid k) e

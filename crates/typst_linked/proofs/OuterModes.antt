@@ -14,10 +14,6 @@ outwards root (i ∷ path) = refl
 pub mode_step : (p : Place) → mode_from (mode_behind_parent p) p ≡ mode_behind p
 mode_step p = sym (outwards p.root (reverse p.path) ∙ (λ x. mode_from (mode_behind_parent p) (record { root = p.root; path = reverse-reverse p.path x })))
 
--- what is the parent's to a child
-pub mode_of_parent : (p : Place) (i : ℕ) → mode_behind_parent (child_place p i) ≡ mode_behind p
-mode_of_parent p i = ap (outer_mode p.root) (reverse-append p.path (i ∷ []))
-
 -- a root has no parent
 pub no_parent_mode : (p : Place) → p.path ≡ [] → None ≡ mode_behind_parent p
 no_parent_mode p e = sym (ap (λ path. outer_mode p.root (reverse path)) e)

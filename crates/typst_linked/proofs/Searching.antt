@@ -134,19 +134,6 @@ searching_below s start wanted hs l num =
     let absent : with_number wanted s ≡ None = first_path_none (has_number wanted) s (λ q m e. has_other wanted m (λ n. omega (arith, (node_in_order o.0 q s m o.1 e).0))) in
     sym (found_at (with_number wanted) start s None hs absent)
 
-pub searching_at_once : (s : Tree) (start here : Place) (wanted : ℕ) → subtree start ≡ Some s → here ≡ start → number s.label ≡ wanted → IsNumbered s → Some here ≡ found_below (with_number wanted) start
-unfolding searching_first
-searching_at_once s start here wanted hs h e num = searching_found (λ n. n) s start here wanted 1 hs (searching_first (λ n. n) s start here wanted 1 h refl (omega arith)) e num
-
--- one look is always within the bound
-pub one_look : (w : ℕ → ℕ) (s : Tree) (wanted looks : ℕ) → looks ≤ 1 → looks ≤ look_bound w wanted s
-one_look w s wanted looks l = elim (option_cases (floor_path wanted s)) [
-  | inl e ↦ subst (λ o. looks ≤ bound_along w s o) (sym e) l
-  | inr e ↦
-      let some : looks ≤ bound_along w s (Some e.0) = omega arith in
-      subst (λ o. looks ≤ bound_along w s o) (sym e.1) some
-]
-
 -- the numbers that were read
 pub searching_cost : (w : ℕ → ℕ) (s : Tree) (start here : Place) (wanted looks looks' : ℕ) (x : Searching w s start here wanted looks) → looks' ≤ looks + w (length (trees x.node.children)) → IsNumbered s → looks' ≤ look_bound w wanted s
 searching_cost w s start here wanted looks looks' x h num =

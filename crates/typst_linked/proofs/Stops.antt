@@ -170,9 +170,6 @@ later_trivia t c k s e =
     later_block t c k s ∙ ap (λ b. option_or (option_map (λ p. k ∷ p) (find (λ q. b && is_there is_good (at q c)) (paths c))) (later_from t (k + 1))) e
     ∙ ap (λ o. option_or (option_map (λ p. k ∷ p) o) (later_from t (k + 1))) (find_none (λ q. false) (paths c) (λ q. refl))
 
-pub later_end : (t : Tree) (k : ℕ) → length (trees t.children) ≤ k → later_from t k ≡ None
-later_end t k h = ap (λ ts. find (is_later t) (paths_from k (forest ts))) (drop_past (trees t.children) k h)
-
 -- a good leaf below a later child, and none there
 pub later_hit : (p : Place) (n c : Tree) (start i : ℕ) (leaf : Place) → subtree p ≡ Some n → slice_get (trees n.children) i ≡ Some c → is_solid c ≡ true → later_from n start ≡ later_from n i → Some leaf ≡ found_below (first_path is_good) (child_place p i) → Some leaf ≡ found_below (λ t. later_from t start) p
 later_hit p n c start i leaf h s solid sofar e =
@@ -184,9 +181,6 @@ pub later_miss : (p : Place) (n c : Tree) (start i : ℕ) → subtree p ≡ Some
 later_miss p n c start i h s solid sofar e =
     let x = below_miss (first_path is_good) p c i (at-push p.path i p.root n c h s) e in
     sofar ∙ later_solid n c i s solid ∙ ap (λ o. option_or (option_map (λ q. i ∷ q) o) (later_from n (i + 1))) x
-
-pub later_none : (p : Place) (n : Tree) (start i : ℕ) → subtree p ≡ Some n → length (trees n.children) ≤ i → later_from n start ≡ later_from n i → None ≡ found_below (λ t. later_from t start) p
-later_none p n start i h l sofar = sym (found_at (λ t. later_from t start) p n None h (sofar ∙ later_end n i l))
 
 -- the stop after a child is in a later sibling, or it is that after the parent
 pub next_hit : (p : Place) (i : ℕ) (m c : Tree) (leaf : Place) → subtree p ≡ Some m → slice_get (trees m.children) i ≡ Some c → Some leaf ≡ found_below (λ t. later_from t (i + 1)) p → Some leaf ≡ elsewhere stop_behind (child_place p i)

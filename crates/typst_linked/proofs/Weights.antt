@@ -11,10 +11,6 @@ sum_by-map : {X Y : Type 0} (f : Y → ℕ) (g : X → Y) (xs : List X) → sum_
 sum_by-map f g [] = refl
 sum_by-map f g (x ∷ xs) = sum_by-cons f (g x) (map g xs) ∙ ap (λ n. f (g x) + n) (sum_by-map f g xs) ∙ sym (sum_by-cons (λ y. f (g y)) x xs)
 
--- the weight of a node's children
-abbrev own_weight : (ℕ → ℕ) → Tree → ℕ
-own_weight w t = w (length (trees t.children))
-
 pub weight_along-root : (w : ℕ → ℕ) (t : Tree) → weight_along w [] t ≡ w (length (trees t.children))
 weight_along-root w t = omega (arith, sum_by-cons (λ q. w (child_count (at q t))) [] [])
 

@@ -1,7 +1,9 @@
 -- The first of some trees, one after the other, whose text ends at or after a goal.
-use Rattle.std.specs.Prelude.{ℕ, ◌+◌, ◌<◌, ◌≤◌, ◌≡◌, List, length, take, Some, slice_get}
+use Rattle.std.specs.Prelude.{ℕ, ◌+◌, ◌<◌, ◌≤◌, ◌≡◌, List, length, take, Option, Some, MatchOption, slice_get}
 use Rattle.typst_node.specs.Tree.{Tree, trees}
 use Rattle.typst_node.specs.Text.{own_text, text_of_all}
+use Rattle.typst_linked.specs.Place.{Place, child_place}
+use Rattle.typst_linked.specs.Ranges.{Covers, IsFirstCover}
 use Rattle.typst_linked.specs.declared.floor.Part.{Part}
 
 -- how many bytes of text stand before the tree with an index
@@ -36,3 +38,9 @@ HasNoOwnText t = (i : ℕ) (c : Tree) → slice_get (trees t.children) i ≡ Som
 -- an index of a tree, and where its text begins
 abbrev pub IsPart : List Tree → Part → Type 0
 IsPart ts part = (part.index < length ts) × (part.begin ≡ begin_at ts part.index)
+
+-- the answer is the first child of the place whose range covers the wanted one, or there is none
+abbrev pub AnswersFirstCover : ℕ → ℕ → List Tree → Option Part → Place → Type 0
+AnswersFirstCover start end children answer place =
+    MatchOption answer ((i : ℕ) → ¬ (Covers start end (child_place place i)))
+    (λ part. IsFirstCover start end place part.index × IsPart children part)

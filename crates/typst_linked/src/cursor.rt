@@ -74,7 +74,7 @@ impl<'a> LinkedNode<'a> {
     ///
     /// For [`Side::Before`] where there is no such byte in this node's text, it is the last node without children, if
     /// that begins at the cursor. Trivia and errors aren't skipped. If this node has no children, it is asked alone, and
-    /// then only its end counts. Only want of memory is an error.
+    /// then only its end counts. It fails only where memory runs out.
     pub fn leaf_at(
         &self,
         alloc: Global,

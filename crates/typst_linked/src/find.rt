@@ -1,11 +1,11 @@
 // Searches by spans.
-ghost use Rattle.std.specs.Prelude.{ℕ, ◌≡◌, ◌+◌, ◌↔◌, length, Some, IfOk, IfSome, IsTrue, MatchOption};
+ghost use Rattle.std.specs.Prelude.{ℕ, ◌≡◌, ◌+◌, ◌↔◌, length, Some, IfOk, IfSome, IsTrue};
 ghost use Rattle.typst_base.specs.SpanKind.{span_kind_of};
 ghost use Rattle.typst_node.specs.Tree.{Tree, trees};
 ghost use Rattle.typst_node.specs.Text.{text};
-ghost use Rattle.typst_linked.specs.Place.{Place, subtree, child_place};
-ghost use Rattle.typst_linked.specs.Part.{IsPart};
-ghost use Rattle.typst_linked.specs.Ranges.{begin_of, Covers, IsFirstCover, FindsRange};
+ghost use Rattle.typst_linked.specs.Place.{Place, subtree};
+ghost use Rattle.typst_linked.specs.Part.{AnswersFirstCover};
+ghost use Rattle.typst_linked.specs.Ranges.{begin_of, FindsRange};
 ghost use Rattle.typst_linked.specs.Own.{FindsOwn};
 ghost use Rattle.typst_linked.specs.Finds.{FindsNumber, FindsSpan, HasNumberBelow, AreLooksFor, AreLooksForSpan, HasLookEachStep, HasLookEachStepFor};
 
@@ -24,7 +24,7 @@ impl<'a> LinkedNode<'a> {
     ///
     /// A detached span points to none. A node number is looked for in numbered trees, whatever the span's file; in a
     /// tree that isn't numbered an answer has the number, but a node that has it may be missed. A range is looked for as
-    /// by [`LinkedNode::find_range`]. Only want of memory is an error.
+    /// by [`LinkedNode::find_range`]. It fails only where memory runs out.
     pub fn find(&self, alloc: Global, span: Span) -> Result<Option<Self>, AllocError>
         ensures found { IfOk result (FindsSpan (span_kind_of span) self.now) }
         ensures own { IfOk result (FindsOwn span self.now) }
@@ -131,7 +131,8 @@ impl<'a> LinkedNode<'a> {
 // The first child of a node with this range whose range covers the wanted one.
 fn first_cover(node: &SyntaxNode, range: Range<usize>, start: usize, end: usize) -> Option<Part>
     requires { range.end ≡ range.start + length (text node.now) }
-    ensures { (place : Place) → subtree place ≡ Some node.now → begin_of place ≡ range.start → MatchOption result ((i : ℕ) → ¬ (Covers start end (child_place place i))) (λ part. IsFirstCover start end place part.index × IsPart (trees node.now.children) part) }
+    ensures { (place : Place) → subtree place ≡ Some node.now → begin_of place ≡ range.start
+        → AnswersFirstCover start end (trees node.now.children) result place }
 {
     if node.child_slice().is_empty() {
         return None;

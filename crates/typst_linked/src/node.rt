@@ -135,7 +135,7 @@ impl<'a> LinkedNode<'a> {
 
 /// # Children
 impl<'a> LinkedNode<'a> {
-    /// The children, in order and from both ends. Only want of memory is an error.
+    /// The children, in order and from both ends. It fails only where memory runs out.
     pub fn children(&self, alloc: Global) -> Result<LinkedChildren<'a>, AllocError>
         ensures { IfOk result (IsAllOf self.now) }
     {

@@ -8,7 +8,7 @@ use std::alloc::{AllocError, Global};
 impl<'a> LinkedNode<'a> {
     /// The child indices from the root down to this node, none for the root.
     ///
-    /// Only want of memory is an error. Takes time in proportion to the depth.
+    /// It fails only where memory runs out. Takes time in proportion to the depth.
     pub fn path(&self, alloc: Global) -> Result<Vec<usize>, AllocError>
         ensures { IfOk result (λ path. path.items ≡ self.now.path) }
     {

@@ -38,7 +38,7 @@ impl<'a> Model for LinkedPreorder<'a> {
 
 /// # Preorder
 impl<'a> LinkedNode<'a> {
-    /// The nodes of this node's subtree, itself first, in preorder. Only want of memory is an error.
+    /// The nodes of this node's subtree, itself first, in preorder. It fails only where memory runs out.
     pub fn preorder(&self, alloc: Global) -> Result<LinkedPreorder<'a>, AllocError>
         ensures { IfOk result (λ left. left ≡ places_below self.now) }
     {

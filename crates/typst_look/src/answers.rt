@@ -2,11 +2,11 @@
 ghost use Rattle.std.specs.Prelude.{◌≡◌, ◌↔◌, ◌++◌, [], false, true, IfOk, IsErr, IsOkAnd, IsTrue, string_bytes};
 ghost use Rattle.typst_look.specs.Kept.{Keeps};
 
-use crate::lists::Ends;
+use crate::lists::{Ends, both, both_of};
 use crate::place::Place;
 use std::alloc::{AllocError, Global};
 use std::fmt::{Debug, Display};
-use typst_tree::ast::{AstNode, Expr, Ident, Pattern};
+use typst_tree::ast::{AstNode, Expr, Exprs, Ident, Items, Pattern};
 use typst_tree::{LinkedNode, SyntaxNode};
 
 /// The answers about one numbered tree.
@@ -308,8 +308,22 @@ impl<'t> Answers<'t> {
         self.end();
     }
 
+    /// The views of one class.
+    pub fn items<'v, T: AstNode<'v> + PartialEq>(&mut self, what: &str, items: Items<'v, T>)
+        ensures kept { Keeps self.old self.new }
+    {
+        self.list(what, both_of(self.alloc, items));
+    }
+
+    /// The expressions of markup or of math, handed over three times.
+    pub fn expr_list(&mut self, front: Exprs, back: Exprs, mixed: Exprs)
+        ensures kept { Keeps self.old self.new }
+    {
+        self.list("exprs", both(self.alloc, front, back, mixed));
+    }
+
     /// A list, and whether it is another one from the back, or from both ends in turn.
-    pub fn list<'v, T: AstNode<'v>>(&mut self, what: &str, ends: Result<Ends<T>, AllocError>)
+    fn list<'v, T: AstNode<'v>>(&mut self, what: &str, ends: Result<Ends<T>, AllocError>)
         ensures kept { Keeps self.old self.new }
     {
         match ends {

@@ -2,7 +2,6 @@
 ghost use Rattle.typst_look.specs.Kept.{Keeps};
 
 use crate::answers::Answers;
-use crate::lists::both;
 use crate::subject::Subject;
 use typst_tree::SyntaxKind;
 use typst_tree::ast::{
@@ -14,7 +13,7 @@ pub fn answer(out: &mut Answers, subject: Subject)
     ensures kept { Keeps out.old out.new }
 {
     match subject.kind() {
-        SyntaxKind::Code => code(out, subject.view()),
+        SyntaxKind::Code => out.items("exprs", subject.view::<Code>().exprs()),
         SyntaxKind::CodeBlock => out.view("body", subject.view::<CodeBlock>().body()),
         SyntaxKind::Parenthesized => parenthesized(out, subject.view()),
         SyntaxKind::Unary => unary(out, subject.view()),
@@ -23,18 +22,9 @@ pub fn answer(out: &mut Answers, subject: Subject)
         SyntaxKind::FuncCall => func_call(out, subject.view()),
         SyntaxKind::Args => args(out, subject.view()),
         SyntaxKind::Closure => closure(out, subject.view()),
-        SyntaxKind::Params => params(out, subject.view()),
+        SyntaxKind::Params => out.items("children", subject.view::<Params>().children()),
         _ => {}
     }
-}
-
-fn code(out: &mut Answers, code: Code)
-    ensures kept { Keeps out.old out.new }
-{
-    out.list(
-        "exprs",
-        both(out.alloc, code.exprs(), code.exprs(), code.exprs()),
-    );
 }
 
 fn parenthesized(out: &mut Answers, parenthesized: Parenthesized)
@@ -76,10 +66,7 @@ fn func_call(out: &mut Answers, call: FuncCall)
 fn args(out: &mut Answers, args: Args)
     ensures kept { Keeps out.old out.new }
 {
-    out.list(
-        "items",
-        both(out.alloc, args.items(), args.items(), args.items()),
-    );
+    out.items("items", args.items());
     out.shown("trailing_comma", args.trailing_comma());
 }
 
@@ -89,18 +76,4 @@ fn closure(out: &mut Answers, closure: Closure)
     out.option("name", closure.name());
     out.view("params", closure.params());
     out.expr_view("body", closure.body());
-}
-
-fn params(out: &mut Answers, params: Params)
-    ensures kept { Keeps out.old out.new }
-{
-    out.list(
-        "children",
-        both(
-            out.alloc,
-            params.children(),
-            params.children(),
-            params.children(),
-        ),
-    );
 }

@@ -13,11 +13,11 @@ pub fn answer(out: &mut Answers, subject: Subject)
     match subject.kind() {
         SyntaxKind::SetRule => set_rule(out, subject.view()),
         SyntaxKind::ShowRule => show_rule(out, subject.view()),
-        SyntaxKind::Contextual => contextual(out, subject.view()),
+        SyntaxKind::Contextual => out.expr_view("body", subject.view::<Contextual>().body()),
         SyntaxKind::Conditional => conditional(out, subject.view()),
         SyntaxKind::WhileLoop => while_loop(out, subject.view()),
         SyntaxKind::ForLoop => for_loop(out, subject.view()),
-        SyntaxKind::FuncReturn => func_return(out, subject.view()),
+        SyntaxKind::FuncReturn => out.expr_option("body", subject.view::<FuncReturn>().body()),
         _ => {}
     }
 }
@@ -35,18 +35,6 @@ fn show_rule(out: &mut Answers, rule: ShowRule)
 {
     out.expr_option("selector", rule.selector());
     out.expr_view("transform", rule.transform());
-}
-
-fn contextual(out: &mut Answers, contextual: Contextual)
-    ensures kept { Keeps out.old out.new }
-{
-    out.expr_view("body", contextual.body());
-}
-
-fn func_return(out: &mut Answers, func_return: FuncReturn)
-    ensures kept { Keeps out.old out.new }
-{
-    out.expr_option("body", func_return.body());
 }
 
 fn conditional(out: &mut Answers, conditional: Conditional)

@@ -2,7 +2,7 @@
 ghost use Rattle.typst_look.specs.Kept.{Keeps};
 
 use crate::answers::Answers;
-use crate::lists::both;
+use crate::lists::both_of;
 use crate::names::{is_name, package};
 use crate::subject::Subject;
 use typst_tree::SyntaxKind;
@@ -20,7 +20,10 @@ pub fn answer(out: &mut Answers, subject: Subject)
         SyntaxKind::RenamedImportItem => renamed_import_item(out, subject.view()),
         SyntaxKind::ImportItems => import_items(out, subject.view()),
         SyntaxKind::ModuleImport => module_import(out, subject.view()),
-        SyntaxKind::ModuleInclude => module_include(out, subject.view()),
+        SyntaxKind::ModuleInclude => out.expr_view(
+            "source",
+            subject.view::<ModuleInclude>().source(),
+        ),
         _ => {}
     }
 }
@@ -28,10 +31,7 @@ pub fn answer(out: &mut Answers, subject: Subject)
 fn import_item_path(out: &mut Answers, path: ImportItemPath)
     ensures kept { Keeps out.old out.new }
 {
-    out.list(
-        "iter",
-        both(out.alloc, path.iter(), path.iter(), path.iter()),
-    );
+    out.items("iter", path.iter());
     out.view("name", path.name());
 }
 
@@ -46,7 +46,7 @@ fn renamed_import_item(out: &mut Answers, item: RenamedImportItem)
 fn import_items(out: &mut Answers, items: ImportItems)
     ensures kept { Keeps out.old out.new }
 {
-    match both(out.alloc, items.iter(), items.iter(), items.iter()) {
+    match both_of(out.alloc, items.iter()) {
         Ok(ends) => {
             import_item_list(out, &ends.items);
             out.warn_of(ends.agree);
@@ -94,12 +94,6 @@ fn module_import(out: &mut Answers, import: ModuleImport)
     imports(out, import.imports());
     out.option("new_name", import.new_name());
     bare_name(out, import);
-}
-
-fn module_include(out: &mut Answers, include: ModuleInclude)
-    ensures kept { Keeps out.old out.new }
-{
-    out.expr_view("source", include.source());
 }
 
 fn imports(out: &mut Answers, imports: Option<Imports>)

@@ -2,12 +2,23 @@
 ghost use Rattle.std.specs.Iterator.{IsFinite};
 
 use std::alloc::{AllocError, Global};
+use typst_tree::ast::{AstNode, Items};
 
 /// The items of a list, and whether those from the back, and those from both ends in turn, are the same ones.
 #[derive(Drop)]
 pub struct Ends<T> {
     pub items: Vec<T>,
     pub agree: bool,
+}
+
+/// The views of one class.
+///
+/// Its own function, so that what is known of iterators is looked up here alone, whatever the views are.
+pub fn both_of<'t, T>(alloc: Global, items: Items<'t, T>) -> Result<Ends<T>, AllocError>
+where
+    T: AstNode<'t> + PartialEq,
+{
+    both(alloc, items.clone()?, items.clone()?, items)
 }
 
 /// The items of a list, which is handed over three times.

@@ -2,7 +2,6 @@
 ghost use Rattle.typst_look.specs.Kept.{Keeps};
 
 use crate::answers::Answers;
-use crate::lists::both;
 use crate::subject::Subject;
 use typst_tree::SyntaxKind;
 use typst_tree::ast::{
@@ -31,10 +30,7 @@ pub fn answer(out: &mut Answers, subject: Subject)
 fn markup(out: &mut Answers, markup: Markup)
     ensures kept { Keeps out.old out.new }
 {
-    out.list(
-        "exprs",
-        both(out.alloc, markup.exprs(), markup.exprs(), markup.exprs()),
-    );
+    out.expr_list(markup.exprs(), markup.exprs(), markup.exprs());
 }
 
 fn heading(out: &mut Answers, heading: Heading)

@@ -31,10 +31,7 @@ pub fn answer(out: &mut Answers, subject: Subject)
 fn math(out: &mut Answers, math: Math)
     ensures kept { Keeps out.old out.new }
 {
-    out.list(
-        "exprs",
-        both(out.alloc, math.exprs(), math.exprs(), math.exprs()),
-    );
+    out.expr_list(math.exprs(), math.exprs(), math.exprs());
     out.shown("was_deparenthesized", math.was_deparenthesized());
 }
 

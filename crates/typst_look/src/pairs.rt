@@ -2,7 +2,6 @@
 ghost use Rattle.typst_look.specs.Kept.{Keeps};
 
 use crate::answers::Answers;
-use crate::lists::both;
 use crate::subject::Subject;
 use typst_tree::SyntaxKind;
 use typst_tree::ast::{
@@ -15,8 +14,8 @@ pub fn answer(out: &mut Answers, subject: Subject)
     ensures kept { Keeps out.old out.new }
 {
     match subject.kind() {
-        SyntaxKind::Array => array(out, subject.view()),
-        SyntaxKind::Dict => dict(out, subject.view()),
+        SyntaxKind::Array => out.items("items", subject.view::<Array>().items()),
+        SyntaxKind::Dict => out.items("items", subject.view::<Dict>().items()),
         SyntaxKind::Destructuring => destructuring(out, subject.view()),
         SyntaxKind::Named => named(out, subject.view()),
         SyntaxKind::Keyed => keyed(out, subject.view()),
@@ -27,31 +26,10 @@ pub fn answer(out: &mut Answers, subject: Subject)
     }
 }
 
-fn array(out: &mut Answers, array: Array)
-    ensures kept { Keeps out.old out.new }
-{
-    out.list(
-        "items",
-        both(out.alloc, array.items(), array.items(), array.items()),
-    );
-}
-
-fn dict(out: &mut Answers, dict: Dict)
-    ensures kept { Keeps out.old out.new }
-{
-    out.list(
-        "items",
-        both(out.alloc, dict.items(), dict.items(), dict.items()),
-    );
-}
-
 fn destructuring(out: &mut Answers, parts: Destructuring)
     ensures kept { Keeps out.old out.new }
 {
-    out.list(
-        "items",
-        both(out.alloc, parts.items(), parts.items(), parts.items()),
-    );
+    out.items("items", parts.items());
     out.names("own bindings", parts.bindings(out.alloc));
 }
 

@@ -52,7 +52,7 @@ impl<'a> Remark<'a> {
     }
 
     /// Puts the remark on the node. False, and nothing has changed, where the node takes no hints or has no such part.
-    /// Only want of memory is an error, and then nothing has changed either.
+    /// It fails only where memory runs out, and then nothing has changed either.
     pub fn put_on(self, alloc: Global, node: &mut SyntaxNode) -> Result<bool, AllocError>
         ensures put { IfOk result (λ is_put. IsTrue is_put
             → TakesRemark self.entry node.old × (node.new ≡ remarked self.entry node.old)) }

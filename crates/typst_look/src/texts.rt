@@ -2,7 +2,6 @@
 ghost use Rattle.typst_look.specs.Kept.{Keeps};
 
 use crate::answers::Answers;
-use crate::lists::both;
 use crate::names::is_newline;
 use crate::subject::Subject;
 use typst_tree::SyntaxKind;
@@ -66,10 +65,7 @@ fn math_ident(out: &mut Answers, ident: MathIdent)
 fn raw(out: &mut Answers, raw: Raw)
     ensures kept { Keeps out.old out.new }
 {
-    out.list(
-        "lines",
-        both(out.alloc, raw.lines(), raw.lines(), raw.lines()),
-    );
+    out.items("lines", raw.lines());
     out.option("lang", raw.lang());
     out.shown("block", raw.block(is_newline));
 }

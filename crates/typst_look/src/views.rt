@@ -25,8 +25,8 @@ fn of_node(out: &mut Answers, node: &SyntaxNode)
 {
     let subject = Subject::Node(node);
     out.turn_to(subject.place());
-    of_expr(out, node.cast());
-    of_pattern(out, node.cast());
+    of_expr(out, Expr::from_untyped(node));
+    of_pattern(out, Pattern::from_untyped(node));
     of_own_view(out, subject);
 }
 

@@ -57,9 +57,6 @@ module _ (a : Inside) (b : Box InnerNode Global) (t : Tree) (is : a.node ≡ Inn
 pub below_within : (file : ℕ) (t : Tree) → IsNumberedFor file t → IsWithin file (number t.label + 1) (bound t.label) t.children
 below_within file t n = (within_from_numbered file t n).2
 
-pub bound_within : (file : ℕ) (t : Tree) → IsNumberedFor file t → (2 ≤ number t.label) × (bound t.label ≤ 2 ^ 47)
-bound_within file t n = let w = within_from_numbered file t n in (w.1, w.3)
-
 pub file_within : (file : ℕ) (t : Tree) → IsNumberedFor file t → t.label.span.file ≡ file
 file_within file t n = n.in_file.0.0
 

@@ -34,3 +34,4 @@ pub mod SamePlain
 pub mod EntryLemmas
 pub mod TellAlike
 pub mod Measured
+pub mod Blocks

@@ -67,12 +67,6 @@ counted s w from to n m from_is to_is n_is m_is =
 pub fewer_in : (s : Site) (w : ℕ) → count_of_all (trees_in s w) < new_count s
 fewer_in s w = omega (arith, count_in s w, count_new s, count_split (length s.before - w) s.before, count_split w s.behind)
 
-pub fewer_before : (s : Site) (i : ℕ) → count_of_all (drop i s.before) < new_count s
-fewer_before s i = omega (arith, count_new s, count_split i s.before)
-
-pub fewer_behind : (s : Site) (i : ℕ) → count_of_all (take i s.behind) < new_count s
-fewer_behind s i = omega (arith, count_new s, count_split i s.behind)
-
 -- what a wider window gains
 pub gained : (s : Site) (w next a b c d n m : ℕ) → w ≤ next → a ≡ length s.before - next → b ≡ length s.before - w → c ≡ min w (length s.behind) → d ≡ min next (length s.behind)
     → n ≡ count_of_all (slice_range s.before a b) → m ≡ count_of_all (slice_range s.behind c d) → count_of_all (trees_in s w) + (n + m) ≡ count_of_all (trees_in s next)
@@ -102,12 +96,6 @@ reach_next (suc (suc k)) w r h e z m =
     let p : w ≡ 2 ^ k = e ∙ ap reach (let q : suc (suc k) - 1 ≡ suc k = omega arith in q) in
     let twice : r ≡ 2 * w = m (omega (arith, positive_power k)) in
     twice ∙ rw p (grind arith)
-
--- no window has room, up to one that holds all
-pub no_first : (s : Site) (last : ℕ) → HoldsAll s (reach last) → ((j : ℕ) → j < suc last → ¬ (HasRoom s (reach j))) → HasNoFirst s
-no_first s last all none k f =
-    let within : ¬ (last < k) = λ g. f.among last g all in
-    none k (omega (arith, within)) f.room
 
 -- an added measure of a list with others in the place of a part
 pub splice_measure : (m : List Tree → ℕ) → ((ts us : List Tree) → m (ts ++ us) ≡ m ts + m us) → (ts us : List Tree) (a b : ℕ) → a ≤ b → m (splice ts a b us) + m (slice_range ts a b) ≡ m ts + m us

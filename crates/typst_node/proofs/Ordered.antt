@@ -24,10 +24,6 @@ pub all_weaker : {X : Type 0} (P Q : X → Type 0) → ((x : X) → P x → Q x)
 all_weaker P Q f [] h = tt
 all_weaker P Q f (x ∷ xs) h = (f x h.0, all_weaker P Q f xs h.1)
 
-all_both : {X : Type 0} (P Q : X → Type 0) (xs : List X) → AllByRecursion P xs → AllByRecursion Q xs → AllByRecursion (λ x. P x × Q x) xs
-all_both P Q [] h k = tt
-all_both P Q (x ∷ xs) h k = ((h.0, k.0), all_both P Q xs h.1 k.1)
-
 all_numbers : (P : ℕ → Type 0) (ls : List Label) → AllByRecursion (λ l. P (number l)) ls → AllByRecursion P (map number ls)
 all_numbers P [] h = tt
 all_numbers P (l ∷ ls) h = (h.0, all_numbers P ls h.1)

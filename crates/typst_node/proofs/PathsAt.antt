@@ -8,7 +8,7 @@ use Rattle.typst_node.specs.Count.{SumsFit}
 use Rattle.typst_node.specs.Plain.{plain, plain_forest}
 use Rattle.typst_node.specs.PlainEdit.{edited, edited_at}
 use Rattle.typst_node.specs.Paths.{no_tree, tree_at, with_children}
-use Rattle.typst_node.specs.EditBelow.{IsReplacement}
+use Rattle.typst_node.specs.EditBelow.{IsEdit, IsReplacement}
 use Rattle.typst_node.specs.declared.node.replace.Renumbered.{Renumbered}
 use Rattle.typst_node.specs.declared.node.replace.ReplaceError.{ReplaceError}
 use Rattle.typst_node.proofs.Trees.{trees_of_forest, forest-trees}
@@ -20,9 +20,9 @@ pub frame_nil : (path : List ℕ) (t u : Tree) → length path ≡ 0 → u.label
 frame_nil [] t u h e = λ i. record { label = e i; children = sym (forest-trees u.children) i }
 frame_nil (n ∷ path) t u h e = absurd (omega arith)
 
-pub inner_nil : (path : List ℕ) (t : Tree) → length path ≡ 0 → IsInner (tree_at path t).label.content → IsInner t.label.content
-inner_nil [] t h e = e
-inner_nil (n ∷ path) t h e = absurd (omega arith)
+pub edit_nil : (path : List ℕ) (from to : ℕ) (others : List Tree) (t : Tree) → length path ≡ 0 → IsEdit path from to others t → IsEdit [] from to others t
+edit_nil [] from to others t h e = e
+edit_nil (n ∷ path) from to others t h e = absurd (omega arith)
 
 pub at_nil : (path : List ℕ) (from to : ℕ) (others : List Tree) (t u : Tree) (r : Result Renumbered ReplaceError) → length path ≡ 0 → IsReplacement from to others t u r → IsReplacement from to others (tree_at path t) (tree_at path u) r
 at_nil [] from to others t u r h e = e

@@ -89,5 +89,5 @@ module _ (change : Label → Label) (keeps : KeepsMeasures change) where
       descendants = descendants ∙ m.descendants ∙ ap (λ vs. suc (count_of_all vs)) were ∙ ap suc (sym same_count) ∙ ap (λ vs. suc (count_of_all vs)) (sym are);
       errors = ap (λ d. d.errors) diagnosis ∙ m.errors ∙ ap (λ vs. list_any is_error (preorder (forest vs))) were ∙ sym same_errors ∙ ap (λ vs. list_any is_error (preorder (forest vs))) (sym are);
       warnings = ap (λ d. d.warnings) diagnosis ∙ m.warnings ∙ ap (λ vs. list_any is_warned (preorder (forest vs))) were ∙ sym same_warnings ∙ ap (λ vs. list_any is_warned (preorder (forest vs))) (sym are);
-      ends = ap (λ v. v.items) ends ∙ m.ends ∙ ap (ends_from 0) were ∙ sym (same_ends 0) ∙ ap (ends_from 0) (sym are);
+      ends = ends ∙ m.ends ∙ ap (ends_from 0) were ∙ sym (same_ends 0) ∙ ap (ends_from 0) (sym are);
     }

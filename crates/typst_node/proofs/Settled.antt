@@ -1,6 +1,6 @@
 -- Sums, diagnoses and ends after a part of a child list was exchanged.
 use Rattle.std.proofs.Common.{◌≡◌, ℕ, suc, zero, ◌+◌, ◌-◌, ◌<◌, ◌≤◌, ◌^◌, Bool, true, false, ◌||◌, List, [], ◌∷◌, ◌++◌, length, map, take, drop, refl, sym, ap, subst, ◌∙◌, arith, append_assoc, length-append, length-take, length-drop, get_or, set, drop-cons}
-use Rattle.std.proofs.lemmas.List.{take-append-drop, take_more, take_more_set, drop-set-lt, drop-drop, map-append, take_at, drop_at, take-set, drop-set}
+use Rattle.std.proofs.lemmas.List.{take-append-drop, take_more, take_more_set, take_at, drop_at, take-set, drop-set}
 use Rattle.std.proofs.Math.Seq.{take-add}
 use Rattle.std.proofs.lemmas.List.Folds.{list_any-append, drop_split}
 use Rattle.std.specs.Prelude.{slice_range}
@@ -97,20 +97,6 @@ end_more es ts i end h k same is =
     let many : i < length (ends_from 0 ts) = omega (arith, length_of_ends 0 ts) in
     take_more_set es i end k ∙ ((λ j. same j ++ (is ∙ sym (child_end_is ts i 0 h)) j ∷ []) ∙ sym (take_more (ends_from 0 ts) i 0 many))
 
--- one more end is moved
-pub shift_done : (xs ys : List ℕ) (k gone added : ℕ) → k < length xs → k < length ys → take k ys ≡ map (λ e. e - gone + added) (take k xs) → drop k ys ≡ drop k xs
-    → take (k + 1) (set ys k (get_or ys k 0 - gone + added)) ≡ map (λ e. e - gone + added) (take (k + 1) xs)
-shift_done xs ys k gone added h j done left =
-    let x : get_or ys k 0 ≡ get_or xs k 0 = get_drop ys k j ∙ (ap (λ zs. get_or zs 0 0) left ∙ sym (get_drop xs k h)) in
-    take_more_set ys k (get_or ys k 0 - gone + added) j
-    ∙ ((λ i. done i ++ (x i - gone + added) ∷ []) ∙ (sym (map-append (λ e. e - gone + added) (take k xs) (get_or xs k 0 ∷ [])) ∙ ap (map (λ e. e - gone + added)) (sym (take_more xs k 0 h))))
-  where
-    get_drop : (zs : List ℕ) (n : ℕ) → n < length zs → get_or zs n 0 ≡ get_or (drop n zs) 0 0
-    get_drop zs n h = ap (λ ws. get_or ws 0 0) (sym (drop-cons zs n 0 h))
-
-pub shift_left : (xs ys : List ℕ) (k v : ℕ) → drop k ys ≡ drop k xs → drop (k + 1) (set ys k v) ≡ drop (k + 1) xs
-shift_left xs ys k v left = drop-set-lt (k + 1) ys k v (omega arith) ∙ (sym (drop-drop 1 k ys) ∙ (ap (drop 1) left ∙ drop-drop 1 k xs))
-
 -- ends that are moved by a difference
 pub shifted : (a gone added : ℕ) (ts : List Tree) → map (λ e. e - gone + added) (ends_from (a + gone) ts) ≡ ends_from (a + added) ts
 shifted a gone added [] = refl
@@ -188,8 +174,8 @@ slice_one xs i d h =
 module _ (old new : InnerNode) (ys : List Tree) (from to : ℕ) (gone : Sums) (order : from ≤ to) (inside : to ≤ length old.children.items) (measured : IsMeasured old)
     (is_gone : AreSums gone (slice_range old.children.items from to)) (children : new.children.items ≡ splice old.children.items from to ys)
     (kind : new.kind ≡ old.kind) (len : new.len ≡ old.len) (descendants : new.descendants ≡ old.descendants) (diagnosis : new.diagnosis ≡ old.diagnosis)
-    (ends : length new.ends.items + (to - from) ≡ length old.ends.items + length ys) (ends_before : take from new.ends.items ≡ take from old.ends.items)
-    (ends_behind : drop (from + length ys) new.ends.items ≡ drop to old.ends.items) where
+    (ends : length new.ends + (to - from) ≡ length old.ends + length ys) (ends_before : take from new.ends ≡ take from old.ends)
+    (ends_behind : drop (from + length ys) new.ends ≡ drop to old.ends) where
   front : take from new.children.items ≡ take from old.children.items
   front = ap (take from) children ∙ splice_front old.children.items ys from to order inside
 

@@ -59,15 +59,6 @@ first_ends t u ts us n = ap (λ b. one_more_if b (common_first ts us)) (not_true
 pub common_first_is : (ts us : List Tree) → IsCommonBeginning ts us (common_first ts us)
 common_first_is ts us = record { alike = first_alike ts us; longest = first_longest ts us }
 
-pub first_none : (ts us : List Tree) → length us ≤ 0 → common_first ts us ≡ 0
-first_none [] us h = refl
-first_none (t ∷ ts) [] h = refl
-first_none (t ∷ ts) (u ∷ us) h = absurd (omega arith)
-
-pub first_none_left : (ts us : List Tree) → length ts ≤ 0 → common_first ts us ≡ 0
-first_none_left [] us h = refl
-first_none_left (t ∷ ts) us h = absurd (omega arith)
-
 drop_step : (ts : List Tree) (i : ℕ) (d : Tree) → i < length ts → drop i ts ≡ get_or ts i d ∷ drop (i + 1) ts
 drop_step ts i d h = rw add-one (drop-cons ts i d h)
 

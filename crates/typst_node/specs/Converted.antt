@@ -4,7 +4,7 @@ use lib.Pointwise.{pointwise}
 use Rattle.typst_base.specs.KindClasses.{is_keyword_kind}
 use Rattle.typst_base.specs.KindName.{name_of}
 use Rattle.typst_base.specs.declared.kind.SyntaxKind.{SyntaxKind}
-use Rattle.typst_node.specs.Tree.{HintText, Content, AsLeaf, AsError, AsInner, Tree}
+use Rattle.typst_node.specs.Tree.{HintText, Content, AsLeaf, AsError, AsInner, Tree, kind_of}
 use Rattle.typst_node.specs.Text.{text}
 use Rattle.typst_node.specs.Diagnosis.{is_error}
 use Rattle.typst_node.specs.Hints.{error_tree, hint_for, hinted}
@@ -43,3 +43,9 @@ keyword_message text =
 abbrev pub keyword_hints : List ℕ → SyntaxKind → List ℕ → List HintText
 keyword_hints what kind text =
     if is_keyword_kind kind && wants_name what then hint_for None (keyword_message text) ∷ [] else []
+
+-- the error in the node's place that says what was expected, with the hint at a keyword, if one is due
+abbrev pub as_expected : List ℕ → Tree → Tree
+as_expected what t =
+    let kind = kind_of t.label.content in
+    as_error (expected_message what kind) (keyword_hints what kind (text t)) t

@@ -1,15 +1,18 @@
--- Working forms of a replacement at a path: what its recursion asks for, and what it makes at the path's end.
-use Rattle.std.specs.Prelude.{ℕ, ◌≡◌, ◌-◌, ◌≤◌, ◌⊎◌, ◌↔◌, List, length, Result, IsErrOf, IfOk, OnOk}
-use Rattle.std.specs.List.{splice}
-use Rattle.typst_node.specs.Tree.{Tree, trees, IsInner}
+-- Working forms of a replacement: what its recursion asks for, and what it makes of the children and of their node.
+use Rattle.std.specs.Prelude.{ℕ, ◌≡◌, ◌-◌, ◌≤◌, ◌⊎◌, ◌↔◌, List, ◌++◌, length, map, get_or, Option, None, MatchOption, Result, IsErrOf, IfOk, OnOk, OnErr}
+use Rattle.typst_node.specs.Tree.{Tree, forest, trees}
 use Rattle.typst_node.specs.Count.{SumsFit}
 use Rattle.typst_node.specs.Plain.{plain}
 use Rattle.typst_node.specs.Numbered.{IsNumbered, IsNumberedFor}
-use Rattle.typst_node.specs.Paths.{IsPath, tree_at}
-use Rattle.typst_node.specs.PlainEdit.{edited, edited_at, TreeFits}
-use Rattle.typst_node.specs.Window.{site_of}
+use Rattle.typst_node.specs.Interval.{IsWithin}
+use Rattle.typst_node.specs.Paths.{IsInnerAt, IsPath, no_tree, tree_at, trees_at}
+use Rattle.typst_node.specs.PlainEdit.{edited, edited_at, spliced, TreeFits}
+use Rattle.typst_node.specs.Refusals.{HasNoRoom}
+use Rattle.typst_node.specs.Window.{Site, site_of}
 use Rattle.typst_node.specs.FirstWindow.{HasNoFirst}
 use Rattle.typst_node.specs.Renumbering.{IsRenumbering}
+use Rattle.typst_node.specs.View.{IsMeasured}
+use Rattle.typst_node.specs.declared.node.InnerNode.{InnerNode}
 use Rattle.typst_node.specs.declared.node.replace.Renumbered.{Renumbered}
 use Rattle.typst_node.specs.declared.node.replace.ReplaceError.{ReplaceError}
 use Rattle.typst_node.specs.declared.node.replace.ReplaceError.TheVariants.{Unnumberable, Overflow, Memory}
@@ -17,16 +20,37 @@ use Rattle.typst_node.specs.declared.node.replace.ReplaceError.TheVariants.{Unnu
 -- an edit of an inner node at a path, whose sums fit, where the numbers are in order or there is no file id
 pub record IsEdit (at : List ℕ) (from to : ℕ) (others : List Tree) (t : Tree) : Type 0 where
   pub path : IsPath at t
-  pub inner : IsInner (tree_at at t).label.content
+  pub inner : IsInnerAt at t
   pub order : from ≤ to
-  pub inside : to ≤ length (trees (tree_at at t).children)
+  pub inside : to ≤ length (trees_at at t)
   pub numbered : ((tree_at at t).label.span.file ≡ 0) ⊎ IsNumbered t
   pub sums : TreeFits (edited_at at from to others t)
 
+-- the tree at a place of a list
+abbrev pub child_of : List Tree → ℕ → Tree
+child_of ts index = get_or ts index no_tree
+
+-- all children of a node after an edit
+abbrev pub all_at : Site → List Tree
+all_at s = s.before ++ (s.changed ++ s.behind)
+
+-- what a replacement makes of an inner node's children, where the node has this file id, if it has one
+pub record AreReplaced (s : Site) (id : Option ℕ) (old new : InnerNode) (result : Result Renumbered ReplaceError) : Type 0 where
+  pub measured : IsMeasured new
+  pub kind : new.kind ≡ old.kind
+  pub upper : new.upper ≡ old.upper
+  pub warnings : new.warnings ≡ old.warnings
+  pub err : OnErr result (new.children.items ≡ old.children.items)
+  pub overflow : IsErrOf result Overflow ↔ ¬ (SumsFit (all_at s))
+  pub unnumberable : IsErrOf result Unnumberable ↔ (SumsFit (all_at s) × ((id ≡ None) ⊎ HasNoFirst s))
+  pub ok : IfOk result (λ r. IsRenumbering s r new.children.items)
+  pub plain : OnOk result (map plain new.children.items ≡ map plain (all_at s))
+  pub within : OnOk result (MatchOption id ⊥ (λ file. IsWithin file s.first s.end (forest new.children.items)))
+
 -- what a replacement makes of an inner node, but for the sums of its ancestors
 pub record IsReplacement (from to : ℕ) (others : List Tree) (old new : Tree) (result : Result Renumbered ReplaceError) : Type 0 where
-  pub unnumberable : IsErrOf result Unnumberable ↔ (SumsFit (splice (trees old.children) from to others) × ((old.label.span.file ≡ 0) ⊎ HasNoFirst (site_of from to others old)))
-  pub overflow : IsErrOf result Overflow ↔ ¬ (SumsFit (splice (trees old.children) from to others))
+  pub unnumberable : IsErrOf result Unnumberable ↔ (SumsFit (spliced from to others old) × HasNoRoom from to others old)
+  pub overflow : IsErrOf result Overflow ↔ ¬ (SumsFit (spliced from to others old))
   pub memory : length others ≤ to - from → ¬ (IsErrOf result Memory)
   pub ok : IfOk result (λ r. IsRenumbering (site_of from to others old) r (trees new.children))
   pub label : new.label ≡ old.label

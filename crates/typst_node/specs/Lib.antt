@@ -22,7 +22,9 @@ pub mod WindowNumbers
 pub mod Room
 pub mod FirstWindow
 pub mod Renumbering
+pub mod Refusals
 pub mod EditBelow
+pub mod Errand
 pub mod Sites
 pub mod Stale
 pub mod Change
@@ -38,3 +40,4 @@ pub mod Reported
 pub mod Converted
 pub mod Mapped
 pub mod MappedForest
+pub mod Ends

@@ -1,9 +1,12 @@
 -- Trees with the places of mapped bytes, child after child: the working form of `Mapped`.
-use Rattle.std.specs.Prelude.{ℕ, ◌+◌, List, [], ◌∷◌, length}
+use Rattle.std.specs.Prelude.{ℕ, ◌+◌, List, [], ◌∷◌, length, map}
+use Rattle.std.specs.declared.ops.Range.{Range}
 use Rattle.typst_base.specs.Mapping.{Mapping}
-use Rattle.typst_node.specs.Tree.{Forest, none, tree, Tree}
+use Rattle.typst_node.specs.Tree.{WarningText, Forest, none, tree, Tree}
 use Rattle.typst_node.specs.Text.{own_text, text}
-use Rattle.typst_node.specs.Mapped.{bytes_from, mapped_label}
+use Rattle.typst_node.specs.Mapped.{bytes_from, mapped_label, mapped_warning}
+use Rattle.typst_node.specs.View.{shown_warnings}
+use Rattle.typst_node.specs.declared.node.Warning.{Warning}
 
 -- the trees whose joined text begins at this offset, each node with the place of its bytes
 abbrev pub mapped_forest : Mapping → ℕ → ℕ → Forest → Forest
@@ -23,3 +26,7 @@ mapped_tree m id start t = record {
 abbrev pub mapped_trees : Mapping → ℕ → ℕ → List Tree → List Tree
 mapped_trees m id start [] = []
 mapped_trees m id start (t ∷ ts) = mapped_tree m id start t ∷ mapped_trees m id (start + length (text t)) ts
+
+-- the warnings as they are seen, mapped
+abbrev pub mapped_warnings : Mapping → Range ℕ → List Warning → List WarningText
+mapped_warnings m bytes ws = map (mapped_warning m bytes) (shown_warnings ws)

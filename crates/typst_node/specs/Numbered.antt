@@ -1,5 +1,5 @@
 -- Trees whose numbers are in order.
-use Rattle.std.specs.Prelude.{ℕ, ◌≡◌, ◌^◌, ◌<◌, ◌≤◌, List, [], ◌∷◌, ◌++◌, map}
+use Rattle.std.specs.Prelude.{ℕ, ◌≡◌, ◌+◌, ◌-◌, ◌/◌, ◌^◌, ◌<◌, ◌≤◌, List, [], ◌∷◌, ◌++◌, map}
 use Rattle.std.specs.List.{AllByRecursion}
 use Rattle.typst_node.specs.Tree.{Label, Forest, none, tree, Tree}
 use Rattle.typst_node.specs.Preorder.{preorder, nodes}
@@ -44,3 +44,7 @@ IsNumbered t = (file : ℕ) × (1 ≤ file) × IsNumberedFor file t
 -- all numbers of the tree are at least the first and below the second
 abbrev pub AllIn : ℕ → ℕ → Tree → Type 0
 AllIn start end t = AllByRecursion (λ l. (start ≤ number l) × (number l < end)) (nodes t)
+
+-- where the first half of a range ends
+abbrev pub halfway : ℕ → ℕ → ℕ
+halfway start end = start + (end - start) / 2

@@ -1,8 +1,8 @@
 -- Paths that lead to a node, the subtree there, and the tree with other children there.
-use Rattle.std.specs.Prelude.{ℕ, ◌<◌, List, [], ◌∷◌, length, set, get_or}
+use Rattle.std.specs.Prelude.{ℕ, ◌≡◌, ◌<◌, List, [], ◌∷◌, length, set, get_or}
 use Rattle.typst_base.specs.Span.{detached}
 use Rattle.typst_base.specs.declared.kind.SyntaxKind.TheVariants as kinds
-use Rattle.typst_node.specs.Tree.{Tree, AsInner, none, forest, trees}
+use Rattle.typst_node.specs.Tree.{Tree, AsInner, IsInner, none, forest, trees}
 
 -- what is read at a path that leads to no node
 abbrev pub no_tree : Tree
@@ -25,3 +25,15 @@ with_children (i ∷ path) kids t = record {
   label = t.label;
   children = forest (set (trees t.children) i (with_children path kids (get_or (trees t.children) i no_tree)));
 }
+
+-- the path leads to an inner node
+abbrev pub IsInnerAt : List ℕ → Tree → Type 0
+IsInnerAt path t = IsInner (tree_at path t).label.content
+
+-- the children of the node that a path leads to
+abbrev pub trees_at : List ℕ → Tree → List Tree
+trees_at path t = trees (tree_at path t).children
+
+-- the new tree is the old one, but for the children of the node that the path leads to
+abbrev pub StaysBeside : List ℕ → Tree → Tree → Type 0
+StaysBeside path old new = new ≡ with_children path (trees_at path new) old

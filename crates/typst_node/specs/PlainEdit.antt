@@ -6,13 +6,17 @@ use Rattle.typst_node.specs.Text.{text}
 use Rattle.typst_node.specs.Count.{count}
 use Rattle.typst_node.specs.Paths.{IsPath, tree_at, with_children}
 
--- the node's children become those before the range, then the others, then those from its end on; all else stays
+-- the node's children before the range, then the others, then its children from the range's end on
+abbrev pub spliced : ℕ → ℕ → List Tree → Tree → List Tree
+spliced from to others t = splice (trees t.children) from to others
+
+-- the node with these children; all else stays
 abbrev pub edited : ℕ → ℕ → List Tree → Tree → Tree
-edited from to others t = record { label = t.label; children = forest (splice (trees t.children) from to others) }
+edited from to others t = record { label = t.label; children = forest (spliced from to others t) }
 
 -- the plain edit of the node that a path leads to
 abbrev pub edited_at : List ℕ → ℕ → ℕ → List Tree → Tree → Tree
-edited_at path from to others t = with_children path (splice (trees (tree_at path t).children) from to others) t
+edited_at path from to others t = with_children path (spliced from to others (tree_at path t)) t
 
 -- the range lies within the children of the node, if it is inner
 abbrev pub RangeFits : ℕ → ℕ → Tree → Type 0

@@ -4,8 +4,9 @@ use Rattle.std.specs.List.{AllByRecursion}
 use Rattle.typst_node.specs.Tree.{Tree, forest}
 use Rattle.typst_node.specs.Preorder.{preorder}
 use Rattle.typst_node.specs.Labels.{number}
+use Rattle.typst_node.specs.Paths.{tree_at, trees_at}
 use Rattle.typst_node.specs.Count.{count_of_all}
-use Rattle.typst_node.specs.Window.{Site, reach, window_start, window_end, trees_before, trees_in, trees_behind}
+use Rattle.typst_node.specs.Window.{Site, site_of, reach, window_start, window_end, trees_before, trees_in, trees_behind}
 use Rattle.typst_node.specs.WindowNumbers.{open_start, open_count}
 use Rattle.typst_node.specs.FirstWindow.{IsFirst}
 use Rattle.typst_node.specs.declared.node.replace.Renumbered.{Renumbered}
@@ -28,6 +29,11 @@ pub record IsRenumbering (s : Site) (r : Renumbered) (new : List Tree) : Type 0 
       → AreIn (open_start s (reach (r.tried - 1)))
       (open_start s (reach (r.tried - 1)) + open_count s (reach (r.tried - 1)) / 2)
       (slice_range new r.window.start r.window.end)
+
+-- the same of the node that a path leads to, where others come in the place of some of its children
+abbrev pub IsRenumberingAt : List ℕ → ℕ → ℕ → List Tree → Renumbered → Tree → Tree → Type 0
+IsRenumberingAt path from to others r old new =
+    IsRenumbering (site_of from to others (tree_at path old)) r (trees_at path new)
 
 -- the answer on a leaf or an error, where nothing is done
 abbrev pub no_window : Renumbered

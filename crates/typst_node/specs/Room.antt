@@ -8,6 +8,10 @@ use Rattle.typst_node.specs.WindowNumbers.{open_count}
 abbrev pub new_count : Site → ℕ
 new_count s = suc (count_of_all (s.before ++ (s.changed ++ s.behind)))
 
--- the open numbers are at least twice the window's nodes, or at least the parent's new node count
+-- so many numbers are at least twice the nodes of a window, or at least all nodes
+abbrev pub Suffice : ℕ → ℕ → ℕ → Type 0
+Suffice numbers nodes total = (2 * nodes ≤ numbers) ⊎ (total ≤ numbers)
+
+-- the open numbers are enough for the window's nodes, of all that the parent has after the edit
 abbrev pub HasRoom : Site → ℕ → Type 0
-HasRoom s w = (2 * count_of_all (trees_in s w) ≤ open_count s w) ⊎ (new_count s ≤ open_count s w)
+HasRoom s w = Suffice (open_count s w) (count_of_all (trees_in s w)) (new_count s)

@@ -18,6 +18,6 @@ pub record IsStale (from to : ℕ) (gone : Sums) (inner : InnerNode) : Type 0 wh
   pub descendants : inner.descendants + count_of_all (slice_range inner.children.items from to) ≡ count_of_all inner.children.items + gone.descendants
   pub errors : inner.diagnosis.errors ≡ (gone.diagnosis.errors || list_any is_error (preorder (forest (take from inner.children.items ++ drop to inner.children.items))))
   pub warnings : inner.diagnosis.warnings ≡ (gone.diagnosis.warnings || list_any is_warned (preorder (forest (take from inner.children.items ++ drop to inner.children.items))))
-  pub ends : length inner.ends.items ≡ length inner.children.items
-  pub ends_before : take from inner.ends.items ≡ take from (ends_from 0 inner.children.items)
-  pub ends_behind : drop to inner.ends.items ≡ ends_from (length (text_of_all (take from inner.children.items)) + gone.len) (drop to inner.children.items)
+  pub ends : length inner.ends ≡ length inner.children.items
+  pub ends_before : take from inner.ends ≡ take from (ends_from 0 inner.children.items)
+  pub ends_behind : drop to inner.ends ≡ ends_from (length (text_of_all (take from inner.children.items)) + gone.len) (drop to inner.children.items)

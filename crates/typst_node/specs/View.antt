@@ -62,7 +62,7 @@ pub record IsMeasured (inner : InnerNode) : Type 0 where
   pub descendants : inner.descendants ≡ suc (count_of_all inner.children.items)
   pub errors : inner.diagnosis.errors ≡ list_any is_error (preorder (forest inner.children.items))
   pub warnings : inner.diagnosis.warnings ≡ list_any is_warned (preorder (forest inner.children.items))
-  pub ends : inner.ends.items ≡ ends_from 0 inner.children.items
+  pub ends : inner.ends ≡ ends_from 0 inner.children.items
 
 abbrev pub IsKept : Node → Type 0
 IsKept (Short kind text) = kind ≢ kinds.Error

@@ -24,6 +24,7 @@ pub use node::replace::{Renumbered, ReplaceError};
 
 pub mod ast_node;
 pub mod diagnosis;
+mod ends;
 mod exchange;
 pub mod node;
 mod short_text;

@@ -9,6 +9,7 @@ ghost use Rattle.typst_node.specs.Labels.{bound};
 ghost use Rattle.typst_node.specs.View.{warnings_in};
 
 use crate::diagnosis::Diagnosis;
+use crate::ends::Ends;
 use crate::short_text::ShortText;
 use std::alloc::{AllocError, Global};
 use std::marker::Model;
@@ -72,7 +73,7 @@ struct InnerNode {
     upper: u64,
     children: Vec<SyntaxNode>,
     // At each place the joined length of the children up to and with the one there.
-    ends: Vec<usize>,
+    ends: Ends,
     // From the innermost to the outermost.
     warnings: Vec<Warning>,
 }
@@ -264,7 +265,7 @@ impl SyntaxNode {
         }
     }
 
-    /// The text of all leaves and errors in order. Only want of memory is an error.
+    /// The text of all leaves and errors in order. It fails only where memory runs out.
     pub fn full_text(&self, alloc: Global) -> Result<String, AllocError>
         ensures { IfOk result (λ s. string_bytes s ≡ text self.now) }
     {
@@ -318,7 +319,7 @@ impl SyntaxNode {
         ensures { result ≡ length (text_of_all (take (index + 1) (trees self.now.children))) }
     {
         match &self.node {
-            Node::Inner(inner) => inner.ends[index],
+            Node::Inner(inner) => inner.ends.get(index),
             Node::Short(..) | Node::Leaf(_) | Node::Error(_) => unreachable!(),
         }
     }

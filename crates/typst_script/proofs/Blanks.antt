@@ -53,7 +53,7 @@ no_blank_by_test word test (i, within, is) = grind (arith, common_steps, AllPass
 pub blank_of_split : (text word rest : List ℕ) → IsSplit text word rest → Contains text blank
 blank_of_split text word rest (is, none) = rw is (length word, omega (arith, length-append word (blank ∷ rest)), get_or-append_seam word blank rest blank)
 
--- a blank behind a dot stands further behind
+-- a blank after a dot stands further on
 no_blank_behind_dot : (others : List ℕ) → ¬ (Contains others blank) → ¬ (Contains (dot ∷ others) blank)
 no_blank_behind_dot others none (zero, within, is) = omega (arith, is)
 no_blank_behind_dot others none (suc i, within, is) = none (i, omega (arith, within), is)

@@ -18,7 +18,7 @@ single_index (n ∷ m ∷ more) word none (first, others, joined, number, rest) 
 dot_of_split : (word first rest : List ℕ) → IsSplitAt dot word first rest → Contains word dot
 dot_of_split word first rest (is, none) = rw is (length first, omega (arith, length-append first (dot ∷ rest)), get_or-append_seam first dot rest dot)
 
--- the part before the first dot is the first number, and what stands behind it is the others
+-- the part before the first dot is the first number, and what stands after it is the others
 pub first_index : (indices word first rest : List ℕ) → IsSplitAt dot word first rest
     → ((f r : List ℕ) → IsSplitAt dot word f r → (first ≡ f) × (rest ≡ r)) → IsIndices indices word
     → (n : ℕ) × (more : List ℕ) × (indices ≡ n ∷ more) × IsNumber first n × IsIndices more rest
@@ -28,7 +28,7 @@ first_index (n ∷ m ∷ more) word first rest split only (f, others, joined, nu
     let same = only f others (joined, no_dot_in_digits f number.0.1) in
     (n, m ∷ more, refl, rw same.0 number, rw same.1 h)
 
--- a number before a dot, and numbers behind it, are numbers joined by dots
+-- a number before a dot, and numbers after it, are numbers joined by dots
 pub joined_indices : (more word first rest : List ℕ) (n : ℕ) → IsSplitAt dot word first rest → IsNumber first n → IsIndices more rest
     → IsIndices (n ∷ more) word
 joined_indices [] word first rest n split number h = absurd h

@@ -1,6 +1,7 @@
 -- Which faults a command may end with.
-use Rattle.std.specs.Prelude.{ℕ, ◌≡◌, ◌-◌, ◌⊎◌, length, drop, IsSomeAnd, ⊤}
+use Rattle.std.specs.Prelude.{ℕ, ◌≡◌, ◌-◌, ◌⊎◌, List, length, drop, IsSomeAnd, ⊤}
 use Rattle.typst_node.specs.Count.{SumsFit}
+use Rattle.typst_script.specs.Command.{IsLineOf}
 use Rattle.typst_script.specs.Done.{CanBeDone, IsTooShort}
 use Rattle.typst_script.specs.Fault.{IsWriteFault}
 use Rattle.typst_script.specs.declared.command.Command.{Command}
@@ -54,3 +55,9 @@ IsFaultOf line command old fault =
     ((fault ≡ BadCommand line) × ¬ (CanBeDone command old))
     ⊎ (((fault ≡ Memory) × TakesMemory command)
     ⊎ (((fault ≡ Overflow) × IsTooLarge command old) ⊎ (IsWriteFault fault × IsPrinting command old)))
+
+-- the fault of a line: no command stands in it, or it is one of the command that does
+abbrev pub IsFaultIn : ℕ → List ℕ → Interpreter → Fault → Type 0
+IsFaultIn line text old fault =
+    ((fault ≡ BadCommand line) × ((command : Command) → ¬ (IsLineOf command text)))
+    ⊎ ((command : Command) × IsLineOf command text × IsFaultOf line command old fault)

@@ -41,7 +41,7 @@ impl Fault {
         }
     }
 
-    /// A fault of reading, or want of memory while reading.
+    /// A fault of reading, or that memory ran out while reading.
     pub fn of_reading(error: io::Error) -> Fault
         ensures memory { error_kind error ≡ ErrorKind.OutOfMemory → result ≡ Memory }
         ensures other { error_kind error ≢ ErrorKind.OutOfMemory → result ≡ Read }
@@ -52,7 +52,7 @@ impl Fault {
         }
     }
 
-    /// A fault of writing, or want of memory while writing.
+    /// A fault of writing, or that memory ran out while writing.
     pub fn of_writing(error: io::Error) -> Fault
         ensures memory { error_kind error ≡ ErrorKind.OutOfMemory → result ≡ Memory }
         ensures other { error_kind error ≢ ErrorKind.OutOfMemory → result ≡ Write }

@@ -33,7 +33,7 @@ pub struct Interpreter {
 
 impl Interpreter {
     ghost use Rattle.typst_script.specs.Done.{IsDone, CanBeDone};
-    ghost use Rattle.typst_script.specs.Fails.{IsFaultOf};
+    ghost use Rattle.typst_script.specs.Fails.{IsFaultIn, IsFaultOf};
 
     /// An empty stack, no tree, and an empty queue.
     pub fn new(alloc: Global) -> Interpreter
@@ -65,9 +65,7 @@ impl Interpreter {
         ensures bad { text.now ≢ []
             → ((command : Command) → IsLineOf command text.now → ¬ (CanBeDone command self.old))
             → result ≡ Err (BadCommand line) }
-        ensures err { IfErr result (λ fault.
-            ((fault ≡ BadCommand line) × ((command : Command) → ¬ (IsLineOf command text.now)))
-            ⊎ ((command : Command) × IsLineOf command text.now × IsFaultOf line command self.old fault)) }
+        ensures err { IfErr result (IsFaultIn line text.now self.old) }
         ensures line { self.new.line ≡ line }
     {
         self.line = line;

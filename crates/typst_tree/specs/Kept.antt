@@ -1,7 +1,7 @@
 -- Paths that a run keeps.
 use Rattle.std.specs.Prelude.{ℕ, ◌≡◌, List, [], ◌∷◌}
 use Rattle.typst_node.specs.Tree.{Tree}
-use Rattle.typst_node.specs.Paths.{IsPath}
+use Rattle.typst_node.specs.Paths.{IsPath, tree_at}
 use Rattle.typst_node.specs.Outside.{IsInWindow, place_before}
 use Rattle.typst_tree.specs.Run.{Answers}
 use Rattle.typst_tree.specs.declared.session.Request.{Request}
@@ -35,3 +35,7 @@ IsKept old (before ∷ befores) (after ∷ afters) new p q =
     (mid : Tree) × (between : List ℕ) × Answers old before after mid × GoesOn before after old mid p between × IsKept mid befores afters new between q
 IsKept old [] (after ∷ afters) new p q = ⊥
 IsKept old (before ∷ befores) [] new p q = ⊥
+
+-- the second path leads to a node of the new tree that has the label of the one that the first leads to in the old tree
+abbrev pub KeepsLabel : List ℕ → List ℕ → Tree → Tree → Type 0
+KeepsLabel p q old new = IsPath q new × ((tree_at q new).label ≡ (tree_at p old).label)

@@ -18,7 +18,8 @@ pub use crate::numbered::NumberedTree;
 pub use crate::paths::node_at;
 pub use typst_base::{
     DiagSpan, DiagSpanKind, FileId, MapperError, ModeAfter, RangeMapper, Span, SpanDetached,
-    SpanKind, SpanNumber, Spanned, SubRange, SyntaxKind, SyntaxMode, SyntaxSet, named_sets,
+    SpanKind, SpanNumber, Spanned, SubRange, SyntaxKind, SyntaxKinds, SyntaxMode, SyntaxSet,
+    named_sets,
 };
 pub use typst_linked::{LinkedChildren, LinkedNode, LinkedPreorder, Looks, Side};
 pub use typst_node::{

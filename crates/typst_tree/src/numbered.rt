@@ -3,11 +3,11 @@ ghost use Rattle.std.specs.Prelude.{◌≡◌, ◌+◌, ◌-◌, ◌*◌, ◌/�
 ghost use Rattle.typst_linked.specs.Search.{with_number};
 ghost use Rattle.typst_node.specs.Count.{count};
 ghost use Rattle.typst_node.specs.Labels.{bound, number};
-ghost use Rattle.typst_node.specs.Numbered.{AllIn, IsNumbered, IsNumberedFor};
+ghost use Rattle.typst_node.specs.Numbered.{AllIn, IsNumbered, IsNumberedFor, halfway};
 ghost use Rattle.typst_node.specs.Paths.{IsPath, tree_at};
 ghost use Rattle.typst_node.specs.Plain.{plain};
 ghost use Rattle.typst_node.specs.Tree.{IsInner};
-ghost use Rattle.typst_tree.specs.Kept.{IsKept};
+ghost use Rattle.typst_tree.specs.Kept.{IsKept, KeepsLabel};
 ghost use Rattle.typst_tree.specs.Reads.{ReadsAs};
 ghost use Rattle.typst_tree.specs.Run.{Run, edited_by};
 ghost use Rattle.typst_tree.specs.Step.{Step};
@@ -64,7 +64,7 @@ impl NumberedTree {
         ensures middle { IfOk result (λ tree. ¬ (IsInner root.label.content)
             → number tree.label ≡ (within.start + within.end) / 2) }
         ensures first_half { IfOk result (λ tree. IsInner root.label.content → 2 * count root ≤ within.end - within.start
-            → AllIn within.start (within.start + (within.end - within.start) / 2) tree) }
+            → AllIn within.start (halfway within.start within.end) tree) }
         ensures plain { IfOk result (λ tree. plain tree ≡ plain root) }
     {
         // Read for the proof: the number of a file is at least 1.
@@ -124,7 +124,7 @@ impl NumberedTree {
         ensures middle { OnOk result (¬ (IsInner self.old.label.content)
             → number self.new.label ≡ (within.start + within.end) / 2) }
         ensures first_half { OnOk result (IsInner self.old.label.content → 2 * count self.old ≤ within.end - within.start
-            → AllIn within.start (within.start + (within.end - within.start) / 2) self.new) }
+            → AllIn within.start (halfway within.start within.end) self.new) }
         ensures plain { plain self.new ≡ plain self.old }
     {
         // Read for the proof: the number of a file is at least 1.
@@ -150,7 +150,7 @@ impl NumberedTree {
         ensures reads { ReadsAs self.new (edited_by slots.old slots.new self.old) }
         ensures kept { (p q : List ℕ) → IsPath p self.old
             → IsKept self.old slots.old slots.new self.new p q
-            → IsPath q self.new × ((tree_at q self.new).label ≡ (tree_at p self.old).label) }
+            → KeepsLabel p q self.old self.new }
         ensures found_again { (p q : List ℕ) → IsPath p self.old
             → IsKept self.old slots.old slots.new self.new p q
             → with_number (number (tree_at p self.old).label) self.new ≡ Some q }

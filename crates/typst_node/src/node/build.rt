@@ -4,7 +4,7 @@ ghost use Rattle.typst_node.specs.Tree.{leaf_tree, inner_tree};
 ghost use Rattle.typst_node.specs.Count.{SumsFit};
 ghost use Rattle.typst_node.specs.declared.node.build.InnerError.TheVariants.{Overflow, Memory};
 
-use crate::node::inner::{ends_of, sums_of};
+use crate::node::inner::measured;
 use crate::node::{InnerNode, LeafNode, Node, SyntaxNode};
 use crate::short_text::{LONGEST, ShortText};
 use std::alloc::{AllocError, AllocFailed, Global};
@@ -41,7 +41,7 @@ impl From<AllocError> for InnerError {
 /// # Making nodes
 impl SyntaxNode {
     /// A detached leaf with a copy of the text. The test of the condition is `SyntaxKind::is_error`.
-    /// A text of at most 21 bytes takes no memory. For a longer one only want of memory is an error.
+    /// A text of at most 21 bytes takes no memory. For a longer one it fails only where memory runs out.
     pub fn leaf(alloc: Global, kind: SyntaxKind, text: &str) -> Result<SyntaxNode, AllocError>
         requires { kind ≢ Error }
         ensures leaf { IfOk result (λ t. t ≡ leaf_tree kind text.now) }
@@ -78,8 +78,8 @@ impl SyntaxNode {
 
     /// A detached inner node over these children, with bound 0. The test of the condition is `SyntaxKind::is_error`.
     ///
-    /// It takes time in proportion to the number of children. On an error the children are dropped: `Overflow` is
-    /// tested before memory is asked for.
+    /// It takes time in proportion to the number of children. On an error the children are dropped. `Overflow` comes before
+    /// `Memory`.
     pub fn inner(
         alloc: Global,
         kind: SyntaxKind,
@@ -89,10 +89,7 @@ impl SyntaxNode {
         ensures ok { IfOk result (λ t. t ≡ inner_tree kind children.items) }
         ensures overflow { IsErrOf result Overflow ↔ ¬ (SumsFit children.items) }
     {
-        let Some(sums) = sums_of(&children) else {
-            return Err(InnerError::Overflow);
-        };
-        let ends = ends_of(alloc, &children)?;
+        let (sums, ends) = measured(alloc, &children)?;
         let inner = InnerNode {
             kind,
             len: sums.len,

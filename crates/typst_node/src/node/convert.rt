@@ -5,7 +5,7 @@ ghost use Rattle.typst_base.specs.KindClasses.{is_keyword_kind};
 ghost use Rattle.typst_node.specs.Tree.{kind_of};
 ghost use Rattle.typst_node.specs.Diagnosis.{is_error};
 ghost use Rattle.typst_node.specs.Text.{text};
-ghost use Rattle.typst_node.specs.Converted.{as_error, expected_message, keyword_hints, keyword_message, of_kind, unexpected_message, wants_name};
+ghost use Rattle.typst_node.specs.Converted.{as_error, as_expected, expected_message, keyword_hints, keyword_message, of_kind, unexpected_message, wants_name};
 ghost use Rattle.typst_node.specs.Hints.{error_tree, hinted};
 ghost use Rattle.typst_node.specs.View.{hint_text};
 
@@ -50,8 +50,7 @@ impl SyntaxNode {
     /// node was found. Where an identifier or a pattern was expected and the node is a keyword, a hint says that
     /// keywords aren't allowed there. An error stays as it is.
     pub fn expected(&mut self, alloc: Global, what: &str) -> Result<(), AllocError>
-        ensures ok { let kind = kind_of self.old.label.content in OnOk result
-            (self.new ≡ as_error (expected_message what.now kind) (keyword_hints what.now kind (text self.old)) self.old) }
+        ensures ok { OnOk result (self.new ≡ as_expected what.now self.old) }
         ensures err { OnErr result (self.new ≡ self.old) }
     {
         if self.is_error() {

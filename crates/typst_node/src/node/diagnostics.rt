@@ -26,7 +26,7 @@ pub struct SyntaxDiagnostic {
 /// # Reports
 impl SyntaxNode {
     /// The errors and the warnings of the tree: two lists in preorder, at each node its warnings from the outermost
-    /// to the innermost. Only want of memory is an error.
+    /// to the innermost. It fails only where memory runs out.
     ///
     /// It takes time in proportion to the nodes at or below which something is reported, to the numbers of their
     /// children, and to what is copied.
@@ -78,6 +78,7 @@ impl SyntaxNode {
 }
 
 /// Adds the reports of a node's warnings, outermost first.
+#[inline(never)]
 fn push_warnings(
     alloc: Global,
     span: Span,
@@ -111,6 +112,7 @@ impl Warning {
 
 impl ErrorNode {
     /// The report of this error of a node with this span.
+    #[inline(never)]
     fn report(&self, alloc: Global, span: Span) -> Result<SyntaxDiagnostic, AllocError>
         ensures { IfOk result (λ d. report d
             ≡ error_report span (string_bytes self.now.message) (map hint_text self.now.hints.items)) }

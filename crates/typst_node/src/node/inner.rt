@@ -1,11 +1,14 @@
 // What an inner node keeps of its children.
-ghost use Rattle.std.specs.Prelude.{◌≡◌, MatchOption, IfOk};
+ghost use Rattle.std.specs.Prelude.{◌≡◌, ◌↔◌, MatchOption, IfOk, OnOk, IsErrOf};
 ghost use Rattle.typst_node.specs.Count.{SumsFit};
 ghost use Rattle.typst_node.specs.Sums.{AreSums};
 ghost use Rattle.typst_node.specs.View.{ends_from};
+ghost use Rattle.typst_node.specs.declared.node.build.InnerError.TheVariants.{Overflow};
 
 use crate::diagnosis::Diagnosis;
+use crate::ends::Ends;
 use crate::node::SyntaxNode;
+use crate::node::build::InnerError;
 use std::alloc::{AllocError, Global};
 
 /// The sums of a list of children, with their parent counted in.
@@ -39,16 +42,43 @@ pub(crate) fn sums_of(children: &[SyntaxNode]) -> Option<Sums>
     })
 }
 
-/// Where the text of each child ends.
-pub(crate) fn ends_of(alloc: Global, children: &[SyntaxNode]) -> Result<Vec<usize>, AllocError>
-    requires { SumsFit children.now }
-    ensures { IfOk result (λ v. v.items ≡ ends_from 0 children.now) }
+/// The sums of the children and where the text of each ends, in one walk. Where memory is refused, the sums alone tell which
+/// error it is.
+pub(crate) fn measured(alloc: Global, children: &[SyntaxNode]) -> Result<(Sums, Ends), InnerError>
+    ensures sums { IfOk result (λ both. AreSums both.0 children.now) }
+    ensures ends { IfOk result (λ both. both.1 ≡ ends_from 0 children.now) }
+    ensures fits { OnOk result (SumsFit children.now) }
+    ensures overflow { IsErrOf result Overflow ↔ ¬ (SumsFit children.now) }
 {
-    let mut ends = Vec::with_capacity(alloc, children.len())?;
-    let mut end = 0usize;
+    let Ok(mut ends) = Vec::with_capacity(alloc, children.len()) else {
+        return Err(match sums_of(children) {
+            Some(_) => InnerError::Memory,
+            None => InnerError::Overflow,
+        });
+    };
+    let mut len = 0usize;
+    let mut descendants = 1usize;
+    let mut diagnosis = Diagnosis {
+        errors: false,
+        warnings: false,
+    };
     for child in children {
-        end += child.len();
-        ends.push(end)?;
+        let (Some(end), Some(count)) = (
+            len.checked_add(child.len()),
+            descendants.checked_add(child.descendants()),
+        ) else {
+            return Err(InnerError::Overflow);
+        };
+        len = end;
+        descendants = count;
+        diagnosis = diagnosis.or(child.diagnosis());
+        // There is room for all.
+        let _ = ends.push(end);
     }
-    Ok(ends)
+    let sums = Sums {
+        len,
+        descendants,
+        diagnosis,
+    };
+    Ok((sums, Ends::new(ends)?))
 }

@@ -2,7 +2,7 @@
 ghost use Rattle.std.specs.Prelude.{◌≡◌, ◌+◌, ◌<◌, ◌≤◌, ◌↔◌, length, map, IsErr, IsErrOf, OnErr, OnOk};
 ghost use Rattle.typst_base.specs.SubRange.{interval};
 ghost use Rattle.typst_node.specs.Mapped.{IsMapped, mapped_hint, mapped_part, mapped_warning};
-ghost use Rattle.typst_node.specs.MappedForest.{mapped_tree, mapped_trees};
+ghost use Rattle.typst_node.specs.MappedForest.{mapped_tree, mapped_trees, mapped_warnings};
 ghost use Rattle.typst_node.specs.Text.{text, text_of_all};
 ghost use Rattle.typst_node.specs.View.{hint_text, IsMeasured, shown_warnings, warning_text};
 
@@ -95,7 +95,7 @@ impl InnerNode {
         ensures upper { self.new.upper ≡ span.low }
         ensures children { self.new.children.items ≡ mapped_trees mapper.now id at self.old.children.items }
         ensures warnings { shown_warnings self.new.warnings.items
-            ≡ map (mapped_warning mapper.now (interval at (at + length (text_of_all self.old.children.items)))) (shown_warnings self.old.warnings.items) }
+            ≡ mapped_warnings mapper.now (interval at (at + length (text_of_all self.old.children.items))) self.old.warnings.items }
     {
         // Read for the proof: the mapper's length is a usize, so no offset below it overflows.
         let _total = mapper.total_len();

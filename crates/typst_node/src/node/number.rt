@@ -3,7 +3,7 @@ ghost use Rattle.std.specs.Prelude.{ℕ, List, ◌≡◌, ◌+◌, ◌-◌, ◌*
 ghost use Rattle.typst_node.specs.Tree.{forest, IsInner};
 ghost use Rattle.typst_node.specs.Count.{count, count_of_all};
 ghost use Rattle.typst_node.specs.Labels.{number, bound};
-ghost use Rattle.typst_node.specs.Numbered.{IsNumberedFor, IsNumbered, AllIn};
+ghost use Rattle.typst_node.specs.Numbered.{IsNumberedFor, IsNumbered, AllIn, halfway};
 ghost use Rattle.typst_node.specs.Plain.{plain};
 ghost use Rattle.typst_node.specs.PlainEdit.{EditFits};
 ghost use Rattle.typst_node.specs.View.{IsMeasured};
@@ -39,7 +39,7 @@ impl SyntaxNode {
         ensures middle { OnOk result (¬ (IsInner self.old.label.content)
             → number self.new.label ≡ (within.start + within.end) / 2) }
         ensures first_half { OnOk result (IsInner self.old.label.content → 2 * count self.old ≤ within.end - within.start
-            → AllIn within.start (within.start + (within.end - within.start) / 2) self.new) }
+            → AllIn within.start (halfway within.start within.end) self.new) }
         ensures plain { plain self.new ≡ plain self.old }
         ensures fits { (path : List ℕ) (from to : ℕ) → EditFits path from to self.new ↔ EditFits path from to self.old }
     {

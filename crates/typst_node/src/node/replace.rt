@@ -8,7 +8,8 @@ ghost use Rattle.typst_node.specs.Numbered.{IsNumbered, IsNumberedFor};
 ghost use Rattle.typst_node.specs.Interval.{IsWithin};
 ghost use Rattle.typst_node.specs.View.{IsMeasured};
 ghost use Rattle.typst_node.specs.Sums.{AreSums};
-ghost use Rattle.typst_node.specs.PlainEdit.{edited, RangeFits};
+ghost use Rattle.typst_node.specs.PlainEdit.{edited, spliced, RangeFits};
+ghost use Rattle.typst_node.specs.Refusals.{LacksNumbers};
 ghost use Rattle.typst_node.specs.Window.{Site, site_at, site_among, site_of};
 ghost use Rattle.typst_node.specs.FirstWindow.{HasNoFirst, IsFoundSoon, IsCrowded};
 ghost use Rattle.typst_node.specs.Tells.{TellsAs};
@@ -16,9 +17,10 @@ ghost use Rattle.typst_node.specs.Outside.{KeepsOutside};
 ghost use Rattle.typst_node.specs.Renumbering.{IsRenumbering, no_window};
 ghost use Rattle.typst_node.specs.Sites.{IsFound};
 ghost use Rattle.typst_node.specs.Change.{IsChange};
+ghost use Rattle.typst_node.specs.EditBelow.{AreReplaced, IsReplacement};
 ghost use Rattle.typst_node.specs.declared.node.replace.ReplaceError.TheVariants.{Unnumberable, Overflow, Memory};
 
-use crate::exchange::{exchange, make_place};
+use crate::exchange::exchange;
 use crate::node::inner::{Sums, sums_of};
 use crate::node::trim::{count_common_first, count_common_last, trim};
 use crate::node::window::{Edit, Found, find};
@@ -77,8 +79,8 @@ impl InnerNode {
         requires measured { IsMeasured self.now }
         requires window { from ≤ to }
         requires inside { to ≤ length self.now.children.items }
-        ensures { let new = splice self.now.children.items from to others.now in MatchOption result (¬ (SumsFit new))
-            (λ c. SumsFit new × IsChange from to self.now.children.items others.now c) }
+        ensures { MatchOption result (¬ (SumsFit (splice self.now.children.items from to others.now)))
+            (IsChange from to self.now.children.items others.now) }
     {
         let (len, descendants) = (self.len, self.descendants);
         let Some(gone) = sums_of(&self.children[from..to]) else {
@@ -107,11 +109,9 @@ impl InnerNode {
         ensures warnings { self.new.warnings ≡ self.old.warnings }
         ensures children { self.new.children.items ≡ self.old.children.items }
         ensures room { OnOk result (length self.new.children.items + more ≤ vec_capacity self.new.children) }
-        ensures room_of_ends { OnOk result (length self.new.children.items + more ≤ vec_capacity self.new.ends) }
         ensures succeeds { more ≡ 0 → IsOk result }
     {
-        self.children.reserve(more)?;
-        self.ends.reserve(more)
+        self.children.reserve(more)
     }
 
     /// Puts others in the place of some children. It takes memory only where the list grows, and asks for it first.
@@ -125,7 +125,6 @@ impl InnerNode {
         requires measured { IsMeasured self.old }
         requires window { from ≤ to }
         requires inside { to ≤ length self.old.children.items }
-        requires fits { SumsFit (splice self.old.children.items from to others.items) }
         requires change { IsChange from to self.old.children.items others.items change.now }
         ensures measured { IsMeasured self.new }
         ensures kind { self.new.kind ≡ self.old.kind }
@@ -137,8 +136,8 @@ impl InnerNode {
     {
         let many = others.len();
         self.make_room(many.saturating_sub(to - from))?;
+        self.ends.make_place(from, to, many)?;
         exchange(&mut self.children, from, to, others)?;
-        make_place(&mut self.ends, from, to, many);
         self.settle(from, from + many, &change.gone, &change.added);
         Ok(())
     }
@@ -191,17 +190,9 @@ impl InnerNode {
         requires number { (2 ≤ number + 1) × (number < 2 ^ 48) }
         requires upper { IfSome id (λ file. self.old.upper ≤ 2 ^ 47) }
         requires within { IfSome id (λ file. IsWithin file (number + 1) self.old.upper (forest self.old.children.items)) }
-        ensures measured { IsMeasured self.new }
-        ensures kind { self.new.kind ≡ self.old.kind }
-        ensures upper { self.new.upper ≡ self.old.upper }
-        ensures warnings { self.new.warnings ≡ self.old.warnings }
-        ensures err { OnErr result (self.new.children.items ≡ self.old.children.items) }
-        ensures overflow { IsErrOf result Overflow ↔ ¬ (SumsFit (splice self.old.children.items from to others.items)) }
-        ensures unnumberable { let s : Site = site_at (number + 1) self.old.upper from to others.items self.old.children.items in IsErrOf result Unnumberable ↔ (SumsFit (splice self.old.children.items from to others.items) × ((id ≡ None) ⊎ HasNoFirst s)) }
+        ensures made { let site : Site = site_at (number + 1) self.old.upper from to others.items self.old.children.items in
+            AreReplaced site id self.old self.new result }
         ensures memory { length others.items ≤ to - from → ¬ (IsErrOf result Memory) }
-        ensures ok { let s : Site = site_at (number + 1) self.old.upper from to others.items self.old.children.items in IfOk result (λ r. IsRenumbering s r self.new.children.items) }
-        ensures plain { OnOk result (map plain self.new.children.items ≡ map plain (splice self.old.children.items from to others.items)) }
-        ensures within { OnOk result (MatchOption id ⊥ (λ file. IsWithin file (number + 1) self.old.upper (forest self.new.children.items))) }
     {
         let Some(change) = self.change(from, to, &others) else {
             return Err(ReplaceError::Overflow);
@@ -240,17 +231,9 @@ impl InnerNode {
         requires number { (2 ≤ number + 1) × (number < 2 ^ 48) }
         requires upper { IfSome id (λ file. self.old.upper ≤ 2 ^ 47) }
         requires within { IfSome id (λ file. IsWithin file (number + 1) self.old.upper (forest self.old.children.items)) }
-        ensures measured { IsMeasured self.new }
-        ensures kind { self.new.kind ≡ self.old.kind }
-        ensures upper { self.new.upper ≡ self.old.upper }
-        ensures warnings { self.new.warnings ≡ self.old.warnings }
-        ensures err { OnErr result (self.new.children.items ≡ self.old.children.items) }
-        ensures overflow { IsErrOf result Overflow ↔ ¬ (SumsFit (splice self.old.children.items from to others.items)) }
-        ensures unnumberable { let s : Site = site_among (number + 1) self.old.upper from to others.items self.old.children.items in IsErrOf result Unnumberable ↔ (SumsFit (splice self.old.children.items from to others.items) × ((id ≡ None) ⊎ HasNoFirst s)) }
+        ensures made { let site : Site = site_among (number + 1) self.old.upper from to others.items self.old.children.items in
+            AreReplaced site id self.old self.new result }
         ensures memory { length others.items ≤ to - from → ¬ (IsErrOf result Memory) }
-        ensures ok { let s : Site = site_among (number + 1) self.old.upper from to others.items self.old.children.items in IfOk result (λ r. IsRenumbering s r self.new.children.items) }
-        ensures plain { OnOk result (map plain self.new.children.items ≡ map plain (splice self.old.children.items from to others.items)) }
-        ensures within { OnOk result (MatchOption id ⊥ (λ file. IsWithin file (number + 1) self.old.upper (forest self.new.children.items))) }
     {
         let first = count_common_first(&self.children[from..to], &others);
         let (_, left) = others.split_at(first);
@@ -261,28 +244,18 @@ impl InnerNode {
 }
 
 impl SyntaxNode {
-    /// Replaces the children of a range. A leaf or an error stays as it is.
+    /// Replaces the children of a range of an inner node.
+    #[inline(never)]
     pub(super) fn replace_range(
         &mut self,
         range: Range<usize>,
         replacement: Vec<SyntaxNode>,
     ) -> Result<Renumbered, ReplaceError>
+        requires inner { IsInner self.old.label.content }
         requires range { RangeFits range.start range.end self.old }
         requires numbered { (self.old.label.span.file ≡ 0) ⊎ IsNumbered self.old }
         ensures err { OnErr result (self.new ≡ self.old) }
-        ensures leaf { ¬ (IsInner self.old.label.content) → (self.new ≡ self.old) × (result ≡ Ok no_window) }
-        ensures overflow { IsErrOf result Overflow ↔ (IsInner self.old.label.content
-            × ¬ (SumsFit (splice (trees self.old.children) range.start range.end replacement.items))) }
-        ensures unnumberable { IsErrOf result Unnumberable ↔ (IsInner self.old.label.content
-            × SumsFit (splice (trees self.old.children) range.start range.end replacement.items)
-            × ((self.old.label.span.file ≡ 0) ⊎ HasNoFirst (site_of range.start range.end replacement.items self.old))) }
-        ensures memory { length replacement.items ≤ range.end - range.start → ¬ (IsErrOf result Memory) }
-        ensures ok { IfOk result (λ r. IsInner self.old.label.content
-            → IsRenumbering (site_of range.start range.end replacement.items self.old) r (trees self.new.children)) }
-        ensures label { self.new.label ≡ self.old.label }
-        ensures plain { OnOk result (IsInner self.old.label.content
-            → plain self.new ≡ plain (edited range.start range.end replacement.items self.old)) }
-        ensures numbered { OnOk result (IsInner self.old.label.content → IsNumberedFor self.old.label.span.file self.new) }
+        ensures at { IsReplacement range.start range.end replacement.items self.old self.new result }
     {
         let id = self.span.id();
         let number = self.span.number();
@@ -291,12 +264,7 @@ impl SyntaxNode {
                 let result = inner.replace(id, number, range.start, range.end, replacement);
                 return result;
             }
-            Node::Short(..) | Node::Leaf(_) | Node::Error(_) => {
-                return Ok(Renumbered {
-                    window: 0..0,
-                    tried: 0,
-                });
-            }
+            Node::Short(..) | Node::Leaf(_) | Node::Error(_) => unreachable!(),
         }
     }
 }
@@ -319,9 +287,10 @@ impl SyntaxNode {
     /// number of children grows.
     ///
     /// It takes time in proportion to the children of the range, to the replacement, and to the trees of the window.
-    /// Where the number of children changes, those after the range are moved, and where their length changes their
-    /// ends are counted anew. The children are searched for errors or warnings where the range held some and the
-    /// replacement doesn't. Lists grow by their own allocator.
+    /// Where the number of children changes, those after the range are moved. Where only their length changes, one
+    /// number is written for each of the next 256 children at most, and one for each 256 of those after them. The
+    /// children are searched for errors or warnings where the range held some and the replacement doesn't. Lists grow
+    /// by their own allocator.
     pub fn replace_children(
         &mut self,
         _alloc: Global,
@@ -335,10 +304,8 @@ impl SyntaxNode {
         ensures leaf { ¬ (IsInner self.old.label.content) → (self.new ≡ self.old) × (result ≡ Ok no_window) }
         ensures err { OnErr result (self.new ≡ self.old) }
         ensures overflow { IsErrOf result Overflow ↔ (IsInner self.old.label.content
-            × ¬ (SumsFit (splice (trees self.old.children) range.start range.end replacement.items))) }
-        ensures unnumberable { IsErrOf result Unnumberable ↔ (IsInner self.old.label.content
-            × SumsFit (splice (trees self.old.children) range.start range.end replacement.items)
-            × ((self.old.label.span.file ≡ 0) ⊎ HasNoFirst (site_of range.start range.end replacement.items self.old))) }
+            × ¬ (SumsFit (spliced range.start range.end replacement.items self.old))) }
+        ensures unnumberable { IsErrOf result Unnumberable ↔ LacksNumbers range.start range.end replacement.items self.old }
         ensures crowded { IsErrOf result Unnumberable
             → (self.old.label.span.file ≡ 0) ⊎ IsCrowded (site_of range.start range.end replacement.items self.old) }
         ensures memory { length replacement.items ≤ range.end - range.start → ¬ (IsErrOf result Memory) }
@@ -356,6 +323,12 @@ impl SyntaxNode {
         ensures outside { IfOk result (λ r. IsInner self.old.label.content → KeepsOutside [] r self.old self.new) }
         ensures label { self.new.label ≡ self.old.label }
     {
+        if !self.is_inner() {
+            return Ok(Renumbered {
+                window: 0..0,
+                tried: 0,
+            });
+        }
         self.replace_range(range, replacement)
     }
 }

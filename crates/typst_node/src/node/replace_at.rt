@@ -6,21 +6,47 @@ ghost use Rattle.typst_node.specs.Plain.{plain};
 ghost use Rattle.typst_node.specs.Numbered.{IsNumbered, IsNumberedFor};
 ghost use Rattle.typst_node.specs.View.{IsMeasured};
 ghost use Rattle.typst_node.specs.Sums.{AreSums};
-ghost use Rattle.typst_node.specs.Paths.{IsPath, tree_at, with_children, no_tree};
+ghost use Rattle.typst_node.specs.Paths.{IsInnerAt, IsPath, StaysBeside, tree_at, trees_at};
 ghost use Rattle.typst_node.specs.PlainEdit.{edited_at, EditFits, TreeFits};
 ghost use Rattle.typst_node.specs.Window.{site_of};
 ghost use Rattle.typst_node.specs.FirstWindow.{HasNoFirst, IsFoundSoon, IsCrowded};
-ghost use Rattle.typst_node.specs.Renumbering.{IsRenumbering, no_window};
+ghost use Rattle.typst_node.specs.Renumbering.{IsRenumberingAt, no_window};
 ghost use Rattle.typst_node.specs.Outside.{KeepsOutside};
 ghost use Rattle.typst_node.specs.Tells.{TellsAs};
-ghost use Rattle.typst_node.specs.EditBelow.{IsEdit, IsReplacement};
+ghost use Rattle.typst_node.specs.Refusals.{LacksNumbersAt};
+ghost use Rattle.typst_node.specs.EditBelow.{child_of};
+ghost use Rattle.typst_node.specs.Errand.{IsDone, IsErrand, edited_by};
 ghost use Rattle.typst_node.specs.declared.node.replace.ReplaceError.TheVariants.{Unnumberable, Overflow, Memory};
 
 use crate::node::inner::{Sums, sums_of};
 use crate::node::replace::{Renumbered, ReplaceError};
 use crate::node::{InnerNode, Node, SyntaxNode};
 use std::alloc::Global;
+use std::mem;
 use std::ops::Range;
+
+/// A replacement on its way down to the node that it is for, and what came of it there. Each step of the way takes it by
+/// reference, so that the stack holds little of each.
+#[derive(Drop)]
+struct Errand {
+    range: Range<usize>,
+    others: Vec<SyntaxNode>,
+    answer: Result<Renumbered, ReplaceError>,
+}
+
+impl Errand {
+    /// Makes the replacement of the node that it is for.
+    #[inline(never)]
+    fn arrive(&mut self, node: &mut SyntaxNode)
+        requires { IsErrand [] self.old node.old }
+        ensures err { OnErr self.new.answer (node.new ≡ node.old) }
+        ensures done { IsDone self.old self.new node.old node.new }
+    {
+        let empty = Vec::new(*self.others.allocator());
+        let others = mem::replace(&mut self.others, empty);
+        self.answer = node.replace_range(self.range.start..self.range.end, others);
+    }
+}
 
 impl SyntaxNode {
     /// The node that a path of child indices leads to.
@@ -36,24 +62,16 @@ impl SyntaxNode {
 
     /// Replaces the children of a range of the inner node that a path leads to, where the sums of this one fit then.
     #[cycle(at)]
-    fn replace_below(
-        &mut self,
-        path: &[usize],
-        range: Range<usize>,
-        replacement: Vec<SyntaxNode>,
-    ) -> Result<Renumbered, ReplaceError>
-        requires { IsEdit path.now range.start range.end replacement.items self.old }
-        ensures err { OnErr result (self.new ≡ self.old) }
-        ensures frame { self.new ≡ with_children path.now (trees (tree_at path.now self.new).children) self.old }
-        ensures at { IsReplacement range.start range.end replacement.items (tree_at path.now self.old) (tree_at path.now self.new) result }
+    fn replace_below(&mut self, path: &[usize], errand: &mut Errand)
+        requires { IsErrand path.now errand.old self.old }
+        ensures err { OnErr errand.new.answer (self.new ≡ self.old) }
+        ensures frame { StaysBeside path.now self.old self.new }
+        ensures at { IsDone errand.old errand.new (tree_at path.now self.old) (tree_at path.now self.new) }
     {
         match path.split_first() {
-            None => self.replace_range(range, replacement),
+            None => errand.arrive(self),
             Some((index, rest)) => match &mut self.node {
-                Node::Inner(inner) => {
-                    let result = inner.replace_in(*index, rest, range, replacement);
-                    return result;
-                }
+                Node::Inner(inner) => inner.replace_in(*index, rest, errand),
                 Node::Short(..) | Node::Leaf(_) | Node::Error(_) => unreachable!(),
             },
         }
@@ -63,32 +81,28 @@ impl SyntaxNode {
 impl InnerNode {
     /// Replaces children of a node below one child, and corrects what is kept of it.
     #[cycle(at)]
-    fn replace_in(
-        &mut self,
-        index: usize,
-        path: &[usize],
-        range: Range<usize>,
-        replacement: Vec<SyntaxNode>,
-    ) -> Result<Renumbered, ReplaceError>
+    fn replace_in(&mut self, index: usize, path: &[usize], errand: &mut Errand)
         requires measured { IsMeasured self.old }
         requires index { index < length self.old.children.items }
-        requires edit { IsEdit path.now range.start range.end replacement.items (get_or self.old.children.items index no_tree) }
-        requires sums { SumsFit (set self.old.children.items index (edited_at path.now range.start range.end replacement.items (get_or self.old.children.items index no_tree))) }
+        requires edit { IsErrand path.now errand.old (child_of self.old.children.items index) }
+        requires sums { let child = child_of self.old.children.items index in
+            SumsFit (set self.old.children.items index (edited_by path.now errand.old child)) }
         ensures measured { IsMeasured self.new }
         ensures kind { self.new.kind ≡ self.old.kind }
         ensures upper { self.new.upper ≡ self.old.upper }
         ensures warnings { self.new.warnings ≡ self.old.warnings }
-        ensures err { OnErr result (self.new.children.items ≡ self.old.children.items) }
-        ensures frame { self.new.children.items ≡ set self.old.children.items index (with_children path.now (trees (tree_at path.now (get_or self.new.children.items index no_tree)).children) (get_or self.old.children.items index no_tree)) }
-        ensures at { IsReplacement range.start range.end replacement.items (tree_at path.now (get_or self.old.children.items index no_tree)) (tree_at path.now (get_or self.new.children.items index no_tree)) result }
+        ensures err { OnErr errand.new.answer (self.new.children.items ≡ self.old.children.items) }
+        ensures one { self.new.children.items ≡ set self.old.children.items index (child_of self.new.children.items index) }
+        ensures frame { StaysBeside path.now (child_of self.old.children.items index) (child_of self.new.children.items index) }
+        ensures at { IsDone errand.old errand.new (tree_at path.now (child_of self.old.children.items index))
+            (tree_at path.now (child_of self.new.children.items index)) }
     {
         // Read for the proof: both sums are usizes, so those of the child that changes are too.
         let (_len, _descendants) = (self.len, self.descendants);
         let gone = sums_of_one(&self.children[index]);
-        let result = self.children[index].replace_below(path, range, replacement);
+        self.children[index].replace_below(path, errand);
         let added = sums_of_one(&self.children[index]);
         self.settle(index, index + 1, &gone, &added);
-        result
     }
 }
 
@@ -157,9 +171,9 @@ impl SyntaxNode {
     /// exactly where the length or the node count of the node that is called, the whole tree's, would pass a usize.
     /// After an error nothing has changed, and the replacement is dropped.
     ///
-    /// It takes as long as the replacement at the node itself, and at each node above it as long as the children
-    /// after the path are many where the length changes, and as its children are many where an error or a warning
-    /// may have gone. Lists grow by their own allocator.
+    /// It takes as long as the replacement at the node itself, and at each node above it, where the length changes, as
+    /// long as 256 children and each 256th of those after the path are many, and as its children are many where an
+    /// error or a warning may have gone. Lists grow by their own allocator.
     pub fn replace_at(
         &mut self,
         _alloc: Global,
@@ -171,35 +185,28 @@ impl SyntaxNode {
         requires numbered { ((tree_at path.now self.old).label.span.file ≡ 0) ⊎ IsNumbered self.old }
 
         // A leaf or an error, and each refusal, changes nothing.
-        ensures leaf { ¬ (IsInner (tree_at path.now self.old).label.content)
-            → (self.new ≡ self.old) × (result ≡ Ok no_window) }
+        ensures leaf { ¬ (IsInnerAt path.now self.old) → (self.new ≡ self.old) × (result ≡ Ok no_window) }
         ensures err { OnErr result (self.new ≡ self.old) }
-        ensures overflow { IsErrOf result Overflow ↔ (IsInner (tree_at path.now self.old).label.content
+        ensures overflow { IsErrOf result Overflow ↔ (IsInnerAt path.now self.old
             × ¬ (TreeFits (edited_at path.now range.start range.end replacement.items self.old))) }
-        ensures unnumberable { IsErrOf result Unnumberable ↔ (IsInner (tree_at path.now self.old).label.content
-            × TreeFits (edited_at path.now range.start range.end replacement.items self.old)
-            × (((tree_at path.now self.old).label.span.file ≡ 0)
-            ⊎ HasNoFirst (site_of range.start range.end replacement.items (tree_at path.now self.old)))) }
-        ensures crowded { IsErrOf result Unnumberable → ((tree_at path.now self.old).label.span.file ≡ 0)
-            ⊎ IsCrowded (site_of range.start range.end replacement.items (tree_at path.now self.old)) }
+        ensures unnumberable { IsErrOf result Unnumberable
+            ↔ LacksNumbersAt path.now range.start range.end replacement.items self.old }
+        ensures crowded { let at = tree_at path.now self.old in IsErrOf result Unnumberable
+            → (at.label.span.file ≡ 0) ⊎ IsCrowded (site_of range.start range.end replacement.items at) }
         ensures memory { length replacement.items ≤ range.end - range.start → ¬ (IsErrOf result Memory) }
 
         // What an accepted replacement makes.
-        ensures plain { OnOk result (IsInner (tree_at path.now self.old).label.content
+        ensures plain { OnOk result (IsInnerAt path.now self.old
             → plain self.new ≡ plain (edited_at path.now range.start range.end replacement.items self.old)) }
-        ensures reads { OnOk result (IsInner (tree_at path.now self.old).label.content
+        ensures reads { OnOk result (IsInnerAt path.now self.old
             → TellsAs self.new (edited_at path.now range.start range.end replacement.items self.old)) }
-        ensures numbered { OnOk result (IsInner (tree_at path.now self.old).label.content
-            → IsNumberedFor self.old.label.span.file self.new) }
-        ensures window { IfOk result (λ r. IsInner (tree_at path.now self.old).label.content
-            → IsRenumbering (site_of range.start range.end replacement.items (tree_at path.now self.old)) r
-            (trees (tree_at path.now self.new).children)) }
-        ensures tried { IfOk result (λ r. IsInner (tree_at path.now self.old).label.content
-            → IsFoundSoon (site_of range.start range.end replacement.items (tree_at path.now self.old)) r.tried) }
-        ensures outside { IfOk result (λ r. IsInner (tree_at path.now self.old).label.content
-            → KeepsOutside path.now r self.old self.new) }
-        ensures beside { OnOk result (IsInner (tree_at path.now self.old).label.content
-            → self.new ≡ with_children path.now (trees (tree_at path.now self.new).children) self.old) }
+        ensures numbered { OnOk result (IsInnerAt path.now self.old → IsNumberedFor self.old.label.span.file self.new) }
+        ensures window { IfOk result (λ r. IsInnerAt path.now self.old
+            → IsRenumberingAt path.now range.start range.end replacement.items r self.old self.new) }
+        ensures tried { let at = tree_at path.now self.old in IfOk result (λ r. IsInner at.label.content
+            → IsFoundSoon (site_of range.start range.end replacement.items at) r.tried) }
+        ensures outside { IfOk result (λ r. IsInnerAt path.now self.old → KeepsOutside path.now r self.old self.new) }
+        ensures beside { OnOk result (IsInnerAt path.now self.old → StaysBeside path.now self.old self.new) }
     {
         if !self.node_at(path).is_inner() {
             return Ok(Renumbered {
@@ -210,6 +217,12 @@ impl SyntaxNode {
         if !self.sums_fit(path, range.start..range.end, &replacement) {
             return Err(ReplaceError::Overflow);
         }
-        self.replace_below(path, range, replacement)
+        let mut errand = Errand {
+            range,
+            others: replacement,
+            answer: Err(ReplaceError::Overflow),
+        };
+        self.replace_below(path, &mut errand);
+        errand.answer
     }
 }

@@ -1,6 +1,6 @@
 // What an inner node keeps of its children, after some of them were exchanged.
-ghost use Rattle.std.specs.Prelude.{◌≡◌, ◌+◌, ◌-◌, ◌^◌, ◌<◌, ◌≤◌, ◌||◌, ◌++◌, ◌↔◌, true, map, length, take, drop, slice_range, IsTrue};
-ghost use Rattle.std.specs.List.{list_any, AllByRecursion};
+ghost use Rattle.std.specs.Prelude.{◌≡◌, ◌+◌, ◌-◌, ◌^◌, ◌<◌, ◌≤◌, ◌||◌, ◌++◌, ◌↔◌, true, length, take, drop, slice_range, IsTrue};
+ghost use Rattle.std.specs.List.{list_any};
 ghost use Rattle.typst_node.specs.Tree.{forest};
 ghost use Rattle.typst_node.specs.Preorder.{preorder};
 ghost use Rattle.typst_node.specs.Text.{text_of_all};
@@ -11,6 +11,7 @@ ghost use Rattle.typst_node.specs.Sums.{AreSums};
 ghost use Rattle.typst_node.specs.Stale.{IsStale};
 
 use crate::diagnosis::Diagnosis;
+use crate::ends::Ends;
 use crate::node::inner::Sums;
 use crate::node::{InnerNode, SyntaxNode};
 
@@ -63,7 +64,7 @@ fn diagnosis_after(
 }
 
 /// Writes where the texts of the children from `from` up to `to` end, given where those before them do.
-fn write_ends(ends: &mut [usize], children: &[SyntaxNode], from: usize, to: usize)
+fn write_ends(ends: &mut Ends, children: &[SyntaxNode], from: usize, to: usize)
     requires many { length ends.old ≡ length children.now }
     requires window { from ≤ to }
     requires inside { to ≤ length children.now }
@@ -72,27 +73,17 @@ fn write_ends(ends: &mut [usize], children: &[SyntaxNode], from: usize, to: usiz
     ensures before { take to ends.new ≡ take to (ends_from 0 children.now) }
     ensures behind { drop to ends.new ≡ drop to ends.old }
 {
-    let mut end = if from == 0 { 0 } else { ends[from - 1] };
+    let mut end = if from == 0 { 0 } else { ends.get(from - 1) };
     for i in from..to {
         end += children[i].len();
-        ends[i] = end;
-    }
-}
-
-/// Moves the ends by the difference of two lengths.
-fn shift_ends(ends: &mut [usize], gone: usize, added: usize)
-    requires above { AllByRecursion (λ e. (gone ≤ e) × (e - gone + added < 2 ^ 64)) ends.old }
-    ensures { ends.new ≡ map (λ e. e - gone + added) ends.old }
-{
-    for end in ends.iter_mut() {
-        *end = *end - gone + added;
+        ends.set(i, end);
     }
 }
 
 /// Writes where the texts of the children from `from` up to `to` end, and moves the ends after them by the
-/// difference of what stood there and what stands there now. Behind a change that keeps the length nothing is written.
+/// difference of what stood there and what stands there now. After a change that keeps the length nothing is written.
 fn settle_ends(
-    ends: &mut [usize],
+    ends: &mut Ends,
     children: &[SyntaxNode],
     from: usize,
     to: usize,
@@ -110,7 +101,7 @@ fn settle_ends(
 {
     write_ends(ends, children, from, to);
     if gone != added {
-        shift_ends(&mut ends[to..], gone, added);
+        ends.shift(to, gone, added);
     }
 }
 
@@ -118,6 +109,7 @@ impl InnerNode {
     /// Corrects lengths, counts, diagnosis and ends after the children from `from` up to `to` came there: `gone` are
     /// the sums of those that are counted in their place, `added` are their own.
     #[tactic(auto, using(crate::proofs::Opens::part_count, crate::proofs::Opens::part_text))]
+    #[inline(never)]
     pub(super) fn settle(&mut self, from: usize, to: usize, gone: &Sums, added: &Sums)
         requires window { from ≤ to }
         requires inside { to ≤ length self.old.children.items }

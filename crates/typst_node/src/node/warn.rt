@@ -12,7 +12,7 @@ use typst_base::{Span, SubRange, SyntaxKind};
 /// # Making errors
 impl SyntaxNode {
     /// A detached error with a copy of the message and of the text that is no syntax. Both may be empty.
-    /// Only want of memory is an error.
+    /// It fails only where memory runs out.
     pub fn error(alloc: Global, message: &str, text: &str) -> Result<SyntaxNode, AllocError>
         ensures { IfOk result (λ t. t ≡ error_tree message.now text.now) }
     {

@@ -1,8 +1,8 @@
 // The first window of children that has room for new numbers.
-ghost use Rattle.std.specs.Prelude.{◌≡◌, ◌+◌, ◌*◌, ◌-◌, ◌^◌, ◌<◌, ◌≤◌, ◌⊎◌, ◌↔◌, MatchOption, IsTrue};
+ghost use Rattle.std.specs.Prelude.{◌≡◌, ◌+◌, ◌*◌, ◌-◌, ◌^◌, ◌<◌, ◌≤◌, ◌↔◌, IfSome, MatchOption, IsTrue};
 ghost use Rattle.typst_node.specs.Count.{count_of_all};
 ghost use Rattle.typst_node.specs.OpenNumbers.{open_from, open_to};
-ghost use Rattle.typst_node.specs.Room.{HasRoom, new_count};
+ghost use Rattle.typst_node.specs.Room.{HasRoom, Suffice, new_count};
 ghost use Rattle.typst_node.specs.FirstWindow.{HoldsAll, HasNoFirst};
 ghost use Rattle.typst_node.specs.Window.{trees_in};
 ghost use Rattle.typst_node.specs.Sites.{site, IsNumbering, IsFound};
@@ -75,8 +75,8 @@ fn open_before(nodes: &[SyntaxNode], end: u64) -> u64
 /// How many of `space` open numbers each of the window's nodes gets, where they are enough.
 fn window_stride(space: u64, nodes: u64, total: u64) -> Option<u64>
     requires { nodes < total }
-    ensures { MatchOption result (¬ ((2 * nodes ≤ space) ⊎ (total ≤ space)))
-        (λ stride. ((2 * nodes ≤ space) ⊎ (total ≤ space)) × (1 ≤ stride) × (stride * nodes ≤ space)
+    ensures enough { MatchOption result (¬ (Suffice space nodes total)) (λ stride. Suffice space nodes total) }
+    ensures stride { IfSome result (λ stride. (1 ≤ stride) × (stride * nodes ≤ space)
         × (2 * nodes ≤ space → 2 * (stride * nodes) ≤ space)) }
 {
     if nodes == 0 {

@@ -10,11 +10,7 @@ use Rattle.typst_node.proofs.node.InnerNode.put.Goals as goal
 
 pub make_place-requires-clause-inside : goal.make_place-requires-clause-inside
 make_place-requires-clause-inside c =
-    omega (arith, ap length c.make_room.ensures.measured.ends, length_of_ends 0 c.make_room.new.self.children.items, ap length c.make_room.ensures.children, c.make_room.new.self.ends.ok)
-
-pub make_place-requires-clause-room : goal.make_place-requires-clause-room
-make_place-requires-clause-room c =
-    omega (arith, ap length c.make_room.ensures.measured.ends, length_of_ends 0 c.make_room.new.self.children.items, c.in_ok-make_room.ensures.room_of_ends, c.make_room.new.self.ends.ok)
+    omega (arith, ap length c.make_room.ensures.measured.ends, length_of_ends 0 c.make_room.new.self.children.items, ap length c.make_room.ensures.children)
 
 pub settle-requires-clause-stale : goal.settle-requires-clause-stale
 settle-requires-clause-stale c =
@@ -26,8 +22,8 @@ settle-requires-clause-stale c =
     let same : old.children.items ≡ c.args.self.now.children.items = c.make_room.ensures.children in
     let is_gone : AreSums gone (slice_range old.children.items from to) = subst (λ (ts : List Tree). AreSums gone (slice_range ts from to)) (sym same) c.requires.change.gone in
     let many : c.len-many.result ≡ length ys = omega arith in
-    let new : InnerNode = record { kind = old.kind; len = old.len; descendants = old.descendants; diagnosis = old.diagnosis; upper = old.upper; warnings = old.warnings; children = c.exchange.new.items; ends = c.make_place.new.items } in
-    let behind : drop (from + length ys) new.ends.items ≡ drop to old.ends.items = ap (λ n. drop (from + n) new.ends.items) (sym many) ∙ c.make_place.ensures.behind in
+    let new : InnerNode = record { kind = old.kind; len = old.len; descendants = old.descendants; diagnosis = old.diagnosis; upper = old.upper; warnings = old.warnings; children = c.exchange.new.items; ends = c.make_place.new.self } in
+    let behind : drop (from + length ys) new.ends ≡ drop to old.ends = ap (λ n. drop (from + n) new.ends) (sym many) ∙ c.in_ok-make_place.ensures.behind in
     subst (λ n. IsStale from (from + n) gone new) (sym many)
     (put_stale old new ys from to gone c.requires.window (omega (arith, ap length same)) c.make_room.ensures.measured is_gone c.in_ok-exchange.ensures.ok refl refl refl refl
-    (omega (arith, c.make_place.ensures.len, old.ends.ok, c.make_place.new.items.ok)) c.make_place.ensures.before behind)
+    (omega (arith, c.in_ok-make_place.ensures.len)) c.in_ok-make_place.ensures.before behind)

@@ -1,4 +1,4 @@
-use Rattle.std.proofs.Common.{◌≡◌, ℕ, ◌+◌, ◌-◌, ◌*◌, ◌/◌, ◌^◌, ◌≤◌, length, take, drop, min, sym, subst, arith, Option, Some, IfSome, MatchOption, length-take, length-drop}
+use Rattle.std.proofs.Common.{◌≡◌, ℕ, ◌+◌, ◌-◌, ◌*◌, ◌/◌, ◌^◌, ◌≤◌, length, take, drop, min, sym, subst, arith, rules, Option, Some, IfSome, MatchOption, length-take, length-drop}
 use Rattle.std.specs.Prelude.{slice_range}
 use Rattle.typst_node.specs.Tree.{forest}
 use Rattle.typst_node.specs.Count.{count_of_all}
@@ -38,8 +38,8 @@ renumber-requires-clause-high c =
     c.put.new.self.children.items c.put.new.self.children.items c.requires.window c.requires.inside c.saturating_sub-start.ensures (omega arith) c.in_ok-put.ensures.ok in
     rw window (omega (arith, found.numbering.start, found.numbering.fits))
 
-pub returns-clause-ok : goal.returns-clause-ok
-returns-clause-ok c =
+pub returns-clause-made : goal.returns-clause-made
+returns-clause-made c =
     let found = rw c.deref-2.ensures.value at c.in-Some-window.ensures in
     let xs = c.args.self.now.children.items in
     let ys = c.args.others.items in
@@ -51,32 +51,32 @@ returns-clause-ok c =
     let stop = c.args.from + c.len.result + c.min.result in
     let stops : stop ≡ c.args.from + length ys + min w (length xs - c.args.to) = omega arith in
     let new = c.renumber.new.self.children.items in
-    record {
-      tried = found.tried;
-      first = found.first;
-      start = coe 0 1 (i. start ≡ window_start s (e i)) (omega (arith, length-take c.args.from xs));
-      end = coe 0 1 (i. stop ≡ window_end s (e i)) (omega (arith, length-take c.args.from xs, length-drop c.args.to xs));
-      before = coe 0 1 (i. take start new ≡ trees_before s (e i))
-          (new_before c.in-Some-id.id c.args.number c.args.self.now.upper c.args.from c.args.to w start stop f.numbering.start f.numbering.stride xs ys c.put.new.self.children.items new c.requires.window c.requires.inside c.saturating_sub-start.ensures stops c.in_ok-put.ensures.ok
-          c.renumber.ensures.before c.renumber.ensures.behind);
-      behind = coe 0 1 (i. drop stop new ≡ trees_behind s (e i))
-          (new_behind c.in-Some-id.id c.args.number c.args.self.now.upper c.args.from c.args.to w start stop f.numbering.start f.numbering.stride xs ys c.put.new.self.children.items new c.requires.window c.requires.inside c.saturating_sub-start.ensures stops c.in_ok-put.ensures.ok
-          c.renumber.ensures.before c.renumber.ensures.behind);
-      half = coe 0 1 (i. 2 * count_of_all (trees_in s (e i)) ≤ open_count s (e i) → AreIn (open_start s (e i)) (open_start s (e i) + open_count s (e i) / 2) (slice_range new start stop))
-          (λ room. new_half c.in-Some-id.id c.args.number c.args.self.now.upper c.args.from c.args.to w start stop f.numbering.start f.numbering.stride xs ys c.put.new.self.children.items new c.requires.window c.requires.inside c.saturating_sub-start.ensures stops c.in_ok-put.ensures.ok
-          c.renumber.ensures.before c.renumber.ensures.behind found.numbering.start c.renumber.ensures.within (found.numbering.half room));
-    }
-
-pub returns-clause-within : goal.returns-clause-within
-returns-clause-within c =
-    let found = rw c.deref-2.ensures.value at c.in-Some-window.ensures in
-    let xs = c.args.self.now.children.items in
-    let ys = c.args.others.items in
-    let f = c.in-Some-window.found in
-    let start = c.saturating_sub-start.result in
-    let stop = c.args.from + c.len.result + c.min.result in
-    let stops : stop ≡ c.args.from + length ys + min f.width (length xs - c.args.to) = omega arith in
     let within = if_some c.args.id c.in-Some-id.id (λ file. IsWithin file (c.args.number + 1) c.args.self.now.upper (forest xs)) c.in-Some-id.is c.requires.within in
-    subst (λ (p : Option ℕ). MatchOption p ⊥ (λ file. IsWithin file (c.args.number + 1) c.args.self.now.upper (forest c.renumber.new.self.children.items))) (sym c.in-Some-id.is)
-    (new_within c.in-Some-id.id c.args.number c.args.self.now.upper c.args.from c.args.to f.width start stop f.numbering.start f.numbering.stride xs ys c.put.new.self.children.items c.renumber.new.self.children.items c.requires.window c.requires.inside c.saturating_sub-start.ensures stops c.in_ok-put.ensures.ok
-    c.renumber.ensures.before c.renumber.ensures.behind found.numbering.start c.renumber.ensures.within within found.numbering.fits)
+    record {
+      measured = search rules;
+      kind = search rules;
+      upper = search rules;
+      warnings = search rules;
+      err = tt;
+      overflow = search rules;
+      unnumberable = search rules;
+      ok = record {
+        tried = found.tried;
+        first = found.first;
+        start = coe 0 1 (i. start ≡ window_start s (e i)) (omega (arith, length-take c.args.from xs));
+        end = coe 0 1 (i. stop ≡ window_end s (e i)) (omega (arith, length-take c.args.from xs, length-drop c.args.to xs));
+        before = coe 0 1 (i. take start new ≡ trees_before s (e i))
+            (new_before c.in-Some-id.id c.args.number c.args.self.now.upper c.args.from c.args.to w start stop f.numbering.start f.numbering.stride xs ys c.put.new.self.children.items new c.requires.window c.requires.inside c.saturating_sub-start.ensures stops c.in_ok-put.ensures.ok
+            c.renumber.ensures.before c.renumber.ensures.behind);
+        behind = coe 0 1 (i. drop stop new ≡ trees_behind s (e i))
+            (new_behind c.in-Some-id.id c.args.number c.args.self.now.upper c.args.from c.args.to w start stop f.numbering.start f.numbering.stride xs ys c.put.new.self.children.items new c.requires.window c.requires.inside c.saturating_sub-start.ensures stops c.in_ok-put.ensures.ok
+            c.renumber.ensures.before c.renumber.ensures.behind);
+        half = coe 0 1 (i. 2 * count_of_all (trees_in s (e i)) ≤ open_count s (e i) → AreIn (open_start s (e i)) (open_start s (e i) + open_count s (e i) / 2) (slice_range new start stop))
+            (λ room. new_half c.in-Some-id.id c.args.number c.args.self.now.upper c.args.from c.args.to w start stop f.numbering.start f.numbering.stride xs ys c.put.new.self.children.items new c.requires.window c.requires.inside c.saturating_sub-start.ensures stops c.in_ok-put.ensures.ok
+            c.renumber.ensures.before c.renumber.ensures.behind found.numbering.start c.renumber.ensures.within (found.numbering.half room));
+      };
+      plain = search rules;
+      within = subst (λ (p : Option ℕ). MatchOption p ⊥ (λ file. IsWithin file (c.args.number + 1) c.args.self.now.upper (forest new))) (sym c.in-Some-id.is)
+          (new_within c.in-Some-id.id c.args.number c.args.self.now.upper c.args.from c.args.to w start stop f.numbering.start f.numbering.stride xs ys c.put.new.self.children.items new c.requires.window c.requires.inside c.saturating_sub-start.ensures stops c.in_ok-put.ensures.ok
+          c.renumber.ensures.before c.renumber.ensures.behind found.numbering.start c.renumber.ensures.within within found.numbering.fits);
+    }

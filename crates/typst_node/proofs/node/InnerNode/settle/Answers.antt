@@ -1,6 +1,5 @@
 use Rattle.std.proofs.Common.{arith, ap, ◌∙◌}
 use Rattle.std.specs.List.{list_any}
-use Rattle.std.proofs.lemmas.List.{with_items_is}
 use Rattle.typst_node.specs.Tree.{forest}
 use Rattle.typst_node.specs.Preorder.{preorder}
 use Rattle.typst_node.specs.Diagnosis.{is_error, is_warned}
@@ -19,5 +18,5 @@ returns-clause-measured c =
       descendants = omega (arith, counts, c.requires.stale.descendants, c.requires.added.descendants);
       errors = c.diagnosis_after-self.ensures.errors ∙ ap (λ ts. list_any is_error (preorder (forest ts))) c.deref.ensures.value;
       warnings = c.diagnosis_after-self.ensures.warnings ∙ ap (λ ts. list_any is_warned (preorder (forest ts))) c.deref.ensures.value;
-      ends = with_items_is c.args.self.now.ends c.settle_ends.new.ends (omega arith) ∙ (c.settle_ends.ensures ∙ ap (ends_from 0) c.deref-2.ensures.value);
+      ends = c.settle_ends.ensures ∙ ap (ends_from 0) c.deref-2.ensures.value;
     }

@@ -43,7 +43,7 @@ returns-clause-unnumberable c =
 
 pub returns-clause-plain : goal.returns-clause-plain
 returns-clause-plain c =
-    IfOk-weaker c.replace_below.result _ _ (λ x h is. plain_at c.args.path.now c.args.range.start c.args.range.end c.args.replacement.items c.args.self.now c.replace_below.new.self c.replace_below.ensures.frame h) c.replace_below.ensures.at.plain
+    IfOk-weaker c.replace_below.new.errand.answer _ _ (λ x h is. plain_at c.args.path.now c.args.range.start c.args.range.end c.args.replacement.items c.args.self.now c.replace_below.new.self c.replace_below.ensures.frame h) c.replace_below.ensures.at.plain
 
 pub returns-clause-reads : goal.returns-clause-reads
 returns-clause-reads c =
@@ -53,7 +53,7 @@ returns-clause-reads c =
     let ys = c.args.replacement.items in
     let t = c.args.self.now in
     let u = c.replace_below.new.self in
-    IfOk-weaker c.replace_below.result _ _ (λ x h is. tells_alike u (edited_at path a b ys t) (plain_at path a b ys t u c.replace_below.ensures.frame h)) c.replace_below.ensures.at.plain
+    IfOk-weaker c.replace_below.new.errand.answer _ _ (λ x h is. tells_alike u (edited_at path a b ys t) (plain_at path a b ys t u c.replace_below.ensures.frame h)) c.replace_below.ensures.at.plain
 
 pub returns-clause-numbered : goal.returns-clause-numbered
 returns-clause-numbered c =
@@ -67,7 +67,7 @@ returns-clause-numbered c =
     let range = c.requires.fits.1 inner in
     let edit : IsEdit path a b ys t = record { path = c.requires.fits.0; inner = inner; order = range.0; inside = range.1; numbered = c.requires.numbered; sums = fits } in
     let fit = edit_at path a b ys t edit in
-    IfOk-weaker c.replace_below.result _ _ (λ x h is. h) (numbered_whole path a b ys t c.replace_below.new.self c.replace_below.result c.requires.fits.0 c.replace_below.ensures.at fit c.replace_below.ensures.frame c.requires.numbered)
+    IfOk-weaker c.replace_below.new.errand.answer _ _ (λ x h is. h) (numbered_whole path a b ys t c.replace_below.new.self c.replace_below.new.errand.answer c.requires.fits.0 c.replace_below.ensures.at fit c.replace_below.ensures.frame c.requires.numbered)
 
 pub returns-clause-crowded : goal.returns-clause-crowded
 returns-clause-crowded c =
@@ -75,10 +75,10 @@ returns-clause-crowded c =
 
 pub returns-clause-tried : goal.returns-clause-tried
 returns-clause-tried c =
-    IfOk-weaker c.replace_below.result _ _ (λ x h is. found_soon (site_of c.args.range.start c.args.range.end c.args.replacement.items (tree_at c.args.path.now c.args.self.now)) x.tried h.tried h.first) c.replace_below.ensures.at.ok
+    IfOk-weaker c.replace_below.new.errand.answer _ _ (λ x h is. found_soon (site_of c.args.range.start c.args.range.end c.args.replacement.items (tree_at c.args.path.now c.args.self.now)) x.tried h.tried h.first) c.replace_below.ensures.at.ok
 
 pub returns-clause-outside : goal.returns-clause-outside
 returns-clause-outside c =
-    IfOk_both c.replace_below.result c.replace_below.ensures.at.ok c.replace_below.ensures.at.plain
+    IfOk_both c.replace_below.new.errand.answer c.replace_below.ensures.at.ok c.replace_below.ensures.at.plain
     (λ x h plain is. keeps_outside c.args.path.now c.args.range.start c.args.range.end c.args.replacement.items c.args.self.now c.replace_below.new.self x c.requires.fits.0
     (c.requires.fits.1 is).0 (c.requires.fits.1 is).1 h plain c.replace_below.ensures.frame)

@@ -1,4 +1,4 @@
-use Rattle.std.proofs.Common.{arith, ◌≡◌, ◌+◌, length, take, get_or, refl, ap, ◌∙◌}
+use Rattle.std.proofs.Common.{arith, ◌≡◌, ◌+◌, length, length-set, take, drop, get_or, refl, ap, ◌∙◌}
 use Rattle.std.proofs.lemmas.List.{drop-set-lt}
 use Rattle.typst_node.specs.Text.{text, text_of_all}
 use Rattle.typst_node.proofs.Settled.{start_at, start_none, text_more, text_front, end_more}
@@ -7,9 +7,10 @@ use Rattle.typst_node.proofs.node.settle.write_ends.Goals.{then-from-eq0, else-f
 
 pub loop-i-init : goal.loop-i-init
 loop-i-init c = record {
+  many = c.requires.many;
   end = elim c.if-from-eq0.branch [
     | then-from-eq0 w ↦ w.end-is ∙ start_none c.args.children.now c.args.from w.if-from-eq0.true
-    | else-from-eq0 w ↦ w.end-is ∙ start_at c.args.ends.now c.args.children.now c.args.from (omega (arith, w.if-from-eq0.false)) (omega arith) c.requires.before
+    | else-from-eq0 w ↦ w.end-is ∙ w.get-end.ensures ∙ start_at c.args.ends.now c.args.children.now c.args.from (omega (arith, w.if-from-eq0.false)) (omega arith) c.requires.before
   ];
   before = c.requires.before;
   behind = refl;
@@ -27,7 +28,8 @@ loop-i-preserved c =
     let same : length (text c.index-children-i.result) ≡ length (text (get_or c.args.children.now c.loop-i.i c.index-children-i.result)) = ap (λ t. length (text t)) c.index-children-i.is in
     let end : c.loop-i.end + c.len-end.result ≡ length (text_of_all (take (c.loop-i.i + 1) c.args.children.now)) = omega (arith, more, same) in
     record {
+      many = ap length c.set.ensures ∙ (length-set c.loop-i.ends c.loop-i.i (c.loop-i.end + c.len-end.result) ∙ c.loop-i.invariant.many);
       end = end;
-      before = end_more c.loop-i.ends c.args.children.now c.loop-i.i (c.loop-i.end + c.len-end.result) (omega arith) (omega arith) c.loop-i.invariant.before end;
-      behind = drop-set-lt c.args.to c.loop-i.ends c.loop-i.i (c.loop-i.end + c.len-end.result) (omega arith) ∙ c.loop-i.invariant.behind;
+      before = ap (take (c.loop-i.i + 1)) c.set.ensures ∙ end_more c.loop-i.ends c.args.children.now c.loop-i.i (c.loop-i.end + c.len-end.result) (omega arith) (omega (arith, c.loop-i.invariant.many)) c.loop-i.invariant.before end;
+      behind = ap (drop c.args.to) c.set.ensures ∙ drop-set-lt c.args.to c.loop-i.ends c.loop-i.i (c.loop-i.end + c.len-end.result) (omega arith) ∙ c.loop-i.invariant.behind;
     }

@@ -5,6 +5,7 @@ use Rattle.typst_node.proofs.node.settle.write_ends.Given as goal
 
 abbrev pub invariant-loop-i : goal.invariant-loop-i
 invariant-loop-i l = record {
+  many : length l.ends ≡ length l.children;
   end : l.end ≡ length (text_of_all (take l.i l.children));
   before : take l.i l.ends ≡ take l.i (ends_from 0 l.children);
   behind : drop l.to l.ends ≡ drop l.to l.initial.ends;

@@ -21,7 +21,7 @@ returns-in-None c =
     let o : c.saturating_sub-2.result ≡ open_count s w = c.saturating_sub-2.ensures ∙ (λ i. to i - from i) in
     let d : c.args.nodes ≡ count_of_all (trees_in s w) = c.requires.nodes in
     let n : c.args.edit.now.total ≡ new_count s = c.requires.total in
-    λ h. c.in-None.ensures (coe 1 0 (i. (2 * d i ≤ o i) ⊎ (n i ≤ o i)) h)
+    λ h. c.in-None.ensures.enough (coe 1 0 (i. (2 * d i ≤ o i) ⊎ (n i ≤ o i)) h)
 
 pub returns-in-Some : goal.returns-in-Some
 returns-in-Some c =
@@ -35,9 +35,9 @@ returns-in-Some c =
     let n : c.args.edit.now.total ≡ new_count s = c.requires.total in
     let stride = c.in-Some.stride in
     record {
-      room = coe 0 1 (i. (2 * d i ≤ o i) ⊎ (n i ≤ o i)) c.in-Some.ensures.0;
+      room = coe 0 1 (i. (2 * d i ≤ o i) ⊎ (n i ≤ o i)) c.in-Some.ensures.enough;
       start = from;
-      positive = c.in-Some.ensures.1;
-      fits = coe 0 1 (i. stride * d i ≤ o i) c.in-Some.ensures.2;
-      half = coe 0 1 (i. 2 * d i ≤ o i → 2 * (stride * d i) ≤ o i) c.in-Some.ensures.3;
+      positive = c.in-Some.ensures.stride.0;
+      fits = coe 0 1 (i. stride * d i ≤ o i) c.in-Some.ensures.stride.1;
+      half = coe 0 1 (i. 2 * d i ≤ o i → 2 * (stride * d i) ≤ o i) c.in-Some.ensures.stride.2;
     }

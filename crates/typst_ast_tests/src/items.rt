@@ -1,0 +1,234 @@
+// What nodes are viewed as.
+use crate::bindings::BINDING;
+use crate::rows::assert_all;
+use crate::trees::{shown, text, view};
+use std::alloc::{AllocError, Global};
+use std::fmt::Debug;
+use std::test::Fail;
+use typst_ast::{Arg, ArrayItem, DestructuringItem, DictItem, Expr, Param, Pattern, views as of};
+use typst_atoms::BinOp;
+use typst_base::SyntaxKind;
+use typst_drawn::{DrawingError, drawn, drawn_all};
+use typst_node::{AstNode, SyntaxNode};
+
+#[test]
+fn not_in_is_one_operator(rt: HostRuntime) -> Result<(), Fail> {
+    let tree = drawn(rt.alloc(), "Binary[ Ident:a Not:not In:in Ident:b ]")?;
+    let view = view::<of::Binary>(Some(&tree));
+    let rows = [
+        ("the operator", view.op() == BinOp::NotIn),
+        ("its precedence", view.op().precedence() == 4),
+        ("before it", text(view.lhs()) == "a"),
+        ("after it", text(view.rhs()) == "b"),
+    ];
+    assert_all(&rt, &rows);
+    Ok(())
+}
+
+/// What a node is viewed as, or what is then read of the view.
+#[derive(Clone, Copy)]
+enum As {
+    Arg,
+    ArrayItem,
+    DestructuringItem,
+    DictItem,
+    Expr,
+    LetKind,
+    LetValue,
+    Param,
+    Pattern,
+}
+
+/// The `Debug` text of a node's view, `-` for none; without a node that of the placeholder.
+fn told<'a, T: AstNode<'a> + Debug>(
+    alloc: Global,
+    node: Option<&'a SyntaxNode>,
+) -> Result<String, AllocError> {
+    match node {
+        Some(node) => shown(alloc, node.cast::<T>()),
+        None => shown(alloc, Some(T::placeholder())),
+    }
+}
+
+fn told_as(alloc: Global, node: Option<&SyntaxNode>, it: As) -> Result<String, AllocError> {
+    match it {
+        As::Arg => told::<Arg>(alloc, node),
+        As::ArrayItem => told::<ArrayItem>(alloc, node),
+        As::DestructuringItem => told::<DestructuringItem>(alloc, node),
+        As::DictItem => told::<DictItem>(alloc, node),
+        As::Expr => told::<Expr>(alloc, node),
+        As::LetKind => shown(alloc, Some(view::<of::LetBinding>(node).kind())),
+        As::LetValue => shown(alloc, view::<of::LetBinding>(node).init()),
+        As::Param => told::<Param>(alloc, node),
+        As::Pattern => told::<Pattern>(alloc, node),
+    }
+}
+
+/// What is shown, a drawing of a node, or of none, what it is viewed as, and how the view's `Debug` text begins.
+type Row = (&'static str, &'static str, As, &'static str);
+
+const VIEWED: [Row; 31] = [
+    ("a pair in a dictionary", "Named[ ]", As::DictItem, "Named("),
+    ("a pair as an argument", "Named[ ]", As::Arg, "Named("),
+    ("a pair as a parameter", "Named[ ]", As::Param, "Named("),
+    (
+        "a pair among parts",
+        "Named[ ]",
+        As::DestructuringItem,
+        "Named(",
+    ),
+    ("no pair in an array", "Named[ ]", As::ArrayItem, "-"),
+    ("a pair is no pattern", "Named[ ]", As::Pattern, "-"),
+    (
+        "a spread in a dictionary",
+        "Spread[ ]",
+        As::DictItem,
+        "Spread(",
+    ),
+    ("a spread as an argument", "Spread[ ]", As::Arg, "Spread("),
+    (
+        "a spread in an array",
+        "Spread[ ]",
+        As::ArrayItem,
+        "Spread(",
+    ),
+    ("a spread as a parameter", "Spread[ ]", As::Param, "Spread("),
+    (
+        "a spread among parts",
+        "Spread[ ]",
+        As::DestructuringItem,
+        "Spread(",
+    ),
+    (
+        "a keyed pair in a dictionary",
+        "Keyed[ ]",
+        As::DictItem,
+        "Keyed(",
+    ),
+    ("a name in an array", "Ident:x", As::ArrayItem, "Pos(Ident("),
+    ("a name as an argument", "Ident:x", As::Arg, "Pos(Ident("),
+    (
+        "a name as a parameter",
+        "Ident:x",
+        As::Param,
+        "Pos(Normal(Ident(",
+    ),
+    (
+        "a name among parts",
+        "Ident:x",
+        As::DestructuringItem,
+        "Pattern(Normal(Ident(",
+    ),
+    (
+        "an underscore as a parameter",
+        "Underscore:_",
+        As::Param,
+        "Pos(Placeholder(",
+    ),
+    ("an underscore is no argument", "Underscore:_", As::Arg, "-"),
+    (
+        "an underscore as a pattern",
+        "Underscore:_",
+        As::Pattern,
+        "Placeholder(",
+    ),
+    (
+        "a group as a pattern",
+        "Parenthesized[ ]",
+        As::Pattern,
+        "Parenthesized(",
+    ),
+    (
+        "parts as a pattern",
+        "Destructuring[ ]",
+        As::Pattern,
+        "Destructuring(",
+    ),
+    (
+        "the placeholder in an array",
+        "",
+        As::ArrayItem,
+        "Pos(None(placeholder))",
+    ),
+    (
+        "the placeholder in a dictionary",
+        "",
+        As::DictItem,
+        "Spread(Spread(placeholder))",
+    ),
+    (
+        "the placeholder as an argument",
+        "",
+        As::Arg,
+        "Pos(None(placeholder))",
+    ),
+    (
+        "the placeholder as a parameter",
+        "",
+        As::Param,
+        "Pos(Normal(None(placeholder)))",
+    ),
+    (
+        "the placeholder among parts",
+        "",
+        As::DestructuringItem,
+        "Pattern(Normal(None(placeholder)))",
+    ),
+    (
+        "the placeholder as an expression",
+        "",
+        As::Expr,
+        "None(placeholder)",
+    ),
+    (
+        "a let binding of a name",
+        "LetBinding[ Let:let Ident:x Eq:= Int:1 ]",
+        As::LetKind,
+        "Normal(Normal(Ident(",
+    ),
+    (
+        "the value of a let binding of a name",
+        "LetBinding[ Let:let Ident:x Eq:= Int:1 ]",
+        As::LetValue,
+        "Int(Int: \"1\")",
+    ),
+    (
+        "a let binding of a closure without a name",
+        "LetBinding[ Let:let Closure[ Params[ ] Arrow:=> Int:1 ] ]",
+        As::LetKind,
+        "Closure(Ident(placeholder))",
+    ),
+    (
+        "the value of a let binding of parts",
+        BINDING,
+        As::LetValue,
+        "Ident(Ident: \"v\")",
+    ),
+];
+
+fn told_of(alloc: Global, drawing: &str, it: As) -> Result<String, DrawingError> {
+    let nodes = drawn_all(alloc, drawing)?;
+    Ok(told_as(alloc, nodes.first(), it)?)
+}
+
+#[test]
+fn nodes_are_viewed_by_their_kinds(rt: HostRuntime) -> Result<(), Fail> {
+    for (shows, drawing, it, wanted) in &VIEWED {
+        let said = told_of(rt.alloc(), drawing, *it)?;
+        assert!(rt; said.as_str().starts_with(*wanted), "{shows}: {said}");
+    }
+    Ok(())
+}
+
+#[test]
+fn a_placeholder_of_an_expression_is_none(rt: HostRuntime) {
+    let blank = Expr::placeholder();
+    let rows = [
+        ("the kind", blank.kind() == SyntaxKind::None),
+        ("no node", blank.to_untyped().is_none()),
+        ("no span", blank.span().is_detached()),
+        ("a literal", blank.is_literal()),
+        ("after a hash", blank.hash()),
+    ];
+    assert_all(&rt, &rows);
+}

@@ -1,0 +1,130 @@
+// Lists that are read from both ends.
+use crate::trees::{shown, view};
+use std::alloc::{AllocError, Global};
+use std::fmt::Debug;
+use std::test::Fail;
+use typst_ast::views as of;
+use typst_base::SyntaxKind;
+use typst_drawn::{DrawingError, drawn};
+use typst_node::{AstNode, SyntaxNode};
+
+/// A space, a binding, two spaces and a text.
+const SPACED: &str = "Markup[ Space:~ LetBinding[ Let:let ] Space:~~ Text:a ]";
+
+/// `(`, `#`, `x`, `;`, `y`, `;` and `)`.
+const ARGUMENTS: &str =
+    "MathArgs[ LeftParen:( Hash:# Ident:x Semicolon:; MathText:y Semicolon:; RightParen:) ]";
+
+/// What is shown, a list, from which ends its items are taken, `<` for the front and `>` for the back, and the
+/// `Debug` texts of the items, `-` for none.
+type Row = (&'static str, &'static str, &'static str, &'static str);
+
+const TAKEN: [Row; 5] = [
+    (
+        "markup leaves out the space after a statement",
+        SPACED,
+        "<<<<",
+        r#"Space(Space: " ") LetBinding(LetBinding: 3 [Let: "let"]) Text(Text: "a") - "#,
+    ),
+    (
+        "markup gives the same from the back",
+        SPACED,
+        ">>>>",
+        r#"Text(Text: "a") LetBinding(LetBinding: 3 [Let: "let"]) Space(Space: " ") - "#,
+    ),
+    (
+        "markup is read from both ends",
+        SPACED,
+        "><><>",
+        r#"Text(Text: "a") Space(Space: " ") LetBinding(LetBinding: 3 [Let: "let"]) - - "#,
+    ),
+    (
+        "a semicolon after a hash is no item",
+        ARGUMENTS,
+        "<<<<<<",
+        r#"LeftParen('(', LeftParen: "(") Arg(Pos(Ident(Ident: "x"))) Arg(Pos(MathText(MathText: "y"))) Semicolon(';', Semicolon: ";") RightParen(')', RightParen: ")") - "#,
+    ),
+    (
+        "items of arguments are the same from the back",
+        ARGUMENTS,
+        "><>>>><",
+        r#"RightParen(')', RightParen: ")") LeftParen('(', LeftParen: "(") Semicolon(';', Semicolon: ";") Arg(Pos(MathText(MathText: "y"))) Arg(Pos(Ident(Ident: "x"))) - - "#,
+    ),
+];
+
+fn push_shown<T: Debug + Copy>(
+    alloc: Global,
+    item: Option<T>,
+    said: &mut String,
+) -> Result<(), AllocError> {
+    said.push_str(shown(alloc, item)?.as_str())?;
+    said.push(' ')
+}
+
+fn exprs_taken(alloc: Global, markup: of::Markup, ends: &str) -> Result<String, AllocError> {
+    let mut exprs = markup.exprs();
+    let mut said = String::new(alloc);
+    for end in ends.chars() {
+        let expr = if end == '<' {
+            exprs.next()
+        } else {
+            exprs.next_back()
+        };
+        push_shown(alloc, expr, &mut said)?;
+    }
+    Ok(said)
+}
+
+fn items_taken(alloc: Global, arguments: of::MathArgs, ends: &str) -> Result<String, AllocError> {
+    let mut items = arguments.content_items();
+    let mut said = String::new(alloc);
+    for end in ends.chars() {
+        let item = if end == '<' {
+            items.next()
+        } else {
+            items.next_back()
+        };
+        push_shown(alloc, item, &mut said)?;
+    }
+    Ok(said)
+}
+
+fn taken(alloc: Global, drawing: &str, ends: &str) -> Result<String, DrawingError> {
+    let tree = drawn(alloc, drawing)?;
+    Ok(if tree.kind() == SyntaxKind::Markup {
+        exprs_taken(alloc, view(Some(&tree)), ends)?
+    } else {
+        items_taken(alloc, view(Some(&tree)), ends)?
+    })
+}
+
+#[test]
+fn lists_are_read_from_both_ends(rt: HostRuntime) -> Result<(), Fail> {
+    for (shows, drawing, ends, wanted) in &TAKEN {
+        let said = taken(rt.alloc(), drawing, ends)?;
+        assert_eq!(rt; said.as_str(), *wanted, "{shows}");
+    }
+    Ok(())
+}
+
+/// The arguments in a call in math, and whether each ends in a semicolon.
+fn arguments(alloc: Global, tree: &SyntaxNode) -> Result<String, AllocError> {
+    let mut said = String::new(alloc);
+    for it in view::<of::MathArgs>(Some(tree)).arg_items() {
+        let arg = it.arg;
+        let ends = it.ends_in_semicolon;
+        said.push_str(format!(in alloc; "{arg:?} {ends} ")?.as_str())?;
+    }
+    Ok(said)
+}
+
+#[test]
+fn an_argument_may_end_in_a_semicolon(rt: HostRuntime) -> Result<(), Fail> {
+    let tree = drawn(rt.alloc(), ARGUMENTS)?;
+    let said = arguments(rt.alloc(), &tree)?;
+    assert_eq!(rt;
+        said.as_str(),
+        r#"Pos(Ident(Ident: "x")) false Pos(MathText(MathText: "y")) true "#
+    );
+    Ok(())
+}

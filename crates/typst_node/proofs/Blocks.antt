@@ -1,0 +1,230 @@
+-- Ends that are kept in blocks.
+use Rattle.std.proofs.Common.{◌≡◌, ℕ, suc, zero, ◌+◌, ◌-◌, ◌/◌, ◌%◌, ◌<◌, ◌≤◌, ◌^◌, List, [], ◌∷◌, ◌++◌, length, take, drop, refl, sym, ap, ◌∙◌, arith, get_or, set, map, inl, inr, ◌⊎◌, length-drop, length-take, get_or-drop, get_or-take}
+use Rattle.std.proofs.Math.ListN.{replicate}
+use Rattle.std.proofs.lemmas.Bool.{cases_lt}
+use Rattle.std.proofs.lemmas.Grind.{same_number_lists}
+use Rattle.std.proofs.lemmas.List.{get_or-map, length-map}
+use Rattle.std.specs.List.{AllByRecursion}
+use Rattle.std.specs.Prelude.{if◌then◌else◌, Result, Ok, Err, IsOk, is_ok}
+use Rattle.typst_node.specs.Ends.{ends_seen}
+
+pub length-ends_seen : (starts : List ℕ) (place : ℕ) (es : List ℕ) → length (ends_seen starts place es) ≡ length es
+length-ends_seen starts place [] = refl
+length-ends_seen starts place (e ∷ es) = ap suc (length-ends_seen starts (suc place) es)
+
+pub seen_from : (starts : List ℕ) (place : ℕ) (es : List ℕ) (i : ℕ) → i < length es → get_or (ends_seen starts place es) i 0 ≡ (get_or starts ((place + i) / 256) 0 + get_or es i 0) % 2 ^ 64
+seen_from starts place [] i h = absurd (omega arith)
+seen_from starts place (e ∷ es) zero h = let same : place ≡ place + zero = omega arith in ap (λ n. (get_or starts (n / 256) 0 + e) % 2 ^ 64) same
+seen_from starts place (e ∷ es) (suc i) h =
+    let same : suc place + i ≡ place + suc i = omega arith in
+    seen_from starts (suc place) es i (omega arith) ∙ ap (λ n. (get_or starts (n / 256) 0 + get_or es i 0) % 2 ^ 64) same
+
+-- the end at a place
+pub seen_at : (starts es : List ℕ) (i : ℕ) → i < length es → get_or (ends_seen starts 0 es) i 0 ≡ (get_or starts (i / 256) 0 + get_or es i 0) % 2 ^ 64
+seen_at starts es i h =
+    let same : 0 + i ≡ i = omega arith in
+    seen_from starts 0 es i h ∙ ap (λ n. (get_or starts (n / 256) 0 + get_or es i 0) % 2 ^ 64) same
+
+seen_set : (starts : List ℕ) (place : ℕ) (es : List ℕ) (i e : ℕ) → ends_seen starts place (set es i e) ≡ set (ends_seen starts place es) i ((get_or starts ((place + i) / 256) 0 + e) % 2 ^ 64)
+seen_set starts place [] i e = refl
+seen_set starts place (x ∷ es) zero e =
+    let same : place ≡ place + zero = omega arith in
+    ap (λ n. ((get_or starts (n / 256) 0 + e) % 2 ^ 64) ∷ ends_seen starts (suc place) es) same
+seen_set starts place (x ∷ es) (suc i) e =
+    let same : suc place + i ≡ place + suc i = omega arith in
+    ap (λ ys. ((get_or starts (place / 256) 0 + x) % 2 ^ 64) ∷ ys)
+    (seen_set starts (suc place) es i e ∙ ap (λ n. set (ends_seen starts (suc place) es) i ((get_or starts (n / 256) 0 + e) % 2 ^ 64)) same)
+
+-- the difference to where the block begins is written for an end
+pub written : (start end : ℕ) → start < 2 ^ 64 → end < 2 ^ 64 → (start + (end + (2 ^ 64 - start)) % 2 ^ 64) % 2 ^ 64 ≡ end
+written start end a b = omega arith
+
+pub seen-write : (starts es : List ℕ) (i start end : ℕ) → start < 2 ^ 64 → end < 2 ^ 64 → start ≡ get_or starts (i / 256) 0 → ends_seen starts 0 (set es i ((end + (2 ^ 64 - start)) % 2 ^ 64)) ≡ set (ends_seen starts 0 es) i end
+seen-write starts es i start end a b is =
+    let d : ℕ = (end + (2 ^ 64 - start)) % 2 ^ 64 in
+    let same : 0 + i ≡ i = omega arith in
+    seen_set starts 0 es i d ∙ (λ j. set (ends_seen starts 0 es) i ((get_or starts (same j / 256) 0 + d) % 2 ^ 64))
+    ∙ ap (λ n. set (ends_seen starts 0 es) i n) (ap (λ s. (s + d) % 2 ^ 64) (sym is) ∙ written start end a b)
+
+-- ends that are counted from the beginning of all
+pub seen_plain : (starts : List ℕ) (place : ℕ) (es : List ℕ) → ((k : ℕ) → get_or starts k 0 ≡ 0) → ((k d : ℕ) → k < length es → get_or es k d < 2 ^ 64) → ends_seen starts place es ≡ es
+seen_plain starts place [] none fits = refl
+seen_plain starts place (e ∷ es) none fits =
+    let one : (get_or starts (place / 256) 0 + e) % 2 ^ 64 ≡ e = omega (arith, none (place / 256), fits 0 0 (omega arith)) in
+    (λ i. one i ∷ seen_plain starts (suc place) es none (λ k d h. fits (suc k) d (omega arith)) i)
+
+zeros : (n k : ℕ) → get_or (replicate n zero) k zero ≡ zero
+zeros zero k = refl
+zeros (suc n) zero = refl
+zeros (suc n) (suc k) = zeros n k
+
+pub none_begins : (n k : ℕ) → get_or (zero ∷ replicate n zero) k zero ≡ zero
+none_begins n zero = refl
+none_begins n (suc k) = zeros n k
+
+-- ends under two lists of beginnings that are the same at their blocks
+pub seen_alike : (starts others : List ℕ) (place : ℕ) (es : List ℕ) → ((k : ℕ) → get_or starts k 0 ≡ get_or others k 0) → ends_seen starts place es ≡ ends_seen others place es
+seen_alike starts others place [] same = refl
+seen_alike starts others place (e ∷ es) same = (λ i. ((same (place / 256) i + e) % 2 ^ 64) ∷ seen_alike starts others (suc place) es same i)
+
+-- ends after all blocks that begin somewhere are counted alike from any place
+pub seen_far : (starts : List ℕ) (block : ℕ) → ((k : ℕ) → block ≤ k → get_or starts k 0 ≡ 0) → (p q : ℕ) (es : List ℕ) → block ≤ p / 256 → block ≤ q / 256 → ends_seen starts p es ≡ ends_seen starts q es
+seen_far starts block none p q [] a b = refl
+seen_far starts block none p q (e ∷ es) a b =
+    let same : get_or starts (p / 256) 0 ≡ get_or starts (q / 256) 0 = none (p / 256) a ∙ sym (none (q / 256) b) in
+    (λ i. ((same i + e) % 2 ^ 64) ∷ seen_far starts block none (suc p) (suc q) es (omega arith) (omega arith) i)
+
+take-seen : (starts : List ℕ) (place n : ℕ) (es : List ℕ) → take n (ends_seen starts place es) ≡ ends_seen starts place (take n es)
+take-seen starts place zero es = refl
+take-seen starts place (suc n) [] = refl
+take-seen starts place (suc n) (e ∷ es) = ap (λ ys. ((get_or starts (place / 256) 0 + e) % 2 ^ 64) ∷ ys) (take-seen starts (suc place) n es)
+
+drop-seen : (starts : List ℕ) (place n : ℕ) (es : List ℕ) → drop n (ends_seen starts place es) ≡ ends_seen starts (place + n) (drop n es)
+drop-seen starts place zero es = let same : place ≡ place + zero = omega arith in ap (λ p. ends_seen starts p es) same
+drop-seen starts place (suc n) [] = refl
+drop-seen starts place (suc n) (e ∷ es) = let same : suc place + n ≡ place + suc n = omega arith in drop-seen starts (suc place) n es ∙ ap (λ p. ends_seen starts p (drop n es)) same
+
+-- a list of beginnings with blocks after it that begin at 0
+pub with_zeros : (starts : List ℕ) (n k : ℕ) → get_or (starts ++ replicate n zero) k zero ≡ get_or starts k zero
+with_zeros [] n k = zeros n k
+with_zeros (s ∷ starts) n zero = refl
+with_zeros (s ∷ starts) n (suc k) = with_zeros starts n k
+
+pub past_taken : (starts : List ℕ) (first k : ℕ) → suc first ≤ k → get_or (zero ∷ take first starts) k zero ≡ zero
+past_taken starts first zero h = absurd (omega arith)
+past_taken starts first (suc k) h = past starts first k (omega arith)
+  where
+    past : (xs : List ℕ) (n k : ℕ) → n ≤ k → get_or (take n xs) k zero ≡ zero
+    past xs zero k h = refl
+    past [] (suc n) k h = refl
+    past (x ∷ xs) (suc n) zero h = absurd (omega arith)
+    past (x ∷ xs) (suc n) (suc k) h = past xs n k (omega arith)
+
+pub within_taken : (starts : List ℕ) (first k : ℕ) → k ≤ first → get_or (zero ∷ take first starts) k zero ≡ get_or (zero ∷ starts) k zero
+within_taken starts first zero h = refl
+within_taken starts first (suc k) h = within starts first k (omega arith)
+  where
+    within : (xs : List ℕ) (n k : ℕ) → k < n → get_or (take n xs) k zero ≡ get_or xs k zero
+    within xs zero k h = absurd (omega arith)
+    within [] (suc n) k h = refl
+    within (x ∷ xs) (suc n) zero h = refl
+    within (x ∷ xs) (suc n) (suc k) h = within xs n k (omega arith)
+
+-- numbers that wrap
+pub raised_within : (s w by : ℕ) → (s + (w + by) % 2 ^ 64) % 2 ^ 64 ≡ ((s + w) % 2 ^ 64 + by) % 2 ^ 64
+raised_within s w by = omega arith
+
+pub raised_start : (s w by : ℕ) → ((s + by) % 2 ^ 64 + w) % 2 ^ 64 ≡ ((s + w) % 2 ^ 64 + by) % 2 ^ 64
+raised_start s w by = omega arith
+
+pub raised_to : (e gone added : ℕ) → gone < 2 ^ 64 → gone ≤ e → e - gone + added < 2 ^ 64 → (e + (added + (2 ^ 64 - gone)) % 2 ^ 64) % 2 ^ 64 ≡ e - gone + added
+raised_to e gone added a b c = omega arith
+
+pub joined_end : (s w : ℕ) → (zero + (w + s) % 2 ^ 64) % 2 ^ 64 ≡ (s + w) % 2 ^ 64
+joined_end s w = omega arith
+
+-- the ends of some blocks are counted from the beginning of all
+pub seen_joined : (starts before after : List ℕ) (first : ℕ) → length after ≡ length before
+    → ((k : ℕ) → k / 256 ≤ first → get_or after k 0 ≡ get_or before k 0)
+    → ((k : ℕ) → first < k / 256 → k < length before → get_or after k 0 ≡ (get_or before k 0 + get_or (0 ∷ starts) (k / 256) 0) % 2 ^ 64)
+    → ends_seen (0 ∷ take first starts) 0 after ≡ ends_seen (0 ∷ starts) 0 before
+seen_joined starts before after first many kept joined =
+    let all : List ℕ = 0 ∷ starts in
+    let some : List ℕ = 0 ∷ take first starts in
+    same_number_lists (ends_seen some 0 after) (ends_seen all 0 before) (length-ends_seen some 0 after ∙ (many ∙ sym (length-ends_seen all 0 before)))
+    (λ k h. let inside : k < length after = omega (arith, length-ends_seen some 0 after) in
+    seen_at some after k inside ∙ (at k (omega arith) (cases_lt first (k / 256)) ∙ sym (seen_at all before k (omega arith))))
+  where
+    at : (k : ℕ) → k < length before → (first < k / 256) ⊎ (k / 256 ≤ first) → (get_or (0 ∷ take first starts) (k / 256) 0 + get_or after k 0) % 2 ^ 64 ≡ (get_or (0 ∷ starts) (k / 256) 0 + get_or before k 0) % 2 ^ 64
+    at k h (inr low) = (λ i. (within_taken starts first (k / 256) low i + kept k low i) % 2 ^ 64)
+    at k h (inl high) = (λ i. (past_taken starts first (k / 256) high i + joined k high h i) % 2 ^ 64) ∙ joined_end (get_or (0 ∷ starts) (k / 256) 0) (get_or before k 0)
+
+at_each : (P : ℕ → Type 0) (es : List ℕ) → AllByRecursion P es → (k : ℕ) → k < length es → P (get_or es k 0)
+at_each P [] all k h = absurd (omega arith)
+at_each P (e ∷ es) all zero h = all.0
+at_each P (e ∷ es) all (suc k) h = at_each P es all.1 k (omega arith)
+
+-- The rest of a block is raised, and where later blocks begin.
+module _ (starts others before after : List ℕ) (from stop by : ℕ) (many : length after ≡ length before) (blocks : length starts ≡ length before / 256)
+    (same_block : (k : ℕ) → from ≤ k → k < stop → k / 256 ≡ from / 256) (later_block : (k : ℕ) → stop ≤ k → k < length before → from / 256 < k / 256)
+    (raised : (k : ℕ) → from ≤ k → k < stop → get_or after k 0 ≡ (get_or before k 0 + by) % 2 ^ 64)
+    (front : (k : ℕ) → k < from → get_or after k 0 ≡ get_or before k 0) (back : (k : ℕ) → stop ≤ k → get_or after k 0 ≡ get_or before k 0)
+    (begins : (k : ℕ) → k < from / 256 → get_or others k 0 ≡ get_or starts k 0)
+    (moved : (k : ℕ) → from / 256 ≤ k → k < length starts → get_or others k 0 ≡ (get_or starts k 0 + by) % 2 ^ 64) where
+  low : (block : ℕ) → block ≤ from / 256 → get_or (0 ∷ others) block 0 ≡ get_or (0 ∷ starts) block 0
+  low zero h = refl
+  low (suc block) h = begins block h
+
+  high : (block : ℕ) → from / 256 < block → block ≤ length starts → get_or (0 ∷ others) block 0 ≡ (get_or (0 ∷ starts) block 0 + by) % 2 ^ 64
+  high zero h j = absurd (omega arith)
+  high (suc block) h j = moved block (omega arith) (omega arith)
+
+  stays : (k : ℕ) → k < length before → k < from → get_or (ends_seen (0 ∷ others) 0 after) k 0 ≡ get_or (ends_seen (0 ∷ starts) 0 before) k 0
+  stays k h j =
+      seen_at (0 ∷ others) after k (omega arith) ∙ ((λ i. (low (k / 256) (omega arith) i + front k j i) % 2 ^ 64) ∙ sym (seen_at (0 ∷ starts) before k h))
+
+  rises : (k : ℕ) → k < length before → from ≤ k → get_or (ends_seen (0 ∷ others) 0 after) k 0 ≡ (get_or (ends_seen (0 ∷ starts) 0 before) k 0 + by) % 2 ^ 64
+  rises k h j = seen_at (0 ∷ others) after k (omega arith) ∙ (by_part (cases_lt k stop) ∙ ap (λ e. (e + by) % 2 ^ 64) (sym (seen_at (0 ∷ starts) before k h)))
+    where
+      by_part : (k < stop) ⊎ (stop ≤ k) → (get_or (0 ∷ others) (k / 256) 0 + get_or after k 0) % 2 ^ 64 ≡ ((get_or (0 ∷ starts) (k / 256) 0 + get_or before k 0) % 2 ^ 64 + by) % 2 ^ 64
+      by_part (inl here) =
+          let e : k / 256 ≤ from / 256 = omega (arith, same_block k j here) in
+          (λ i. (low (k / 256) e i + raised k j here i) % 2 ^ 64) ∙ raised_within (get_or (0 ∷ starts) (k / 256) 0) (get_or before k 0) by
+      by_part (inr there) = (λ i. (high (k / 256) (later_block k there h) (omega arith) i + back k there i) % 2 ^ 64) ∙ raised_start (get_or (0 ∷ starts) (k / 256) 0) (get_or before k 0) by
+
+  pub rest_stays : from ≤ length before → take from (ends_seen (0 ∷ others) 0 after) ≡ take from (ends_seen (0 ∷ starts) 0 before)
+  rest_stays inside =
+      same_number_lists (take from (ends_seen (0 ∷ others) 0 after)) (take from (ends_seen (0 ∷ starts) 0 before))
+      (omega (arith, length-take from (ends_seen (0 ∷ others) 0 after), length-take from (ends_seen (0 ∷ starts) 0 before), length-ends_seen (0 ∷ others) 0 after, length-ends_seen (0 ∷ starts) 0 before))
+      (λ k h. let inner : k < from = omega (arith, length-take from (ends_seen (0 ∷ others) 0 after)) in
+      get_or-take from (ends_seen (0 ∷ others) 0 after) k 0 inner ∙ (stays k (omega arith) inner ∙ sym (get_or-take from (ends_seen (0 ∷ starts) 0 before) k 0 inner)))
+
+  pub rest_moves : (gone added : ℕ) → gone < 2 ^ 64 → by ≡ (added + (2 ^ 64 - gone)) % 2 ^ 64
+      → AllByRecursion (λ e. (gone ≤ e) × (e - gone + added < 2 ^ 64)) (drop from (ends_seen (0 ∷ starts) 0 before))
+      → drop from (ends_seen (0 ∷ others) 0 after) ≡ map (λ e. e - gone + added) (drop from (ends_seen (0 ∷ starts) 0 before))
+  rest_moves gone added small is all =
+      let old : List ℕ = ends_seen (0 ∷ starts) 0 before in
+      let new : List ℕ = ends_seen (0 ∷ others) 0 after in
+      let old_many : length (drop from old) ≡ length before - from = length-drop from old ∙ ap (λ n. n - from) (length-ends_seen (0 ∷ starts) 0 before) in
+      let new_many : length (drop from new) ≡ length before - from = length-drop from new ∙ ap (λ n. n - from) (length-ends_seen (0 ∷ others) 0 after ∙ many) in
+      same_number_lists (drop from new) (map (λ e. e - gone + added) (drop from old)) (omega (arith, old_many, new_many, length-map (drop from old) (λ e. e - gone + added)))
+      (λ k h. let inner : k < length (drop from old) = omega (arith, old_many, new_many) in
+      let there = at_each (λ e. (gone ≤ e) × (e - gone + added < 2 ^ 64)) (drop from old) all k inner in
+      get_or-drop from new k 0
+      ∙ (rises (from + k) (omega (arith, old_many)) (omega arith)
+      ∙ ((λ i. (sym (get_or-drop from old k 0) i + is i) % 2 ^ 64)
+      ∙ (raised_to (get_or (drop from old) k 0) gone added small there.0 there.1 ∙ sym (get_or-map (λ e. e - gone + added) (drop from old) k 0 0 inner)))))
+
+-- Ends are moved to another place, where no block begins after the one before.
+module _ (starts before after : List ℕ) (from to many first n : ℕ) (order : from ≤ to) (begins : first ≡ from / 256 - 1) where
+  placed : List ℕ → List ℕ
+  placed es = ends_seen (0 ∷ take first starts) 0 es
+
+  with_room : (es : List ℕ) → ends_seen (0 ∷ (take first starts ++ replicate n zero)) 0 es ≡ placed es
+  unfolding placed
+  with_room es = seen_alike (0 ∷ (take first starts ++ replicate n zero)) (0 ∷ take first starts) 0 es (with_zeros (zero ∷ take first starts) n)
+
+  none : (k : ℕ) → from / 256 ≤ k → get_or (zero ∷ take first starts) k zero ≡ zero
+  none zero h = refl
+  none (suc k) h = past_taken starts first (suc k) (omega arith)
+
+  pub place_before : take from after ≡ take from before → take from (ends_seen (0 ∷ (take first starts ++ replicate n zero)) 0 after) ≡ take from (ends_seen (0 ∷ take first starts) 0 before)
+  unfolding placed
+  place_before same =
+      ap (take from) (with_room after) ∙ (take-seen (0 ∷ take first starts) 0 from after ∙ (ap (ends_seen (0 ∷ take first starts) 0) same ∙ sym (take-seen (0 ∷ take first starts) 0 from before)))
+
+  pub place_behind : drop (from + many) after ≡ drop to before → drop (from + many) (ends_seen (0 ∷ (take first starts ++ replicate n zero)) 0 after) ≡ drop to (ends_seen (0 ∷ take first starts) 0 before)
+  unfolding placed
+  place_behind same =
+      ap (drop (from + many)) (with_room after)
+      ∙ (drop-seen (0 ∷ take first starts) 0 (from + many) after
+      ∙ (ap (ends_seen (0 ∷ take first starts) (0 + (from + many))) same
+      ∙ (seen_far (0 ∷ take first starts) (from / 256) none (0 + (from + many)) (0 + to) (drop to before) (omega arith) (omega arith) ∙ sym (drop-seen (0 ∷ take first starts) 0 to before))))
+
+pub where_ok : {E : Type 0} {X : Type 0} (r : Result (Unit {0}) E) (a b : X) → IsOk r → (if is_ok r then a else b) ≡ a
+where_ok (Ok x) a b h = refl
+where_ok (Err e) a b h = cc
+
+pub take_none : (n : ℕ) → let none : List ℕ = [] in take n none ≡ none
+take_none zero = refl
+take_none (suc n) = refl
