@@ -1,5 +1,5 @@
 -- What a clause sees of an `ArrayItem`.
-use Rattle.std.specs.Prelude.{Option, IfSome, true, ◌≡◌}
+use Rattle.std.specs.Prelude.{Option, IfSome, ◌≡◌}
 use Rattle.typst_ast.specs.Expr.{expr_node, expr_kind, expr_kind_is_node_kind}
 use Rattle.typst_ast.specs.View.{node_of}
 use Rattle.typst_ast.specs.declared.array_item.ArrayItem.{ArrayItem}
@@ -8,7 +8,7 @@ use Rattle.typst_atoms.specs.OfKind.{kind_from_test}
 use Rattle.typst_base.specs.declared.kind.SyntaxKind.{SyntaxKind}
 use Rattle.typst_base.specs.declared.kind.SyntaxKind.TheVariants as kinds
 use Rattle.typst_node.specs.Tree.{Tree}
-use Rattle.typst_node.specs.Views.{node_kind, IsViewOf}
+use Rattle.typst_node.specs.Views.{node_kind}
 
 -- the node that it views; none for a placeholder
 abbrev pub array_item_node : ArrayItem → Option Tree

@@ -8,7 +8,7 @@ use Rattle.typst_atoms.specs.OfKind.{kind_from_test}
 use Rattle.typst_base.specs.declared.kind.SyntaxKind.{SyntaxKind}
 use Rattle.typst_base.specs.declared.kind.SyntaxKind.TheVariants as kinds
 use Rattle.typst_node.specs.Tree.{Tree}
-use Rattle.typst_node.specs.Views.{node_kind, IsViewOf}
+use Rattle.typst_node.specs.Views.{node_kind}
 
 -- the node that it views; none for a placeholder
 abbrev pub destructuring_item_node : DestructuringItem → Option Tree

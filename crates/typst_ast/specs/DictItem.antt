@@ -1,5 +1,5 @@
 -- What a clause sees of a `DictItem`.
-use Rattle.std.specs.Prelude.{Option, IfSome, true, ◌≡◌}
+use Rattle.std.specs.Prelude.{Option, IfSome, ◌≡◌}
 use Rattle.typst_ast.specs.View.{node_of}
 use Rattle.typst_ast.specs.declared.dict_item.DictItem.{DictItem}
 use Rattle.typst_ast.specs.declared.dict_item.DictItem.TheVariants.{Named, Keyed, Spread}
@@ -7,7 +7,7 @@ use Rattle.typst_atoms.specs.OfKind.{kind_from_test}
 use Rattle.typst_base.specs.declared.kind.SyntaxKind.{SyntaxKind}
 use Rattle.typst_base.specs.declared.kind.SyntaxKind.TheVariants as kinds
 use Rattle.typst_node.specs.Tree.{Tree}
-use Rattle.typst_node.specs.Views.{node_kind, IsViewOf}
+use Rattle.typst_node.specs.Views.{node_kind}
 
 -- the node that it views; none for a placeholder
 abbrev pub dict_item_node : DictItem → Option Tree

@@ -10,7 +10,7 @@ use Rattle.std.proofs.Math.Numerals.{one-add}
 use Rattle.std.specs.Char.{IsScalar}
 use Rattle.std.specs.Prelude.{encode_utf8}
 use Rattle.std.proofs.lemmas.List.Sums.{suffix_len-le-length}
-use Rattle.typst_atoms.specs.Trims.{without_leading, without_trailing, ending}
+use Rattle.typst_atoms.specs.Trims.{without_leading, without_trailing}
 
 reverse-cons : (b : ℕ) (bs : List ℕ) → reverse (b ∷ bs) ≡ reverse bs ++ b ∷ []
 reverse-cons b bs = reverse-append (b ∷ []) bs

@@ -1,5 +1,5 @@
 -- Reading strings from left to right.
-use Rattle.std.proofs.Common.{◌≡◌, ◌≢◌, ℕ, zero, suc, List, [], ◌∷◌, ◌++◌, take, drop, Option, Bool, true, false, refl, sym, ap, ◌∙◌, ◌==◌, append_assoc, inl, inr, arith, ◌||◌}
+use Rattle.std.proofs.Common.{◌≡◌, ℕ, zero, suc, List, [], ◌∷◌, ◌++◌, take, drop, Option, Bool, true, false, refl, sym, ap, ◌∙◌, ◌==◌, append_assoc, inl, inr, arith, ◌||◌}
 use Rattle.std.specs.List.{list_any}
 use Rattle.std.specs.Str.{IsUtf8, chars}
 use Rattle.std.proofs.lemmas.Bool.{true≢false}

@@ -1,12 +1,12 @@
 -- A search of the leaf that covers a cursor, on its way down.
-use Rattle.std.proofs.Common.{◌≡◌, ℕ, ◌+◌, ◌-◌, ◌<◌, ◌≤◌, inl, inr, List, [], ◌∷◌, length, take, true, false, cond, Option, None, Some, refl, sym, ◌∙◌, ap, subst, arith, append_assoc}
+use Rattle.std.proofs.Common.{◌≡◌, ℕ, ◌+◌, ◌-◌, ◌<◌, ◌≤◌, inl, inr, List, [], ◌∷◌, length, take, true, false, cond, Option, None, Some, refl, sym, ◌∙◌, ap, subst, arith}
 use Rattle.std.specs.Prelude.{slice_get, IsSomeAnd}
 use Rattle.std.specs.Option.{option_or}
 use Rattle.std.proofs.lemmas.Bool.{cases_order}
 use Rattle.typst_node.specs.Tree.{Tree, trees}
 use Rattle.typst_node.specs.Text.{text, text_of_all, offset}
 use Rattle.typst_node.specs.Preorder.{at}
-use Rattle.typst_linked.specs.Place.{Place, subtree, below, child_place}
+use Rattle.typst_linked.specs.Place.{Place, subtree, child_place}
 use Rattle.typst_linked.specs.Part.{begin_at, IsFirstEnding, EndsBefore, HasNoOwnText}
 use Rattle.typst_linked.specs.Ranges.{begin_of}
 use Rattle.typst_linked.specs.Search.{binary_digits, weight_along}
@@ -21,7 +21,7 @@ use Rattle.typst_node.proofs.Offsets.{length-text}
 use Rattle.typst_linked.proofs.Searching.{found_at}
 use Rattle.typst_node.proofs.Steps.{at-append}
 use Rattle.typst_linked.proofs.Places.{same_node}
-use Rattle.typst_linked.proofs.Weights.{weight_along-root, weight_along-cons}
+use Rattle.typst_linked.proofs.Weights.{weight_along-cons}
 
 -- the first of some trees begins before any goal but 0
 begin_small : (goal : ℕ) (ts : List Tree) (part : Part) → 0 < goal → IsFirstEnding goal ts part → part.begin < goal

@@ -1,8 +1,8 @@
 -- The mode after a node, from that after its parent.
 use Rattle.std.proofs.Common.{◌≡◌, ℕ, suc, zero, ◌-◌, ◌≤◌, List, [], ◌∷◌, reverse, None, Some, refl, sym, ◌∙◌, ap, arith}
-use Rattle.std.proofs.lemmas.List.{reverse-append, reverse-reverse}
+use Rattle.std.proofs.lemmas.List.{reverse-reverse}
 use Rattle.typst_node.specs.Tree.{Tree}
-use Rattle.typst_linked.specs.Place.{Place, child_place}
+use Rattle.typst_linked.specs.Place.{Place}
 use Rattle.typst_linked.specs.Siblings.{before_it}
 use Rattle.typst_linked.specs.Modes.{mode_from, mode_outwards, outer_mode, mode_behind, mode_behind_parent}
 

@@ -1,8 +1,8 @@
 -- The stops after and before a path, one level after the other.
-use Rattle.std.proofs.Common.{◌≡◌, ℕ, suc, zero, ◌+◌, ◌≤◌, List, [], ◌∷◌, ◌++◌, length, map, drop, Option, None, Some, Bool, true, false, ◌&&◌, cond, inl, inr, refl, sym, ◌∙◌, ap, arith, add-one, drop-cons}
+use Rattle.std.proofs.Common.{◌≡◌, ℕ, suc, zero, ◌+◌, ◌≤◌, List, [], ◌∷◌, ◌++◌, map, drop, Option, None, Some, Bool, true, false, ◌&&◌, cond, inl, inr, refl, sym, ◌∙◌, ap, arith, add-one, drop-cons}
 use Rattle.std.specs.Prelude.{slice_get}
 use Rattle.std.proofs.lemmas.Option.{slice_get_within, get_or_from_slice_get}
-use Rattle.typst_linked.proofs.Walks.{drop_past, below_hit, below_miss}
+use Rattle.typst_linked.proofs.Walks.{below_hit, below_miss}
 use Rattle.typst_linked.proofs.Searching.{found_at}
 use Rattle.typst_linked.specs.Place.{Place, subtree, below, child_place}
 use Rattle.std.specs.List.{find, before_first, after_first}

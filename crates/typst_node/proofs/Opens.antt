@@ -11,8 +11,7 @@ use Rattle.typst_node.specs.Text.{text_of_all}
 use Rattle.typst_node.specs.Labels.{bound}
 use Rattle.typst_node.specs.OpenNumbers.{open_from}
 use Rattle.typst_node.specs.Window.{Site, reach, trees_in}
-use Rattle.typst_node.specs.Room.{HasRoom, new_count}
-use Rattle.typst_node.specs.FirstWindow.{HoldsAll, HasNoFirst}
+use Rattle.typst_node.specs.Room.{new_count}
 use Rattle.typst_node.proofs.Trees.{count_of_all-cons, length-text_of_all-cons}
 
 pub open_from_last : (a : ℕ) (ts : List Tree) (d : Tree) → 0 < length ts → open_from a ts ≡ bound (get_or ts (length ts - 1) d).label

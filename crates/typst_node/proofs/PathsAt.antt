@@ -3,7 +3,7 @@ use Rattle.std.proofs.Common.{◌≡◌, ℕ, List, [], ◌∷◌, length, map, 
 use Rattle.std.specs.Prelude.{Result, Ok, Err, OnErr}
 use Rattle.std.proofs.lemmas.List.{set-get_or}
 use Rattle.std.specs.List.{splice}
-use Rattle.typst_node.specs.Tree.{Tree, Forest, forest, trees, IsInner}
+use Rattle.typst_node.specs.Tree.{Tree, Forest, forest, trees}
 use Rattle.typst_node.specs.Count.{SumsFit}
 use Rattle.typst_node.specs.Plain.{plain, plain_forest}
 use Rattle.typst_node.specs.PlainEdit.{edited, edited_at}

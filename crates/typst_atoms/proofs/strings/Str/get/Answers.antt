@@ -1,4 +1,4 @@
-use Rattle.std.proofs.Common.{◌≡◌, ◌∙◌, ◌==◌, false, string_bytes}
+use Rattle.std.proofs.Common.{◌≡◌, ◌∙◌, ◌==◌, false}
 use Rattle.std.specs.List.{list_any}
 use Rattle.std.proofs.lemmas.Result.{IfOk-weaker}
 use Rattle.typst_atoms.proofs.Unescaping.{body_value_plain}
