@@ -16,9 +16,11 @@ once in the function that a line `in: Type::method` before it names (`in: functi
 A body is refused only by a failure of its own: a goal of that very function that `search` did not prove, or an error in its
 own proof files that isn't a name which the edit took away. What a function owes rests on the contracts of those that it
 calls, and not on their bodies, so edits of many functions stand in one check: that a function calls one that isn't proved
-says nothing of it, and takes nothing from its own failure. No batch has two edits of a function or of a cycle, and each has
-a control, a right body, which must be proved. What a batch doesn't decide is tried again, apart from all that the function
-may call, and at last alone; what isn't decided then is told as not judged, which fails.
+says nothing of it, and takes nothing from its own failure. So the functions that no edit of a batch changes stand there with
+`unreachable!()` for a body, whose one goal fails at once. No batch has two edits of a function or of a cycle, and
+each has a control, a right body, which must be proved. What a batch doesn't decide is tried again, apart from all that the
+function may call, whose bodies are then as they are, and at last alone, with every body; what isn't decided then is told as
+not judged, which fails.
 """
 import argparse
 import re
@@ -89,15 +91,21 @@ class Room:
             if it.name in names:
                 Path(it.folder, "out/rlib/stamp").write_text(it.stamp())
 
-    def checked(self, hunks):
-        """What the check says of each function, and the errors in the files below proofs/; nothing where the prover wasn't reached."""
-        kept = self.crate / "out"
+    def checked(self, hunks, emptied=()):
+        """What the check says of each function, and the errors in the files below proofs/; nothing where the prover wasn't reached.
+
+        Emptied functions have `unreachable!()` for a body, and no proof files."""
         for part in ("src", "specs", "proofs"):
             shutil.rmtree(self.crate / part, ignore_errors=True)
             if (self.source / part).is_dir():
                 shutil.copytree(self.source / part, self.crate / part)
-        if self.checks == 0 and (self.source / "out/incremental").is_dir():
-            shutil.copytree(self.source / "out/incremental", kept / "incremental")
+        if (self.source / "out/incremental").is_dir():  # what is kept of right bodies, also after a check of wrong ones
+            shutil.rmtree(self.crate / "out/incremental", ignore_errors=True)
+            shutil.copytree(self.source / "out/incremental", self.crate / "out/incremental")
+        for it in emptied:
+            for folder in it.proof_folders(self.crate / "proofs"):
+                shutil.rmtree(folder)
+        hunks = [*hunks, *(Hunk(it.file, it.body, it.end - 1, " unreachable!() ") for it in emptied)]
         for file in {it.file for it in hunks}:
             text = (self.crate / file).read_text()
             (self.crate / file).write_text(placed(text, [it for it in hunks if it.file == file]))
@@ -188,11 +196,21 @@ class Judge:
         batch = [it for it in batch if it not in waiting]
         return batch, waiting, self.control(batch)
 
-    def try_batch(self, batch, control):
+    def emptied(self, batch, control, tries):
+        """The functions whose bodies the batch's verdicts don't ask for: first all others, then all that they may not call, then none."""
+        if not control or tries > 1:
+            return []
+        asked = set().union(*(it.functions for it in batch))
+        asked |= {control}.union(*(self.reached.get(it, set()) for it in (asked if tries else ()))) | self.reached.get(control, set())
+        inner = {b for a in self.functions for b in self.functions if a.file == b.file and a.start < b.start < a.end}
+        return [it for it in self.functions if it.can_be_emptied and it not in asked | inner]
+
+    def try_batch(self, batch, control, tries):
         """Checks the batch, settles what it decides, and returns the edits that are still open."""
         neutral = Hunk(control.file, control.body, control.body, " let _ = 0u8;") if control else None
         hunks = [it for edit in batch for it in edit.hunks]
-        said, errors = self.room.checked(hunks + ([neutral] if neutral else []))
+        emptied = self.emptied(batch, control, tries)
+        said, errors = self.room.checked(hunks + ([neutral] if neutral else []), emptied)
         name = self.room.crate.name
         path = control and control.path(name, said)
         sound = bool(path) and said[path].startswith("proved")
@@ -202,7 +220,7 @@ class Judge:
         ways = {edit: self.way(edit, said, errors) for edit in batch if sound}
         self.goals |= {it.name: self.fallen(it, said, errors) for it in ways if ways[it] in REFUSED}
         if sound:
-            self.unowned(batch, said, errors)
+            self.unowned(batch, emptied, said, errors)
         open_ones = [it for it in batch if ways.get(it) not in (*REFUSED, "proved")]
         self.verdicts |= {it.name: "not refused" if ways[it] == "proved" else ways[it] for it in batch if it not in open_ones}
         state = "proved" if sound else "NOT proved" if said else "unknown: the prover wasn't reached"
@@ -226,10 +244,10 @@ class Judge:
                 lines.append(f"error: {text}")
         return sorted({goal or declaration for line in lines for goal, declaration in NAMED.findall(line)})
 
-    def unowned(self, batch, said, errors):
+    def unowned(self, batch, emptied, said, errors):
         """Tells what fails of its own with no edit in it."""
         name = self.room.crate.name
-        changed = set().union(*(it.functions for it in batch))
+        changed = set(emptied).union(*(it.functions for it in batch))
         cycles = {it.cycle for it in changed} - {""}
         paths = {path: it for it in sorted(self.functions, key=lambda it: bool(it.name)) for path in it.paths(name, said)}
         for path in said:
@@ -247,7 +265,7 @@ class Judge:
             batch, waiting, control = self.with_control(batch)
             if waiting:
                 todo.append((waiting, tries))
-            open_ones, ways, sound = self.try_batch(batch, control)
+            open_ones, ways, sound = self.try_batch(batch, control, tries)
             if not open_ones:
                 continue
             if len(batch) > 1 and not self.is_reached:  # one edit stops the check of all: halve

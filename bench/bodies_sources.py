@@ -30,6 +30,7 @@ class Function:
     body: int  # the offset right after the `{`
     end: int
     cycle: str
+    is_own: bool = False  # a trait gives it its body
 
     def is_named(self, label):
         """Whether an edit's `in:` line means it: `function`, `Type::function` or `Trait for Type::function`."""
@@ -43,6 +44,23 @@ class Function:
 
     def holds(self, hunk):
         return hunk.file == self.file and self.start < hunk.end and hunk.start < self.end
+
+    @property
+    def can_be_emptied(self):
+        """Whether `unreachable!()` can stand for its body: it is no constant, no part of a cycle and no trait's own."""
+        return bool(self.name) and not self.cycle and not self.name.isupper() and not self.is_own and "tests" not in self.modules
+
+    def proof_folders(self, proofs):
+        """The folders below proofs/ that are this function's alone."""
+        head = self.subject.replace("::", "+") + self.trait.partition("<")[0].split("::")[-1]
+        for name in (self.name, f"+{self.name}"):
+            if not self.subject:
+                fits = [proofs.joinpath(*self.modules, name)]
+            else:
+                fits = [*proofs.glob(f"**/{head}/{name}")]
+                near = [it for it in fits if it == proofs.joinpath(*self.modules, head, name)]
+                fits = near or fits[: len(fits) == 1]
+            yield from (it for it in fits if it.is_dir())
 
     def paths(self, crate, known):
         """The paths among the known ones under which the prover speaks of it. A method's begins with its type's module."""
@@ -124,7 +142,7 @@ def functions(crate):
             block = next((it for low, high, it in impls if low < start < high), None)
             trait = (block["trait"] or "") + (block["arguments"] or "") if block else ""
             subject = block["type"] or block["own"] if block else ""
-            return Function(file, modules, trait, subject, name, start, body, end, cycle)
+            return Function(file, modules, trait, subject, name, start, body, end, cycle, bool(block and block["own"]))
 
         for fn in FN.finditer(text):
             brace = body_of(text, fn.end())
