@@ -20,7 +20,6 @@ use typst_node::SyntaxNode;
 /// A node of a borrowed tree that knows its parents, its index among its siblings and where its text begins.
 ///
 /// Parents are shared, so a clone takes no memory: its only error is that the parent is shared too often.
-#[derive(Drop)]
 pub struct LinkedNode<'a> {
     node: &'a SyntaxNode,
     parent: Option<Rc<LinkedNode<'a>>>,
@@ -50,6 +49,19 @@ impl<'a> Model for LinkedNode<'a> {
     ghost use Rattle.typst_linked.specs.Falls.{parent_is_less};
 
     ghost size_decreases = { λ a h. parent_is_less a.node.now a.index a.parent };
+}
+
+// By hand, so that crates above call this one and don't each prove how shared parents are let go.
+impl Drop for LinkedNode<'_> {
+    #[cycle(drop_linked)]
+    fn drop(self) {
+        let LinkedNode {
+            node: _,
+            parent: _,
+            index: _,
+            offset: _,
+        } = self;
+    }
 }
 
 /// # Reads

@@ -41,7 +41,6 @@ mod window;
 /// In contracts it is the tree that it stands for, with its spans and bounds. Lengths, node counts, diagnoses and
 /// the ends of children are kept in inner nodes, and no contract speaks of them: they are what the tree measures.
 #[cycle(node)]
-#[derive(Drop)]
 pub struct SyntaxNode {
     node: Node,
     span: Span,
@@ -132,6 +131,14 @@ impl Model for SyntaxNode {
     ghost use Rattle.typst_node.specs.Smaller.{children_are_smaller};
 
     ghost size_decreases = { λ a h. children_are_smaller a.node };
+}
+
+// By hand, so that crates above call this one and don't each prove how a whole tree is let go.
+impl Drop for SyntaxNode {
+    #[cycle(drop_node)]
+    fn drop(self) {
+        let SyntaxNode { node: _, span: _ } = self;
+    }
 }
 
 impl Node {
