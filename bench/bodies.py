@@ -34,7 +34,7 @@ import time
 from concurrent.futures import ThreadPoolExecutor
 from pathlib import Path
 
-from bodies_sources import Hunk, edits_of, functions, placed, reach
+from bodies_sources import Hunk, edits_of, functions, placed, reach, types
 
 TOP = Path(__file__).resolve().parent.parent
 SAID = re.compile(r"^fn (\S+): (.*)$", re.M)
@@ -148,7 +148,7 @@ class Judge:
 
     def __init__(self, room, say, only, bad):
         self.room, self.say, self.bad = room, say, bad
-        self.functions = functions(room.source)
+        self.functions, self.types = functions(room.source), types(room.source)
         self.edits = edits_of(room.source, self.functions, bad, only)
         self.reached = reach(room.source, self.functions)
         self.verdicts, self.spoiled, self.goals, self.known = {}, set(), {}, {}
@@ -207,16 +207,23 @@ class Judge:
         inner = {b for a in self.functions for b in self.functions if a.file == b.file and a.start < b.start < a.end}
         return [it for it in self.functions if it.can_be_emptied and it not in asked | inner]
 
+    def named(self, asked):
+        """The paths of these functions, as the prover spoke of them or else as it may; nothing where one has none."""
+        name = self.room.crate.name
+        found = [it.paths(name, self.known) or it.guessed(name, self.types) for it in asked if it]
+        return [path for paths in found for path in paths] if all(found) else []
+
     def try_batch(self, batch, control, tries):
         """Checks the batch, settles what it decides, and returns the edits that are still open."""
         neutral = Hunk(control.file, control.body, control.body, " let _ = 0u8;") if control else None
         hunks = [it for edit in batch for it in edit.hunks]
         emptied = self.emptied(batch, control, tries)
         name = self.room.crate.name
-        asked = set().union(*(it.functions for it in batch)) | ({control} if control else set())
-        only = [path for it in asked for path in it.paths(name, self.known)] if all(it.paths(name, self.known) for it in asked) else []
-        said, errors = self.room.checked(hunks + ([neutral] if neutral else []), emptied, only)
-        self.known = self.known or said
+        hunks += [neutral] if neutral else []
+        said, errors = self.room.checked(hunks, emptied, self.named(set().union(*(it.functions for it in batch)) | {control}))
+        if not said and not self.known:  # a guessed path may be none
+            said, errors = self.room.checked(hunks, emptied)
+        self.known |= said
         path = control and control.path(name, said)
         sound = bool(path) and said[path].startswith("proved")
         self.is_reached = bool(said)

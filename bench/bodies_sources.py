@@ -12,6 +12,7 @@ IMPL = re.compile(
 )
 CONST = re.compile(r"\bconst (\w+):[^;=]*=(.*?);$", re.M | re.S)
 CLAUSE = re.compile(r"\b(requires|ensures|ghost|decreases)\b\*?[^{}]*$")
+TYPE = re.compile(r"^(?:pub(?:\([^)]*\))? )?(?:struct|enum) (\w+)", re.M)
 ITEM = re.compile(r"^(?:#\[[^\n]*\n)*pub (?:struct|enum) (\w+)[^;{]*?\{", re.M)
 DERIVED = re.compile(r"(?:Clone|Copy|PartialEq|Eq|PartialOrd|Ord|Default|Hash|Debug|Error|Display)$")
 CYCLE = re.compile(r"#\[cycle\((\w+)\)\](?:(?!\n\s*\n|\}).)*$", re.S)
@@ -68,6 +69,15 @@ class Function:
             return [it for it in known if self.derives(it.split("::")[-2])]
         path = self.path(crate, known)
         return [path] if path else []
+
+    def guessed(self, crate, types):
+        """The path under which the prover may speak of it: a method's begins with its type's module, or that of a trait's impl."""
+        if not self.name:
+            return []
+        of_trait, _, given = self.trait.partition("<")
+        modules = self.modules if of_trait else types.get(self.subject.split("::")[-1], self.modules)
+        head = self.subject.replace("::", "+") + of_trait.split("::")[-1] + re.sub(r"['<>].*", "", given)
+        return ["::".join([crate, *modules, *([head] if self.subject else []), self.name])]
 
     def derives(self, word):
         return word.startswith(self.subject) and bool(DERIVED.match(word[len(self.subject) :]))
@@ -141,6 +151,7 @@ def functions(crate):
         def made(name, start, body, end, cycle):
             block = next((it for low, high, it in impls if low < start < high), None)
             trait = (block["trait"] or "") + (block["arguments"] or "") if block else ""
+            trait = "" if trait == "Drop" else trait  # the prover speaks of a `drop` as of a type's own
             subject = block["type"] or block["own"] if block else ""
             return Function(file, modules, trait, subject, name, start, body, end, cycle, bool(block and block["own"]))
 
@@ -154,6 +165,15 @@ def functions(crate):
             found += [constant] * bool(constant.trait)
         for it in ITEM.finditer(text):
             found.append(Function(file, modules, "", it[1], "", it.start(), it.end(), closing(text, it.end() - 1), ""))
+    return found
+
+
+def types(crate):
+    """The modules in which the crate's types are declared."""
+    found = {}
+    for path in sorted((crate / "src").rglob("*.rt")):
+        modules = tuple(it for it in path.relative_to(crate / "src").with_suffix("").parts if it not in ("lib", "main"))
+        found |= {name: modules for name in TYPE.findall(blanked(path.read_text()))}
     return found
 
 
