@@ -410,6 +410,30 @@ fn preorder_gives_a_node_before_its_children(rt: HostRuntime) -> Result<(), Fail
     Ok(())
 }
 
+/// What a walk in preorder hints at first, after each node, and what a copy of it hints then.
+fn hinted(alloc: Global, drawing: &str) -> Result<String, DrawingError> {
+    let tree = drawn(alloc, drawing)?;
+    let mut nodes = LinkedNode::new(&tree).preorder(alloc)?;
+    let mut said = String::new(alloc);
+    for _ in 0..3 {
+        let hint = nodes.size_hint();
+        let again = nodes.clone()?.size_hint();
+        said.push_str(format!(in alloc; "{hint:?} {again:?}; ")?.as_str())?;
+        let _next = nodes.next().transpose()?;
+    }
+    Ok(said)
+}
+
+#[test]
+fn a_preorder_hints_the_nodes_that_are_left(rt: HostRuntime) -> Result<(), Fail> {
+    let said = hinted(rt.alloc(), "Markup[ Text:a ]")?;
+    assert_eq!(rt;
+        said.as_str(),
+        "(1, Some(2)) (1, Some(2)); (1, Some(1)) (1, Some(1)); (0, Some(0)) (0, Some(0)); "
+    );
+    Ok(())
+}
+
 /// The words for a tree's children, taken from the front for `f` and from the back for `b`, and how many are left.
 fn taken(alloc: Global, drawing: &str, ends: &str) -> Result<String, DrawingError> {
     let tree = drawn(alloc, drawing)?;
@@ -423,7 +447,7 @@ fn taken(alloc: Global, drawing: &str, ends: &str) -> Result<String, DrawingErro
         };
         push_place(alloc, child.transpose()?.as_ref(), &mut said)?;
     }
-    let left = children.len();
+    let left = children.clone()?.len();
     said.push_str(format!(in alloc; "{left} left")?.as_str())?;
     Ok(said)
 }
