@@ -39,7 +39,7 @@ from bodies_sources import Hunk, edits_of, functions, placed, reach
 TOP = Path(__file__).resolve().parent.parent
 SAID = re.compile(r"^fn (\S+): (.*)$", re.M)
 ERRORS = re.compile(r"^\./proofs/(\S+?\.antt):\d+:\d+: error: (.*)", re.M)
-REACHED = re.compile(r"^logic=(?:not-)?proved", re.M)
+REACHED = re.compile(r"^(?:logic=(?:not-)?proved|only=\d)", re.M)
 GOAL = "`search` did not prove `"
 NAMED = re.compile(r"`search` did not prove `([^`]+)`|error: `([^`]+)`")  # a goal, or a declaration of a proof file
 VANISHED = re.compile(r"has no field|is not in scope|has no `|was not admitted")  # the edit took a name away: it says little
@@ -91,10 +91,11 @@ class Room:
             if it.name in names:
                 Path(it.folder, "out/rlib/stamp").write_text(it.stamp())
 
-    def checked(self, hunks, emptied=()):
+    def checked(self, hunks, emptied=(), only=()):
         """What the check says of each function, and the errors in the files below proofs/; nothing where the prover wasn't reached.
 
-        Emptied functions have `unreachable!()` for a body, and no proof files."""
+        Emptied functions have `unreachable!()` for a body, and no proof files. With paths in `only` it says nothing but of these
+        functions and of those that they call."""
         for part in ("src", "specs", "proofs"):
             shutil.rmtree(self.crate / part, ignore_errors=True)
             if (self.source / part).is_dir():
@@ -110,7 +111,8 @@ class Room:
             text = (self.crate / file).read_text()
             (self.crate / file).write_text(placed(text, [it for it in hunks if it.file == file]))
         self.checks += 1
-        ran = subprocess.run(["rt", "check", "--jobs", str(self.jobs)], cwd=self.crate, capture_output=True, text=True)
+        words = ["rt", "check", "--jobs", str(self.jobs), *(word for it in only for word in ("--only", it))]
+        ran = subprocess.run(words, cwd=self.crate, capture_output=True, text=True)
         self.text = ran.stdout + ran.stderr
         reached = REACHED.search(self.text)
         return (dict(SAID.findall(self.text)), ERRORS.findall(self.text)) if reached else ({}, [])
@@ -149,7 +151,7 @@ class Judge:
         self.functions = functions(room.source)
         self.edits = edits_of(room.source, self.functions, bad, only)
         self.reached = reach(room.source, self.functions)
-        self.verdicts, self.spoiled, self.goals = {}, set(), {}
+        self.verdicts, self.spoiled, self.goals, self.known = {}, set(), {}, {}
 
     def clash(self, one, two, is_strict):
         """Whether two edits may not stand in one check."""
@@ -210,8 +212,11 @@ class Judge:
         neutral = Hunk(control.file, control.body, control.body, " let _ = 0u8;") if control else None
         hunks = [it for edit in batch for it in edit.hunks]
         emptied = self.emptied(batch, control, tries)
-        said, errors = self.room.checked(hunks + ([neutral] if neutral else []), emptied)
         name = self.room.crate.name
+        asked = set().union(*(it.functions for it in batch)) | ({control} if control else set())
+        only = [path for it in asked for path in it.paths(name, self.known)] if all(it.paths(name, self.known) for it in asked) else []
+        said, errors = self.room.checked(hunks + ([neutral] if neutral else []), emptied, only)
+        self.known = self.known or said
         path = control and control.path(name, said)
         sound = bool(path) and said[path].startswith("proved")
         self.is_reached = bool(said)
