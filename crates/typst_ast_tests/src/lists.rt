@@ -128,3 +128,39 @@ fn an_argument_may_end_in_a_semicolon(rt: HostRuntime) -> Result<(), Fail> {
     );
     Ok(())
 }
+
+/// What the lists of expressions, of items and of arguments hint, and what copies hint that gave one.
+fn hints(
+    markup: of::Markup,
+    arguments: of::MathArgs,
+) -> Result<[(usize, Option<usize>); 6], AllocError> {
+    let exprs = markup.exprs();
+    let items = arguments.content_items();
+    let args = arguments.arg_items();
+    let mut fewer_exprs = exprs.clone()?;
+    let mut fewer_items = items.clone()?;
+    let mut fewer_args = args.clone()?;
+    let _expr = fewer_exprs.next_back();
+    let _item = fewer_items.next_back();
+    let _arg = fewer_args.next();
+    Ok([
+        exprs.size_hint(),
+        items.size_hint(),
+        args.size_hint(),
+        fewer_exprs.size_hint(),
+        fewer_items.size_hint(),
+        fewer_args.size_hint(),
+    ])
+}
+
+#[test]
+fn lists_hint_at_most_the_nodes_ahead(rt: HostRuntime) -> Result<(), Fail> {
+    let markup = drawn(rt.alloc(), SPACED)?;
+    let arguments = drawn(rt.alloc(), ARGUMENTS)?;
+    let said = hints(view(Some(&markup)), view(Some(&arguments)))?;
+    // Of four and of seven children; before the first argument stand a paren and a hash.
+    let (four, seven) = ((0, Some(4)), (0, Some(7)));
+    let (three, six) = ((0, Some(3)), (0, Some(6)));
+    assert_eq!(rt; said, [four, seven, seven, three, six, four]);
+    Ok(())
+}

@@ -1,11 +1,13 @@
 use crate::rows::{assert_all, assert_texts};
 use crate::trees::got;
+use std::alloc::AllocError;
 use std::test::Fail;
 use typst_atoms::casts::{first_in, last_in};
 use typst_atoms::nodes::{behind, children, first_of_kind, leaf_text};
-use typst_atoms::{Items, views as of};
+use typst_atoms::{Items, KeptNodes, MathItems, views as of};
 use typst_base::SyntaxKind;
 use typst_drawn::drawn;
+use typst_node::SyntaxNode;
 
 // The pair `a: b`.
 const PAIR: &str = "Named[ Ident:a Colon:: Space:~ Ident:b ]";
@@ -52,5 +54,35 @@ fn views_are_found_in_a_list_of_nodes(rt: HostRuntime) -> Result<(), Fail> {
         ("then none", got(items.next()), "-"),
     ];
     assert_texts(&rt, &rows);
+    Ok(())
+}
+
+// What the lists of views, of kept nodes and of items in math hint, and what copies hint that gave their last one.
+fn hints(node: Option<&SyntaxNode>) -> Result<[(usize, Option<usize>); 6], AllocError> {
+    let views = Items::<of::Ident>::new(node);
+    let nodes = KeptNodes::of_all(node);
+    let items = MathItems::new(node);
+    let mut fewer_views = views.clone()?;
+    let mut fewer_nodes = nodes.clone()?;
+    let mut fewer_items = items.clone()?;
+    let _view = fewer_views.next_back();
+    let _node = fewer_nodes.next_back();
+    let _item = fewer_items.next_back();
+    Ok([
+        views.size_hint(),
+        nodes.size_hint(),
+        items.size_hint(),
+        fewer_views.size_hint(),
+        fewer_nodes.size_hint(),
+        fewer_items.size_hint(),
+    ])
+}
+
+#[test]
+fn lists_hint_at_most_the_nodes_ahead(rt: HostRuntime) -> Result<(), Fail> {
+    let pair = drawn(rt.alloc(), PAIR)?;
+    let four = (0, Some(4));
+    let three = (0, Some(3));
+    assert_eq!(rt; hints(Some(&pair))?, [four, four, four, three, three, three]);
     Ok(())
 }

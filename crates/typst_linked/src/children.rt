@@ -13,6 +13,7 @@ use std::rc::Rc;
 /// The children of a linked node, in order and from both ends.
 ///
 /// Where memory is refused for a child, the item in that child's place is an error, and the child is passed.
+/// A clone takes no memory: its only error is that the parent is shared too often.
 #[derive(Drop)]
 pub struct LinkedChildren<'a> {
     parent: Rc<LinkedNode<'a>>,
@@ -45,6 +46,18 @@ impl<'a> LinkedChildren<'a> {
             from: 0,
             to,
         }
+    }
+}
+
+impl<'a> Clone for LinkedChildren<'a> {
+    ghost is_clone = { λ children copy. copy ≡ children };
+
+    fn clone(&self) -> Result<Self, AllocError> {
+        Ok(LinkedChildren {
+            parent: self.parent.clone()?,
+            from: self.from,
+            to: self.to,
+        })
     }
 }
 

@@ -1,6 +1,7 @@
 // The nodes of a linked subtree, in preorder.
-ghost use Rattle.std.specs.Prelude.{◌≡◌, ◌∷◌, IfOk, MatchOption, length, []};
-ghost use Rattle.std.specs.Iterator.{at_most};
+ghost use Rattle.std.specs.Prelude.{◌≡◌, ◌∷◌, IfOk, IfSome, MatchOption, Some, length, min, []};
+ghost use Rattle.std.specs.Iterator.{UpTo, at_most};
+ghost use Rattle.std.specs.Iterator.SizeHint.{IsWithinCount};
 ghost use Rattle.typst_linked.specs.Preorder.{places_below, GivesHead};
 ghost use Rattle.typst_linked.specs.Onwards.{places_behind, places_from};
 
@@ -12,6 +13,7 @@ use std::marker::Model;
 /// The nodes of a linked subtree in preorder: each node before its children, children from left to right.
 ///
 /// Where memory is refused, the item is an error, and it is the last one.
+/// A clone takes no memory: its only error is that a parent is shared too often.
 #[derive(Drop)]
 pub struct LinkedPreorder<'a> {
     alloc: Global,
@@ -76,6 +78,22 @@ impl<'a> LinkedNode<'a> {
     }
 }
 
+impl<'a> Clone for LinkedPreorder<'a> {
+    ghost is_clone = { λ nodes copy. copy ≡ nodes };
+
+    fn clone(&self) -> Result<Self, AllocError> {
+        let next = match &self.next {
+            None => None,
+            Some(next) => Some(next.clone()?),
+        };
+        Ok(LinkedPreorder {
+            alloc: self.alloc,
+            next,
+            left: self.left,
+        })
+    }
+}
+
 impl<'a> Iterator for LinkedPreorder<'a> {
     type Item = Result<LinkedNode<'a>, AllocError>;
 
@@ -93,6 +111,19 @@ impl<'a> Iterator for LinkedPreorder<'a> {
             }
         }
         Some(Ok(here))
+    }
+
+    /// At least the next node, if there is one, or the error in its place; at most all nodes that are left.
+    fn size_hint(&self) -> (usize, Option<usize>)
+        ensures lower { IsWithinCount result.0 (at_most (length self.now)) }
+        ensures upper { IfSome result.1 (UpTo (at_most (length self.now))) }
+        ensures exact_lower { result.0 ≡ min 1 (length self.now) }
+        ensures exact_upper { result.1 ≡ Some (length self.now) }
+    {
+        match self.next {
+            Some(_) => (1, Some(self.left)),
+            None => (0, Some(0)),
+        }
     }
 }
 

@@ -1,5 +1,7 @@
 // What a linked node is asked, and the words for its answers.
 use std::alloc::{AllocError, Global};
+use std::process::Abort;
+use std::test::Fail;
 use typst_base::{FileId, Span, SpanNumber};
 use typst_drawn::{DrawingError, numbered};
 use typst_linked::{LinkedNode, Side};
@@ -62,7 +64,7 @@ pub(crate) fn at<'a>(
 }
 
 /// The span of a node's number.
-fn span_of(file: u16, number: u64) -> Result<Span, DrawingError> {
+pub(crate) fn span_of(file: u16, number: u64) -> Result<Span, DrawingError> {
     let file = FileId::new(file).ok_or(DrawingError::Numbers)?;
     if number < 2 || number >= 1 << 47 {
         return Err(DrawingError::Numbers);
@@ -128,4 +130,13 @@ pub(crate) fn answer(
         Ask::Modes => modes(alloc, &node)?,
         _ => place(alloc, asked(alloc, &node, ask)?.as_ref())?,
     })
+}
+
+/// Asserts that each row's answer is the wanted one.
+pub(crate) fn assert_rows(rt: &impl Abort, alloc: Global, rows: &[Row]) -> Result<(), Fail> {
+    for (shows, drawing, path, ask, wanted) in rows {
+        let said = answer(alloc, drawing, path, ask)?;
+        assert_eq!(rt; said.as_str(), *wanted, "{shows}");
+    }
+    Ok(())
 }

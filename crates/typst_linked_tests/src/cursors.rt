@@ -1,5 +1,5 @@
 // The leaf at a cursor.
-use crate::asking::{Ask, Row, answer};
+use crate::asking::{Ask, Row, assert_rows};
 use std::alloc::Global;
 use std::test::Fail;
 use typst_base::SyntaxKind;
@@ -176,11 +176,7 @@ const CURSORS: [Row; 26] = [
 
 #[test]
 fn a_leaf_stands_on_each_side_of_a_cursor(rt: HostRuntime) -> Result<(), Fail> {
-    for (shows, drawing, path, ask, wanted) in &CURSORS {
-        let said = answer(rt.alloc(), drawing, path, ask)?;
-        assert_eq!(rt; said.as_str(), *wanted, "{shows}");
-    }
-    Ok(())
+    assert_rows(&rt, rt.alloc(), &CURSORS)
 }
 
 /// The index of the child that has the byte on this side of a cursor, by looking at one after the other.

@@ -1,5 +1,5 @@
 // Searches by spans.
-use crate::asking::{Ask, Row, answer, place};
+use crate::asking::{Ask, Row, assert_rows, place, span_of};
 use crate::cursors::thousand_texts;
 use std::alloc::{AllocError, Global};
 use std::num::NonZeroU64;
@@ -59,70 +59,77 @@ const FOUND: [Row; 10] = [
 
 #[test]
 fn ranges_are_found_below_the_first_cover(rt: HostRuntime) -> Result<(), Fail> {
-    for (shows, drawing, path, ask, wanted) in &FOUND {
-        let said = answer(rt.alloc(), drawing, path, ask)?;
-        assert_eq!(rt; said.as_str(), *wanted, "{shows}");
-    }
-    Ok(())
-}
-
-/// The words for what a search finds, its path and range, and how many numbers it read.
-fn searched(alloc: Global, tree: &SyntaxNode, span: Span) -> Result<(String, u64), DrawingError> {
-    let root = LinkedNode::new(tree);
-    let mut looks = Looks::new();
-    let found = root.find_counted(alloc, span, &mut looks)?;
-    Ok((place(alloc, found.as_ref())?, looks.count()))
+    assert_rows(&rt, rt.alloc(), &FOUND)
 }
 
 const C: &str = r#"[1] 2..3 Text: "c""#;
 
 const ROOT: &str = r#"[] 0..3 Markup: 3 [Text: "ab", Text: "c"]"#;
 
+/// What a search is for.
+enum By {
+    Number(u16, u64),
+    Range(usize, usize),
+    Nowhere,
+    // A span of a foreign word whose number is 0.
+    Zero,
+}
+
+fn span_by(by: &By) -> Result<Span, DrawingError> {
+    let span = match by {
+        By::Number(file, number) => return span_of(*file, *number),
+        By::Range(start, end) => Span::from_range(FileId::FIRST, *start..*end),
+        By::Nowhere => Span::detached(),
+        By::Zero => Span::from_raw(NonZeroU64::new(1 << 48).ok_or(DrawingError::Numbers)?),
+    };
+    Ok(span)
+}
+
+/// What is searched for in `TWO`, numbered within 2..14, what is found, and how many numbers are read at least and at most.
+const SEARCHED: [(By, &str, u64, u64); 13] = [
+    (By::Number(1, 7), C, 1, 3),
+    (By::Number(1, 6), "-", 1, 3),
+    (By::Number(1, 3), ROOT, 1, 1),
+    (By::Number(1, 2), "-", 1, 1),
+    // Whatever the file.
+    (By::Number(2, 7), C, 1, 3),
+    (By::Number(2, 6), "-", 1, 3),
+    (By::Number(2, 3), ROOT, 1, 1),
+    (By::Number(2, 2), "-", 1, 1),
+    // Spans without a number read none.
+    (By::Range(0, 3), ROOT, 0, 0),
+    (By::Range(2, 3), C, 0, 0),
+    (By::Range(5, 3), "-", 0, 0),
+    (By::Nowhere, "-", 0, 0),
+    // A number below all is not found.
+    (By::Zero, "-", 1, 1),
+];
+
+/// The words for what a search finds, and for the numbers that it read if they are not as many as may be.
+fn searched(alloc: Global, by: &By, least: u64, most: u64) -> Result<String, DrawingError> {
+    let tree = numbered(alloc, TWO, 2..14)?;
+    let mut looks = Looks::new();
+    let found = LinkedNode::new(&tree).find_counted(alloc, span_by(by)?, &mut looks)?;
+    let said = place(alloc, found.as_ref())?;
+    let count = looks.count();
+    if least <= count && count <= most {
+        return Ok(said);
+    }
+    Ok(format!(in alloc; "{said} by {count}")?)
+}
+
 #[test]
 fn a_number_is_found_whatever_its_file(rt: HostRuntime) -> Result<(), Fail> {
-    let tree = numbered(rt.alloc(), TWO, 2..14)?;
-    // The number, what is found, and how many numbers are read at least and at most.
-    let rows = [
-        (7, C, 1, 3),
-        (6, "-", 1, 3),
-        (3, ROOT, 1, 1),
-        (2, "-", 1, 1),
-    ];
-    for raw in [1u16, 2] {
-        let file = FileId::new(raw).ok_or("no file")?;
-        for (number, wanted, least, most) in rows {
-            let span = Span::from_number(file, SpanNumber(number));
-            let (said, looks) = searched(rt.alloc(), &tree, span)?;
-            assert_eq!(rt; said.as_str(), wanted, "{number}");
-            assert!(rt; least <= looks && looks <= most, "{number} by {looks}");
-        }
+    for (by, wanted, least, most) in &SEARCHED {
+        let said = searched(rt.alloc(), by, *least, *most)?;
+        assert_eq!(rt; said.as_str(), *wanted);
     }
     Ok(())
 }
 
 #[test]
-fn spans_without_a_number_read_none(rt: HostRuntime) -> Result<(), Fail> {
-    let tree = numbered(rt.alloc(), TWO, 2..14)?;
-    let file = FileId::new(1).ok_or("no file")?;
-    let rows = [
-        (Span::from_range(file, 0..3), ROOT),
-        (Span::from_range(file, 2..3), C),
-        (Span::from_range(file, 5..3), "-"),
-        (Span::detached(), "-"),
-    ];
-    for (span, wanted) in rows {
-        let (said, looks) = searched(rt.alloc(), &tree, span)?;
-        assert_eq!(rt; said.as_str(), wanted);
-        assert_eq!(rt; looks, 0);
-    }
-    Ok(())
-}
-
-#[test]
-fn a_number_below_all_is_not_found(rt: HostRuntime) -> Result<(), Fail> {
-    let tree = numbered(rt.alloc(), TWO, 2..14)?;
-    let span = Span::from_raw(NonZeroU64::new(1 << 48).ok_or("zero")?);
-    assert_eq!(rt; span.id(), FileId::new(1));
+fn a_foreign_word_may_have_the_number_0(rt: HostRuntime) -> Result<(), Fail> {
+    let span = span_by(&By::Zero)?;
     let is_0 = matches!(
         span.get(),
         SpanKind::Number {
@@ -130,9 +137,7 @@ fn a_number_below_all_is_not_found(rt: HostRuntime) -> Result<(), Fail> {
             ..
         }
     );
-    assert!(rt; is_0);
-    let (said, looks) = searched(rt.alloc(), &tree, span)?;
-    assert_eq!(rt; (said.as_str(), looks), ("-", 1));
+    assert!(rt; is_0 && span.id() == FileId::new(1));
     Ok(())
 }
 

@@ -1,5 +1,5 @@
 // Children, siblings, leaves and modes.
-use crate::asking::{Ask, Row, answer, at, place};
+use crate::asking::{Ask, Row, assert_rows, at, place};
 use std::alloc::{AllocError, Global};
 use std::test::Fail;
 use typst_drawn::{DrawingError, drawn};
@@ -354,29 +354,17 @@ const MODES: [Row; 14] = [
 
 #[test]
 fn siblings_pass_over_trivia(rt: HostRuntime) -> Result<(), Fail> {
-    for (shows, drawing, path, ask, wanted) in &SIBLINGS {
-        let said = answer(rt.alloc(), drawing, path, ask)?;
-        assert_eq!(rt; said.as_str(), *wanted, "{shows}");
-    }
-    Ok(())
+    assert_rows(&rt, rt.alloc(), &SIBLINGS)
 }
 
 #[test]
 fn leaves_are_stepped_to(rt: HostRuntime) -> Result<(), Fail> {
-    for (shows, drawing, path, ask, wanted) in &LEAVES {
-        let said = answer(rt.alloc(), drawing, path, ask)?;
-        assert_eq!(rt; said.as_str(), *wanted, "{shows}");
-    }
-    Ok(())
+    assert_rows(&rt, rt.alloc(), &LEAVES)
 }
 
 #[test]
 fn nodes_have_modes_after_them(rt: HostRuntime) -> Result<(), Fail> {
-    for (shows, drawing, path, ask, wanted) in &MODES {
-        let said = answer(rt.alloc(), drawing, path, ask)?;
-        assert_eq!(rt; said.as_str(), *wanted, "{shows}");
-    }
-    Ok(())
+    assert_rows(&rt, rt.alloc(), &MODES)
 }
 
 /// Adds the words for a node.
@@ -400,17 +388,49 @@ fn in_preorder(alloc: Global, drawing: &str, path: &[usize]) -> Result<String, D
     Ok(said)
 }
 
+/// A start in the tree `Markup[ Strong[ Star:* Emph[ Text:b ] ] Text:c ]`, and the words for the nodes below it.
+const IN_PREORDER: [(&[usize], &str); 2] = [
+    (
+        &[0],
+        r#"[0] 0..2 Strong: 2 [Star: "*", Emph: 1 [Text: "b"]]; [0, 0] 0..1 Star: "*"; [0, 1] 1..2 Emph: 1 [Text: "b"]; [0, 1, 0] 1..2 Text: "b"; "#,
+    ),
+    (
+        &[],
+        r#"[] 0..3 Markup: 3 [Strong: 2 [Star: "*", Emph: 1 [Text: "b"]], Text: "c"]; [0] 0..2 Strong: 2 [Star: "*", Emph: 1 [Text: "b"]]; [0, 0] 0..1 Star: "*"; [0, 1] 1..2 Emph: 1 [Text: "b"]; [0, 1, 0] 1..2 Text: "b"; [1] 2..3 Text: "c"; "#,
+    ),
+];
+
 #[test]
 fn preorder_gives_a_node_before_its_children(rt: HostRuntime) -> Result<(), Fail> {
-    let tree = "Markup[ Strong[ Star:* Emph[ Text:b ] ] Text:c ]";
-    let below =
-        r#"[0] 0..2 Strong: 2 [Star: "*", Emph: 1 [Text: "b"]]; [0, 0] 0..1 Star: "*"; [0, 1] 1..2 Emph: 1 [Text: "b"]; [0, 1, 0] 1..2 Text: "b"; "#;
-    let said = in_preorder(rt.alloc(), tree, &[0])?;
-    assert_eq!(rt; said.as_str(), below);
-    let said = in_preorder(rt.alloc(), tree, &[])?;
-    assert!(rt; said.as_str().starts_with("[] 0..3 Markup: 3 "));
-    assert!(rt; said.as_str().contains(below));
-    assert!(rt; said.as_str().ends_with(r#"; [1] 2..3 Text: "c"; "#));
+    for (path, wanted) in &IN_PREORDER {
+        let tree = "Markup[ Strong[ Star:* Emph[ Text:b ] ] Text:c ]";
+        let said = in_preorder(rt.alloc(), tree, path)?;
+        assert_eq!(rt; said.as_str(), *wanted);
+    }
+    Ok(())
+}
+
+/// What a walk in preorder hints at first, after each node, and what a copy of it hints then.
+fn hinted(alloc: Global, drawing: &str) -> Result<String, DrawingError> {
+    let tree = drawn(alloc, drawing)?;
+    let mut nodes = LinkedNode::new(&tree).preorder(alloc)?;
+    let mut said = String::new(alloc);
+    for _ in 0..3 {
+        let hint = nodes.size_hint();
+        let again = nodes.clone()?.size_hint();
+        said.push_str(format!(in alloc; "{hint:?} {again:?}; ")?.as_str())?;
+        let _next = nodes.next().transpose()?;
+    }
+    Ok(said)
+}
+
+#[test]
+fn a_preorder_hints_the_nodes_that_are_left(rt: HostRuntime) -> Result<(), Fail> {
+    let said = hinted(rt.alloc(), "Markup[ Text:a ]")?;
+    assert_eq!(rt;
+        said.as_str(),
+        "(1, Some(2)) (1, Some(2)); (1, Some(1)) (1, Some(1)); (0, Some(0)) (0, Some(0)); "
+    );
     Ok(())
 }
 
@@ -427,7 +447,7 @@ fn taken(alloc: Global, drawing: &str, ends: &str) -> Result<String, DrawingErro
         };
         push_place(alloc, child.transpose()?.as_ref(), &mut said)?;
     }
-    let left = children.len();
+    let left = children.clone()?.len();
     said.push_str(format!(in alloc; "{left} left")?.as_str())?;
     Ok(said)
 }
@@ -450,13 +470,16 @@ fn children_come_from_both_ends(rt: HostRuntime) -> Result<(), Fail> {
     Ok(())
 }
 
+/// The words for a copy of the node at a path.
+fn copied(alloc: Global, drawing: &str, path: &[usize]) -> Result<String, DrawingError> {
+    let tree = drawn(alloc, drawing)?;
+    let copy = at(alloc, &LinkedNode::new(&tree), path)?.clone()?;
+    Ok(place(alloc, Some(&copy))?)
+}
+
 #[test]
 fn a_clone_stands_where_its_node_does(rt: HostRuntime) -> Result<(), Fail> {
-    let alloc = rt.alloc();
-    let tree = drawn(alloc, "Markup[ Text:ab Text:c ]")?;
-    let last = at(alloc, &LinkedNode::new(&tree), &[1])?;
-    let copy = last.clone()?;
-    assert!(rt; copy.index() == 1 && copy.offset() == 2);
-    assert!(rt; *copy.get() == *last.get());
+    let said = copied(rt.alloc(), "Markup[ Text:ab Text:c ]", &[1])?;
+    assert_eq!(rt; said.as_str(), r#"[1] 2..3 Text: "c""#);
     Ok(())
 }

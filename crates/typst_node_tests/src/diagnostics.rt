@@ -1,7 +1,8 @@
+use crate::rows::assert_all;
 use std::alloc::{AllocError, Global};
 use std::test::Fail;
 use typst_base::{DiagSpan, DiagSpanKind};
-use typst_drawn::{DrawingError, drawn, numbered};
+use typst_drawn::{DrawingError, drawn, drawn_all, numbered};
 use typst_node::{SyntaxDiagnostic, SyntaxNode};
 
 /// What is shown, a tree, and the words for its errors and its warnings before and after it is numbered within 4..16.
@@ -157,26 +158,39 @@ fn with_two_hints(alloc: Global, drawing: &str) -> Result<String, DrawingError> 
 
 #[test]
 fn several_hints_keep_their_order(rt: HostRuntime) -> Result<(), Fail> {
-    let said = with_two_hints(rt.alloc(), "!m:")?;
-    assert_eq!(rt;
-        said.as_str(),
-        r#"Error: { text: "", message: "m", hint: "g", hint: "h" }"#
-    );
-    let said = with_two_hints(rt.alloc(), "Text:a ^w +f")?;
-    assert_eq!(rt;
-        said.as_str(),
-        r#"Warning: {message: "w", hint: "f", hint: "g", hint: "h", Text: "a"}"#
-    );
+    for (drawing, wanted) in [
+        (
+            "!m:",
+            r#"Error: { text: "", message: "m", hint: "g", hint: "h" }"#,
+        ),
+        (
+            "Text:a ^w +f",
+            r#"Warning: {message: "w", hint: "f", hint: "g", hint: "h", Text: "a"}"#,
+        ),
+    ] {
+        let said = with_two_hints(rt.alloc(), drawing)?;
+        assert_eq!(rt; said.as_str(), wanted);
+    }
     Ok(())
 }
 
 #[test]
 fn parts_fit_within_the_text(rt: HostRuntime) -> Result<(), Fail> {
-    let node = drawn(rt.alloc(), "Text:ab")?;
-    assert!(rt; !node.can_hint());
-    assert!(rt; node.range_fits(0..1) && node.range_fits(1..2) && node.range_fits(0..2));
-    assert!(rt; !node.range_fits(0..3) && !node.range_fits(1..1) && !node.range_fits(0..0));
-    assert!(rt; drawn(rt.alloc(), "!m:")?.can_hint());
-    assert!(rt; drawn(rt.alloc(), "Text:ab ^w")?.can_hint());
+    let nodes = drawn_all(rt.alloc(), "Text:ab !m: Text:ab ^w")?;
+    let [node, error, warned] = nodes.as_slice() else {
+        return Err("no nodes")?;
+    };
+    let rows = [
+        ("a leaf takes no hint", !node.can_hint()),
+        ("0..1 fits", node.range_fits(0..1)),
+        ("1..2 fits", node.range_fits(1..2)),
+        ("0..2 fits", node.range_fits(0..2)),
+        ("0..3 does not", !node.range_fits(0..3)),
+        ("1..1 does not", !node.range_fits(1..1)),
+        ("0..0 does not", !node.range_fits(0..0)),
+        ("an error takes a hint", error.can_hint()),
+        ("a warned leaf takes a hint", warned.can_hint()),
+    ];
+    assert_all(&rt, &rows);
     Ok(())
 }

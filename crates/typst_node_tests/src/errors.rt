@@ -1,43 +1,49 @@
 // The texts of errors.
+use std::alloc::{AllocError, Global};
 use std::test::Fail;
 use typst_node::{InnerError, ReplaceError, SynthesizeError, Unnumberable};
 
+/// An error.
+enum Of {
+    Inner(InnerError),
+    Number(Unnumberable),
+    Replace(ReplaceError),
+    Synthesize(SynthesizeError),
+}
+
+/// Errors and their texts.
+const TEXTS: [(Of, &str); 7] = [
+    (
+        Of::Number(Unnumberable),
+        "cannot number within this interval",
+    ),
+    (
+        Of::Synthesize(SynthesizeError::TooLong { text: 6, mapper: 5 }),
+        "text length (6) is greater than mapper length (5)",
+    ),
+    (Of::Inner(InnerError::Overflow), "the tree is too large"),
+    (Of::Inner(InnerError::Memory), "out of memory"),
+    (
+        Of::Replace(ReplaceError::Unnumberable),
+        "no window of children has room for new numbers",
+    ),
+    (Of::Replace(ReplaceError::Overflow), "the tree is too large"),
+    (Of::Replace(ReplaceError::Memory), "out of memory"),
+];
+
+fn text(alloc: Global, of: &Of) -> Result<String, AllocError> {
+    match of {
+        Of::Inner(error) => format!(in alloc; "{error}"),
+        Of::Number(error) => format!(in alloc; "{error}"),
+        Of::Replace(error) => format!(in alloc; "{error}"),
+        Of::Synthesize(error) => format!(in alloc; "{error}"),
+    }
+}
+
 #[test]
 fn errors_print_their_texts(rt: HostRuntime) -> Result<(), Fail> {
-    let alloc = rt.alloc();
-    let too_long = SynthesizeError::TooLong { text: 6, mapper: 5 };
-    let rows = [
-        (
-            format!(in alloc; "{Unnumberable}")?,
-            "cannot number within this interval",
-        ),
-        (
-            format!(in alloc; "{too_long}")?,
-            "text length (6) is greater than mapper length (5)",
-        ),
-        (
-            format!(in alloc; "{}", InnerError::Overflow)?,
-            "the tree is too large",
-        ),
-        (
-            format!(in alloc; "{}", InnerError::Memory)?,
-            "out of memory",
-        ),
-        (
-            format!(in alloc; "{}", ReplaceError::Unnumberable)?,
-            "no window of children has room for new numbers",
-        ),
-        (
-            format!(in alloc; "{}", ReplaceError::Overflow)?,
-            "the tree is too large",
-        ),
-        (
-            format!(in alloc; "{}", ReplaceError::Memory)?,
-            "out of memory",
-        ),
-    ];
-    for (text, wanted) in &rows {
-        assert_eq!(rt; text.as_str(), *wanted);
+    for (of, wanted) in &TEXTS {
+        assert_eq!(rt; text(rt.alloc(), of)?.as_str(), *wanted);
     }
     Ok(())
 }

@@ -16,6 +16,8 @@ mod reading;
 #[cfg(test)]
 mod replacing;
 #[cfg(test)]
+mod rows;
+#[cfg(test)]
 mod showing;
 #[cfg(test)]
 mod synthesis;

@@ -1,3 +1,4 @@
+use crate::rows::assert_all;
 use std::alloc::Global;
 use std::test::Fail;
 use typst_base::FileId;
@@ -127,9 +128,14 @@ pub(crate) fn is_of(tree: &SyntaxNode, file: Option<FileId>) -> bool {
 #[test]
 fn all_nodes_get_the_file(rt: HostRuntime) -> Result<(), Fail> {
     let mut tree = drawn(rt.alloc(), "Markup[ Text:ab Text:c ]")?;
-    assert!(rt; is_of(&tree, None));
     let file = FileId::new(65535).ok_or("no file")?;
-    assert!(rt; tree.numberize(file, 2..14).is_ok());
-    assert!(rt; is_of(&tree, Some(file)));
+    let detached = is_of(&tree, None);
+    let done = tree.numberize(file, 2..14).is_ok();
+    let rows = [
+        ("a new tree is of no file", detached),
+        ("it is numbered", done),
+        ("all nodes are of the file", is_of(&tree, Some(file))),
+    ];
+    assert_all(&rt, &rows);
     Ok(())
 }

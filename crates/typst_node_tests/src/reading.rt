@@ -1,8 +1,9 @@
 // What is read of a node.
+use crate::rows::assert_all;
 use std::alloc::Global;
 use std::test::Fail;
 use typst_base::SyntaxKind;
-use typst_drawn::{DrawingError, drawn, numbered, sizes};
+use typst_drawn::{DrawingError, drawn, drawn_all, numbered, sizes};
 use typst_node::{Diagnosis, SyntaxNode};
 
 /// What is shown, a tree, and the words for what is read of it: its kind, its form, its sizes, its diagnosis, its own
@@ -104,11 +105,19 @@ fn nodes_are_read(rt: HostRuntime) -> Result<(), Fail> {
 
 #[test]
 fn a_placeholder_is_an_empty_leaf(rt: HostRuntime) -> Result<(), Fail> {
+    let nodes = drawn_all(rt.alloc(), "Space: End: Text:a")?;
+    let [space, end, text] = nodes.as_slice() else {
+        return Err("no nodes")?;
+    };
     let leaf = SyntaxNode::placeholder(rt.alloc(), SyntaxKind::Space);
-    assert!(rt; leaf.kind() == SyntaxKind::Space && leaf.is_empty());
-    assert!(rt; leaf == drawn(rt.alloc(), "Space:")?);
-    assert!(rt; SyntaxNode::default() == drawn(rt.alloc(), "End:")?);
-    assert!(rt; !drawn(rt.alloc(), "Text:a")?.is_empty());
+    let rows = [
+        ("its kind", leaf.kind() == SyntaxKind::Space),
+        ("it is empty", leaf.is_empty()),
+        ("it is a leaf", leaf == *space),
+        ("the default is an end", SyntaxNode::default() == *end),
+        ("a text is not empty", !text.is_empty()),
+    ];
+    assert_all(&rt, &rows);
     Ok(())
 }
 
@@ -123,71 +132,108 @@ fn diagnoses_join_member_by_member(rt: HostRuntime) {
         errors: false,
         warnings: true,
     };
-    assert!(rt; errors.either() && warnings.either() && !none.either());
-    assert!(rt; errors.or(warnings).both() && !errors.both() && !warnings.both());
-    assert!(rt; errors.or(none) == errors && none.or(warnings) == warnings);
+    let rows = [
+        ("errors are either", errors.either()),
+        ("warnings are either", warnings.either()),
+        ("none is not", !none.either()),
+        ("errors or warnings are both", errors.or(warnings).both()),
+        ("errors are not", !errors.both()),
+        ("nor warnings", !warnings.both()),
+        ("errors or none", errors.or(none) == errors),
+        ("none or warnings", none.or(warnings) == warnings),
+    ];
+    assert_all(&rt, &rows);
 }
 
 /// Whether two trees are equal, and equal but for spans, in words.
-fn compared(alloc: Global, one: &str, other: &str) -> Result<&'static str, DrawingError> {
-    let one = numbered(alloc, one, 2..100)?;
-    let other = numbered(alloc, other, 2..100)?;
-    Ok(match (one == other, one.spanless_eq(&other)) {
+fn compared(one: &SyntaxNode, other: &SyntaxNode) -> &'static str {
+    match (one == other, one.spanless_eq(other)) {
         (true, true) => "equal",
         (false, true) => "equal but for spans",
         (false, false) => "unequal",
         (true, false) => "equal, but not without spans",
-    })
+    }
 }
+
+/// Two trees, the ends of the ranges from 2 on that they are numbered within, and how they compare.
+type Pair = (&'static str, u64, &'static str, u64, &'static str);
+
+const PAIRS: [Pair; 13] = [
+    ("Text:ab ^0..1@m", 100, "Text:ab ^0..1@m", 100, "equal"),
+    ("Text:ab ^0..1@m", 100, "Text:ab ^0..2@m", 100, "unequal"),
+    (
+        "Text:ab ^m +0..1@h",
+        100,
+        "Text:ab ^m +0..2@h",
+        100,
+        "unequal",
+    ),
+    ("Text:ab ^m", 100, "Text:ab", 100, "unequal"),
+    ("Text:ab", 100, "Ident:ab", 100, "unequal"),
+    (
+        "Text:abcdefghijklmnopqrstuv",
+        100,
+        "Text:abcdefghijklmnopqrstuv",
+        100,
+        "equal",
+    ),
+    (
+        "Text:abcdefghijklmnopqrstuv",
+        100,
+        "Text:abcdefghijklmnopqrstuw",
+        100,
+        "unequal",
+    ),
+    (
+        "Text:abcdefghijklmnopqrstu",
+        100,
+        "Text:abcdefghijklmnopqrstuv",
+        100,
+        "unequal",
+    ),
+    ("!m:ab", 100, "!n:ab", 100, "unequal"),
+    (
+        "Markup[ Text:a Text:b ]",
+        100,
+        "Markup[ Text:a Text:b ]",
+        100,
+        "equal",
+    ),
+    (
+        "Markup[ Text:a Text:b ]",
+        100,
+        "Markup[ Text:ab ]",
+        100,
+        "unequal",
+    ),
+    (
+        "Markup[ Strong[ Star:* Text:b ] Text:c ]",
+        30,
+        "Markup[ Strong[ Star:* Text:b ] Text:c ]",
+        100,
+        "equal but for spans",
+    ),
+    // The same numbers, and another bound.
+    ("Markup[ ]", 4, "Markup[ ]", 5, "equal but for spans"),
+];
 
 #[test]
 fn trees_are_compared_by_all_that_they_hold(rt: HostRuntime) -> Result<(), Fail> {
-    let rows = [
-        ("Text:ab ^0..1@m", "Text:ab ^0..1@m", "equal"),
-        ("Text:ab ^0..1@m", "Text:ab ^0..2@m", "unequal"),
-        ("Text:ab ^m +0..1@h", "Text:ab ^m +0..2@h", "unequal"),
-        ("Text:ab ^m", "Text:ab", "unequal"),
-        ("Text:ab", "Ident:ab", "unequal"),
-        (
-            "Text:abcdefghijklmnopqrstuv",
-            "Text:abcdefghijklmnopqrstuv",
-            "equal",
-        ),
-        (
-            "Text:abcdefghijklmnopqrstuv",
-            "Text:abcdefghijklmnopqrstuw",
-            "unequal",
-        ),
-        (
-            "Text:abcdefghijklmnopqrstu",
-            "Text:abcdefghijklmnopqrstuv",
-            "unequal",
-        ),
-        ("!m:ab", "!n:ab", "unequal"),
-        (
-            "Markup[ Text:a Text:b ]",
-            "Markup[ Text:a Text:b ]",
-            "equal",
-        ),
-        ("Markup[ Text:a Text:b ]", "Markup[ Text:ab ]", "unequal"),
-    ];
-    for (one, other, wanted) in rows {
-        assert_eq!(rt; compared(rt.alloc(), one, other)?, wanted, "{one} {other}");
+    for (one, end, other, other_end, wanted) in &PAIRS {
+        let tree = numbered(rt.alloc(), one, 2..*end)?;
+        let other_tree = numbered(rt.alloc(), other, 2..*other_end)?;
+        assert_eq!(rt; compared(&tree, &other_tree), *wanted, "{one} {other}");
     }
     Ok(())
 }
 
 #[test]
-fn only_equality_sees_spans(rt: HostRuntime) -> Result<(), Fail> {
-    let drawing = "Markup[ Strong[ Star:* Text:b ] Text:c ]";
-    let tree = numbered(rt.alloc(), drawing, 2..30)?;
-    let other = numbered(rt.alloc(), drawing, 2..100)?;
-    assert!(rt; tree != other && tree.spanless_eq(&other));
-    let copy = tree.clone()?;
-    assert!(rt; tree == copy && tree.spanless_eq(&copy));
-    // The same numbers, and another bound.
-    let less = numbered(rt.alloc(), "Markup[ ]", 2..4)?;
-    let more = numbered(rt.alloc(), "Markup[ ]", 2..5)?;
-    assert!(rt; less != more && less.spanless_eq(&more));
+fn a_tree_equals_its_clone(rt: HostRuntime) -> Result<(), Fail> {
+    let tree = numbered(
+        rt.alloc(),
+        "Markup[ Strong[ Star:* Text:b ] Text:c ]",
+        2..30,
+    )?;
+    assert_eq!(rt; compared(&tree, &tree.clone()?), "equal");
     Ok(())
 }

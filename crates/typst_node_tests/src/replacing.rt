@@ -243,20 +243,29 @@ fn edit(
     answered(alloc, &answer, tree, &before)
 }
 
+/// The words for a tree's labels and sizes, and for whether it is numbered, and all of two levels for file 1.
+fn told(alloc: Global, tree: &SyntaxNode) -> Result<String, DrawingError> {
+    let labels = labels(alloc, tree)?;
+    let sizes = sizes(alloc, tree)?;
+    let numbered = tree.is_numbered() && is_of(tree, FileId::new(1));
+    Ok(format!(in alloc; "{labels} {sizes} {numbered}")?)
+}
+
+/// The words for what comes of a row's replacement.
+fn edited(alloc: Global, row: &Row) -> Result<String, DrawingError> {
+    let mut tree = numbered(alloc, row.tree, row.within.start..row.within.end)?;
+    let answer = edit(alloc, &mut tree, row.path, &row.range, row.others)?;
+    let told = told(alloc, &tree)?;
+    Ok(format!(in alloc; "{answer} {told}")?)
+}
+
 #[test]
 fn replacements_are_numbered_within_windows(rt: HostRuntime) -> Result<(), Fail> {
     let alloc = rt.alloc();
     for row in &EDITS {
-        let mut tree = numbered(alloc, row.tree, row.within.start..row.within.end)?;
-        let answer = edit(alloc, &mut tree, row.path, &row.range, row.others)?;
-        assert_eq!(rt; answer.as_str(), row.answer, "{}", row.shows);
-        assert_eq!(rt; labels(alloc, &tree)?.as_str(), row.labels, "{}", row.shows);
-        assert_eq!(rt; sizes(alloc, &tree)?.as_str(), row.sizes, "{}", row.shows);
-        assert!(rt;
-            tree.is_numbered() && is_of(&tree, FileId::new(1)),
-            "{}",
-            row.shows
-        );
+        let said = edited(alloc, row)?;
+        let wanted = format!(in alloc; "{} {} {} true", row.answer, row.labels, row.sizes)?;
+        assert_eq!(rt; said.as_str(), wanted.as_str(), "{}", row.shows);
     }
     Ok(())
 }
@@ -282,27 +291,44 @@ fn edit_detached(
 
 #[test]
 fn a_detached_tree_takes_no_replacement(rt: HostRuntime) -> Result<(), Fail> {
-    let said = edit_detached(rt.alloc(), "Markup[ Text:a ]", 0..1, "Text:z")?;
-    assert_eq!(rt; said.as_str(), "Unnumberable unchanged <a>");
-    let said = edit_detached(rt.alloc(), "Text:a", 3..1, "Text:z")?;
-    assert_eq!(rt; said.as_str(), "window 0..0 tried 0 <a>");
+    for (drawing, range, wanted) in [
+        ("Markup[ Text:a ]", 0..1, "Unnumberable unchanged <a>"),
+        ("Text:a", 3..1, "window 0..0 tried 0 <a>"),
+    ] {
+        let said = edit_detached(rt.alloc(), drawing, range, "Text:z")?;
+        assert_eq!(rt; said.as_str(), wanted, "{drawing}");
+    }
     Ok(())
+}
+
+/// A text that is numbered for another file.
+fn of_file_2(alloc: Global) -> Result<Vec<SyntaxNode>, DrawingError> {
+    let mut other = drawn(alloc, "Text:x")?;
+    let two = FileId::new(2).ok_or(DrawingError::Numbers)?;
+    other.numberize(two, 2..100)?;
+    Ok(vec![in alloc; other]?)
+}
+
+/// The words for what comes of an insertion of such a text.
+fn inserted(alloc: Global) -> Result<String, DrawingError> {
+    let mut tree = numbered(alloc, TWO, 2..14)?;
+    if !tree.is_numbered() || !tree.edit_fits(&[], 1..1) {
+        return Err(DrawingError::Numbers);
+    }
+    let before = tree.clone()?;
+    let done = tree.replace_children(alloc, 1..1, of_file_2(alloc)?);
+    let answer = answered(alloc, &done, &tree, &before)?;
+    let told = told(alloc, &tree)?;
+    Ok(format!(in alloc; "{answer} {told}")?)
 }
 
 #[test]
 fn a_replacement_is_numbered_for_the_trees_file(rt: HostRuntime) -> Result<(), Fail> {
-    let alloc = rt.alloc();
-    let mut tree = numbered(alloc, TWO, 2..14)?;
-    let mut other = drawn(alloc, "Text:x")?;
-    let two = FileId::new(2).ok_or("no file")?;
-    assert!(rt; other.numberize(two, 2..100).is_ok());
-    let before = tree.clone()?;
-    assert!(rt; tree.is_numbered() && tree.edit_fits(&[], 1..1));
-    let done = tree.replace_children(alloc, 1..1, vec![in alloc; other]?);
-    let said = answered(alloc, &done, &tree, &before)?;
-    assert_eq!(rt; said.as_str(), "window 0..3 tried 2 <abxc>");
-    assert_eq!(rt; labels(alloc, &tree)?.as_str(), "3..14[4..5 5..6 6..7]");
-    assert!(rt; is_of(&tree, FileId::new(1)));
+    let said = inserted(rt.alloc())?;
+    assert_eq!(rt;
+        said.as_str(),
+        "window 0..3 tried 2 <abxc> 3..14[4..5 5..6 6..7] 4/4(2 3 4)[2/1 1/1 1/1] true"
+    );
     Ok(())
 }
 

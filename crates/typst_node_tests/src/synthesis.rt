@@ -1,42 +1,50 @@
 // Spans that synthesis gives.
 use crate::diagnostics::listed;
 use crate::numbering::is_of;
+use crate::rows::assert_all;
 use std::alloc::{AllocError, Global};
 use std::test::Fail;
 use typst_base::{FileId, RangeMapper, Span, SpanKind};
 use typst_drawn::{DrawingError, drawn, drawn_all, labels, numbered};
 use typst_node::{ReplaceError, SyntaxNode};
 
+/// The words for a tree: its labels, whether all of its two levels are of no file, its diagnostics and its `Debug` text.
+fn told(alloc: Global, tree: &SyntaxNode) -> Result<String, AllocError> {
+    let labels = labels(alloc, tree)?;
+    let detached = is_of(tree, None);
+    let listed = listed(alloc, tree)?;
+    format!(in alloc; "{labels} {detached} {listed}{tree:?}")
+}
+
+/// A drawn tree after all its spans became the detached one.
+fn detached(alloc: Global, drawing: &str) -> Result<SyntaxNode, DrawingError> {
+    let mut tree = numbered(alloc, drawing, 2..14)?;
+    tree.synthesize(Span::detached());
+    Ok(tree)
+}
+
 #[test]
 fn synthesis_gives_one_span(rt: HostRuntime) -> Result<(), Fail> {
-    let alloc = rt.alloc();
-    let mut tree = numbered(alloc, "Markup[ Text:ab Text:c ^0..1@m +0..1@h ]", 2..14)?;
-    tree.synthesize(Span::detached());
-    assert_eq!(rt; labels(alloc, &tree)?.as_str(), "1..1[1..2 1..2]");
-    assert!(rt; is_of(&tree, None));
+    let tree = detached(rt.alloc(), "Markup[ Text:ab Text:c ^0..1@m +0..1@h ]")?;
     assert_eq!(rt;
-        listed(alloc, &tree)?.as_str(),
-        "| warning m at - hint h at - "
-    );
-    let shown = format!(in alloc; "{tree:?}")?;
-    assert_eq!(rt;
-        shown.as_str(),
-        r#"Markup: 3 [Text: "ab", Warning: {message: "m", hint: "h", Text: "c"}]"#
+        told(rt.alloc(), &tree)?.as_str(),
+        r#"1..1[1..2 1..2] true | warning m at - hint h at - Markup: 3 [Text: "ab", Warning: {message: "m", hint: "h", Text: "c"}]"#
     );
     Ok(())
 }
 
 #[test]
 fn a_synthesized_tree_takes_no_replacement(rt: HostRuntime) -> Result<(), Fail> {
-    let alloc = rt.alloc();
-    let mut tree = numbered(alloc, "Markup[ Text:ab Text:c ]", 2..14)?;
-    tree.synthesize(Span::detached());
+    let mut tree = detached(rt.alloc(), "Markup[ Text:ab Text:c ]")?;
     let before = tree.clone()?;
-    let others = drawn_all(alloc, "Text:x")?;
+    let others = drawn_all(rt.alloc(), "Text:x")?;
     assert!(rt; tree.span().id().is_none() && tree.edit_fits(&[], 0..1));
-    let answer = tree.replace_children(alloc, 0..1, others);
-    assert_eq!(rt; answer, Err(ReplaceError::Unnumberable));
-    assert!(rt; tree == before);
+    let answer = tree.replace_children(rt.alloc(), 0..1, others);
+    let rows = [
+        ("it is refused", answer == Err(ReplaceError::Unnumberable)),
+        ("nothing changes", tree == before),
+    ];
+    assert_all(&rt, &rows);
     Ok(())
 }
 
@@ -109,21 +117,24 @@ fn shortened(alloc: Global) -> Result<SyntaxNode, DrawingError> {
     Ok(strong)
 }
 
+/// The words for that node, and for its `Debug` text after its bytes were mapped.
+fn shortened_and_mapped(alloc: Global) -> Result<String, DrawingError> {
+    let mut strong = shortened(alloc)?;
+    let labels = labels(alloc, &strong)?;
+    let shown = format!(in alloc; "{labels} {strong:?}")?;
+    let mapper = RangeMapper::new(alloc, &[2..5, 8..10])
+        .ok()
+        .ok_or(DrawingError::Memory)?;
+    let id = FileId::new(1).ok_or(DrawingError::Numbers)?;
+    let mapped = strong.synthesize_mapped(id, &mapper);
+    Ok(format!(in alloc; "{shown}, then {mapped:?} {strong:?}")?)
+}
+
 #[test]
 fn a_part_beyond_the_text_is_dropped(rt: HostRuntime) -> Result<(), Fail> {
-    let alloc = rt.alloc();
-    let mut strong = shortened(alloc)?;
-    assert_eq!(rt; labels(alloc, &strong)?.as_str(), "14..100[36..37]");
     assert_eq!(rt;
-        format!(in alloc; "{strong:?}")?.as_str(),
-        r#"Warning: {message @(0..4): "m", Strong: 1 [Text: "a"]}"#
-    );
-    let mapper = RangeMapper::new(alloc, &[2..5, 8..10])?;
-    let id = FileId::new(1).ok_or("no file")?;
-    assert_eq!(rt; strong.synthesize_mapped(id, &mapper), Ok(()));
-    assert_eq!(rt;
-        format!(in alloc; "{strong:?}")?.as_str(),
-        r#"Warning: {message: "m", Strong: 1 [Text: "a"]}"#
+        shortened_and_mapped(rt.alloc())?.as_str(),
+        r#"14..100[36..37] Warning: {message @(0..4): "m", Strong: 1 [Text: "a"]}, then Ok(()) Warning: {message: "m", Strong: 1 [Text: "a"]}"#
     );
     Ok(())
 }
