@@ -83,6 +83,9 @@ fn lists_hint_at_most_the_nodes_ahead(rt: HostRuntime) -> Result<(), Fail> {
     let pair = drawn(rt.alloc(), PAIR)?;
     let four = (0, Some(4));
     let three = (0, Some(3));
-    assert_eq!(rt; hints(Some(&pair))?, [four, four, four, three, three, three]);
+    assert_eq!(rt;
+        hints(Some(&pair))?,
+        [four, four, four, three, three, three]
+    );
     Ok(())
 }
