@@ -34,7 +34,7 @@ import time
 from concurrent.futures import ThreadPoolExecutor
 from pathlib import Path
 
-from bodies_sources import Hunk, edits_of, functions, placed, reach, types
+from bodies_sources import Hunk, blanked, edits_of, functions, placed, reach, types
 
 TOP = Path(__file__).resolve().parent.parent
 SAID = re.compile(r"^fn (\S+): (.*)$", re.M)
@@ -45,6 +45,7 @@ NAMED = re.compile(r"`search` did not prove `([^`]+)`|error: `([^`]+)`")  # a go
 VANISHED = re.compile(r"has no field|is not in scope|has no `|was not admitted")  # the edit took a name away: it says little
 REFUSED = ("goal", "proof file")  # the two ways of a failure of its own
 UNSEEN = re.compile(r"[=!<>]=|[?+*/<>-]|\bfor\b")  # what may call a method of a trait that the body doesn't name
+CALL = re.compile(r"\b[a-z]\w*(?:::<[^;]*?>)?\(")
 
 
 def needs_of(top):
@@ -184,8 +185,9 @@ class Judge:
         return min(apart, key=lambda it: (self.hides_calls(it), bool(self.reached.get(it)), it.end - it.body), default=None)
 
     def hides_calls(self, function):
-        """Whether its body may call a method of a trait that it doesn't name, which an edit of the batch may change."""
-        return bool(UNSEEN.search((self.room.source / function.file).read_text()[function.body : function.end]))
+        """How many signs of calls that the sources don't tell its body has: operators, and calls by which a trait's method may run."""
+        body = blanked((self.room.source / function.file).read_text())[function.body : function.end]
+        return bool(UNSEEN.search(body)) + bool(CALL.search(body))
 
     def with_control(self, batch):
         """The batch with its control. Where all that could be one are changed, the edits of one function wait."""
