@@ -301,7 +301,7 @@ class Judge:
 
 
 class Proved:
-    """The libraries that a run of `rt ci` has proved so far, each copied as soon as the run's log says so."""
+    """The libraries that a run of `rt ci` has proved so far, or kept from an earlier one, each copied as soon as its log says so."""
 
     def __init__(self, log, place):
         self.log, self.place, self.names, self.lost, self.is_over = Path(log), Path(place), set(), set(), False
@@ -311,7 +311,7 @@ class Proved:
         while not self.is_over:
             text = self.log.read_text(errors="replace") if self.log.exists() else ""
             ended = re.search(r"^\d+ passed, \d+ failed$", text, re.M)
-            for name in re.findall(r"^rt: (\w+) proved$", text, re.M):
+            for name in re.findall(r"^rt: (\w+) (?:proved$|is kept: )", text, re.M):
                 made = TOP / "crates" / name / "out/rlib"
                 if name not in self.names and made.is_dir():
                     shutil.copytree(made, self.place / name)
