@@ -6,6 +6,10 @@ use Rattle.typst_base.specs.declared.kind.SyntaxKind.{SyntaxKind}
 use Rattle.typst_node.specs.Tree.{Tree}
 use Rattle.typst_node.specs.Views.{Class, told_of}
 
+-- the nodes that it hasn't passed yet
+abbrev pub nodes_ahead : {T : _} → Items T → List Tree
+nodes_ahead items = items.rest.now
+
 -- the nodes whose views are still to come, in order
 abbrev pub nodes_left : {T : _} → Class → Items T → List Tree
 nodes_left c items = all_in c items.rest.now

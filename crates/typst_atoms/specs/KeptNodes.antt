@@ -35,6 +35,10 @@ abbrev pub kept_in : Bool → Bool → List Tree → List Tree
 kept_in drops behind_stmt [] = []
 kept_in drops behind_stmt (t ∷ ts) = kept behind_stmt t ++ kept_in drops (drops && is_stmt_kind (node_kind t)) ts
 
+-- the nodes that it hasn't passed yet
+abbrev pub nodes_ahead : KeptNodes → List Tree
+nodes_ahead nodes = nodes.rest.now
+
 -- the nodes that are still to come
 abbrev pub kept_left : KeptNodes → List Tree
 kept_left nodes = kept_in nodes.drops nodes.behind_stmt nodes.rest.now

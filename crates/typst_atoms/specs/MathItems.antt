@@ -61,6 +61,10 @@ abbrev pub args_in : List Tree → List (Tree × Bool)
 args_in [] = []
 args_in (t ∷ ts) = cond (is_arg_kind (node_kind t)) ((t, ends_in_semicolon ts) ∷ args_in ts) (args_in ts)
 
+-- the nodes that it hasn't passed yet
+abbrev pub nodes_ahead : MathItems → List Tree
+nodes_ahead items = items.rest.now
+
 -- the items that are still to come
 abbrev pub items_left : MathItems → List Tree
 items_left items = items_in items.behind_hash items.rest.now

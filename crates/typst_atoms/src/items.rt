@@ -1,9 +1,10 @@
 //! The children of one class, from both ends.
-ghost use Rattle.std.specs.Prelude.{◌≡◌, ⊤};
-ghost use Rattle.std.specs.Iterator.{YieldsFirstBy, YieldsLastBy, item_count};
+ghost use Rattle.std.specs.Prelude.{◌≡◌, ⊤, IfSome, Some, length};
+ghost use Rattle.std.specs.Iterator.{UpTo, YieldsFirstBy, YieldsLastBy, at_most, item_count};
+ghost use Rattle.std.specs.Iterator.SizeHint.{IsWithinCount};
 ghost use Rattle.std.specs.Option.{option_copied};
 ghost use Rattle.typst_atoms.specs.Children.{all_in, all_children};
-ghost use Rattle.typst_atoms.specs.Items.{nodes_left, told_left};
+ghost use Rattle.typst_atoms.specs.Items.{nodes_ahead, nodes_left, told_left};
 ghost use Rattle.typst_node.specs.Views.{told};
 
 use crate::nodes::children;
@@ -68,6 +69,16 @@ impl<'a, T: AstNode<'a>> Iterator for Items<'a, T> {
             }
         }
         None
+    }
+
+    /// From none up to all of the nodes that it hasn't passed yet.
+    #[tactic(auto, using(crate::proofs::NoMore::no_more_in_class))]
+    fn size_hint(&self) -> (usize, Option<usize>)
+        ensures lower { IsWithinCount result.0 (at_most (length (nodes_left T.class self.now))) }
+        ensures upper { IfSome result.1 (UpTo (at_most (length (nodes_left T.class self.now)))) }
+        ensures exact { result ≡ (0, Some (length (nodes_ahead self.now))) }
+    {
+        (0, Some(self.rest.len()))
     }
 }
 

@@ -1,15 +1,17 @@
 //! The children that the expressions of markup and of math are among, from both ends.
-ghost use Rattle.std.specs.Prelude.{◌≡◌, ◌&&◌};
-ghost use Rattle.std.specs.Iterator.{YieldsFirstRef, YieldsLastRef, item_count};
+ghost use Rattle.std.specs.Prelude.{◌≡◌, ◌&&◌, IfSome, Some, length};
+ghost use Rattle.std.specs.Iterator.{UpTo, YieldsFirstRef, YieldsLastRef, at_most, item_count};
+ghost use Rattle.std.specs.Iterator.SizeHint.{IsWithinCount};
 ghost use Rattle.std.specs.Option.{option_copied};
 ghost use Rattle.typst_atoms.specs.Children.{children_in};
-ghost use Rattle.typst_atoms.specs.KeptNodes.{kept_left, markup_nodes};
+ghost use Rattle.typst_atoms.specs.KeptNodes.{kept_left, markup_nodes, nodes_ahead};
 ghost use Rattle.typst_atoms.specs.Kinds.{is_kind};
 ghost use Rattle.typst_atoms.specs.StmtEnds.{ends_in_stmt};
 ghost use Rattle.typst_base.specs.declared.kind.SyntaxKind.TheVariants as kinds;
 ghost use Rattle.typst_node.specs.Views.{node_kind};
 
 use crate::nodes::children;
+use std::iter::FusedIterator;
 use typst_base::SyntaxKind;
 use typst_node::SyntaxNode;
 
@@ -17,7 +19,7 @@ use typst_node::SyntaxNode;
 /// stands directly after a statement.
 ///
 /// Each step passes over the nodes that are left out, so all steps together go over the children once.
-#[derive(Drop)]
+#[derive(Clone, Drop)]
 pub struct KeptNodes<'a> {
     rest: &'a [SyntaxNode],
     // Whether spaces directly after statements are left out.
@@ -88,6 +90,16 @@ impl<'a> Iterator for KeptNodes<'a> {
         }
         None
     }
+
+    /// From none up to all of the nodes that it hasn't passed yet.
+    #[tactic(auto, using(crate::proofs::NoMore::no_more_kept))]
+    fn size_hint(&self) -> (usize, Option<usize>)
+        ensures lower { IsWithinCount result.0 (at_most (length (kept_left self.now))) }
+        ensures upper { IfSome result.1 (UpTo (at_most (length (kept_left self.now)))) }
+        ensures exact { result ≡ (0, Some (length (nodes_ahead self.now))) }
+    {
+        (0, Some(self.rest.len()))
+    }
 }
 
 impl<'a> DoubleEndedIterator for KeptNodes<'a> {
@@ -104,3 +116,5 @@ impl<'a> DoubleEndedIterator for KeptNodes<'a> {
         None
     }
 }
+
+impl<'a> FusedIterator for KeptNodes<'a> {}

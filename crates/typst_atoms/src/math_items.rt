@@ -1,17 +1,19 @@
 //! The children that are items of arguments in math, from both ends.
-ghost use Rattle.std.specs.Prelude.{◌≡◌, ◌&&◌, not};
-ghost use Rattle.std.specs.Iterator.{YieldsFirstRef, YieldsLastRef, item_count};
+ghost use Rattle.std.specs.Prelude.{◌≡◌, ◌&&◌, not, IfSome, Some, length};
+ghost use Rattle.std.specs.Iterator.{UpTo, YieldsFirstRef, YieldsLastRef, at_most, item_count};
+ghost use Rattle.std.specs.Iterator.SizeHint.{IsWithinCount};
 ghost use Rattle.std.specs.Option.{option_copied};
 ghost use Rattle.typst_atoms.specs.Children.{children_in};
 ghost use Rattle.typst_atoms.specs.Classes.{is_arg_kind};
 ghost use Rattle.typst_atoms.specs.HashEnds.{ends_behind_hash};
 ghost use Rattle.typst_atoms.specs.Kinds.{is_kind};
-ghost use Rattle.typst_atoms.specs.MathItems.{content_items, ends_in_semicolon, is_behind_hash, is_item, items_in, items_left};
+ghost use Rattle.typst_atoms.specs.MathItems.{content_items, ends_in_semicolon, is_behind_hash, is_item, items_in, items_left, nodes_ahead};
 ghost use Rattle.typst_base.specs.declared.kind.SyntaxKind.TheVariants as kinds;
 ghost use Rattle.typst_node.specs.Views.{node_kind};
 
 use crate::classes::is_arg;
 use crate::nodes::children;
+use std::iter::FusedIterator;
 use typst_base::SyntaxKind;
 use typst_node::SyntaxNode;
 
@@ -19,7 +21,7 @@ use typst_node::SyntaxNode;
 /// and semicolons. A semicolon that only ends what a hash began is none.
 ///
 /// All steps together go over the children at most twice.
-#[derive(Drop)]
+#[derive(Clone, Drop)]
 pub struct MathItems<'a> {
     rest: &'a [SyntaxNode],
     // Whether the nearest node before the rest that is no argument is a hash.
@@ -144,6 +146,16 @@ impl<'a> Iterator for MathItems<'a> {
         }
         None
     }
+
+    /// From none up to all of the nodes that it hasn't passed yet.
+    #[tactic(auto, using(crate::proofs::NoMore::no_more_items))]
+    fn size_hint(&self) -> (usize, Option<usize>)
+        ensures lower { IsWithinCount result.0 (at_most (length (items_left self.now))) }
+        ensures upper { IfSome result.1 (UpTo (at_most (length (items_left self.now)))) }
+        ensures exact { result ≡ (0, Some (length (nodes_ahead self.now))) }
+    {
+        (0, Some(self.rest.len()))
+    }
 }
 
 impl<'a> DoubleEndedIterator for MathItems<'a> {
@@ -159,3 +171,5 @@ impl<'a> DoubleEndedIterator for MathItems<'a> {
         None
     }
 }
+
+impl<'a> FusedIterator for MathItems<'a> {}
