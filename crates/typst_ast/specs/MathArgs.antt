@@ -2,10 +2,17 @@
 use Rattle.std.specs.Prelude.{Bool, map, Option, Some, List}
 use Rattle.typst_ast.specs.declared.math_args.MathArgItems.{MathArgItems}
 use Rattle.typst_ast.specs.declared.math_args.MathArgList.{MathArgList}
-use Rattle.typst_atoms.specs.MathItems.{args_in, items_left as nodes_left}
+use Rattle.typst_atoms.specs.MathItems.{args_in, items_left as nodes_left, nodes_ahead as math_nodes_ahead}
 use Rattle.typst_base.specs.declared.kind.SyntaxKind.{SyntaxKind}
 use Rattle.typst_node.specs.Tree.{Tree}
 use Rattle.typst_node.specs.Views.{node_kind, told_of}
+
+-- the nodes that it hasn't passed yet
+abbrev pub nodes_ahead : MathArgItems → List Tree
+nodes_ahead i = math_nodes_ahead i.nodes
+
+abbrev pub nodes_ahead_of_args : MathArgList → List Tree
+nodes_ahead_of_args l = math_nodes_ahead l.nodes
 
 -- the nodes whose items are still to come
 abbrev pub items_left : MathArgItems → List Tree

@@ -1,14 +1,16 @@
 //! The expressions of markup and of math, from both ends.
-ghost use Rattle.std.specs.Prelude.{◌≡◌, ◌↔◌, true, IsSome, IfSome, Some};
-ghost use Rattle.std.specs.Iterator.{YieldsFirstBy, YieldsLastBy, item_count};
+ghost use Rattle.std.specs.Prelude.{◌≡◌, ◌↔◌, true, IsSome, IfSome, Some, length};
+ghost use Rattle.std.specs.Iterator.{UpTo, YieldsFirstBy, YieldsLastBy, at_most, item_count};
+ghost use Rattle.std.specs.Iterator.SizeHint.{IsWithinCount};
 ghost use Rattle.typst_ast.specs.Expr.{IsExprOf, expr_node, expr_kind};
-ghost use Rattle.typst_ast.specs.Exprs.{is_expr_or_space_kind, markup_exprs, exprs_left, told_exprs_left};
+ghost use Rattle.typst_ast.specs.Exprs.{is_expr_or_space_kind, markup_exprs, nodes_ahead, exprs_left, told_exprs_left};
 ghost use Rattle.typst_ast.specs.View.{node_of};
 ghost use Rattle.typst_atoms.specs.Children.{all_children, children_in};
 ghost use Rattle.typst_node.specs.Views.{node_kind, told};
 
 use crate::expr::Expr;
 use crate::views as of;
+use std::iter::FusedIterator;
 use typst_atoms::KeptNodes;
 use typst_base::SyntaxKind;
 use typst_node::{AstNode, SyntaxNode};
@@ -17,7 +19,7 @@ use typst_node::{AstNode, SyntaxNode};
 ///
 /// Markup leaves out each space that stands directly after a statement.
 /// Each step passes over the children of other kinds, so all steps together go over the children once.
-#[derive(Drop)]
+#[derive(Clone, Drop)]
 pub struct Exprs<'a> {
     nodes: KeptNodes<'a>,
 }
@@ -49,6 +51,16 @@ impl<'a> Iterator for Exprs<'a> {
         }
         None
     }
+
+    /// From none up to all of the nodes that it hasn't passed yet.
+    #[tactic(auto, using(typst_atoms::proofs::NoMore::no_more_in_class))]
+    fn size_hint(&self) -> (usize, Option<usize>)
+        ensures lower { IsWithinCount result.0 (at_most (length (exprs_left self.now))) }
+        ensures upper { IfSome result.1 (UpTo (at_most (length (exprs_left self.now)))) }
+        ensures exact { result ≡ (0, Some (length (nodes_ahead self.now))) }
+    {
+        self.nodes.size_hint()
+    }
 }
 
 impl<'a> DoubleEndedIterator for Exprs<'a> {
@@ -63,6 +75,8 @@ impl<'a> DoubleEndedIterator for Exprs<'a> {
         None
     }
 }
+
+impl<'a> FusedIterator for Exprs<'a> {}
 
 impl<'a> of::Markup<'a> {
     /// The expressions and spaces in order, from both ends. A space directly after a statement is left out.

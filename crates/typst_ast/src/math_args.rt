@@ -1,9 +1,10 @@
 //! The arguments of a function call in math.
-ghost use Rattle.std.specs.Prelude.{◌≡◌, true, false, MatchOption, Some};
-ghost use Rattle.std.specs.Iterator.{YieldsFirstBy, YieldsLastBy, item_count};
+ghost use Rattle.std.specs.Prelude.{◌≡◌, true, false, MatchOption, IfSome, Some, length};
+ghost use Rattle.std.specs.Iterator.{UpTo, YieldsFirstBy, YieldsLastBy, at_most, item_count};
+ghost use Rattle.std.specs.Iterator.SizeHint.{IsWithinCount};
 ghost use Rattle.typst_ast.specs.Arg.{arg_node, arg_kind, IsProperArgOf};
 ghost use Rattle.typst_ast.specs.MathArgItem.{item_node, item_kind, is_proper_item, told_arg};
-ghost use Rattle.typst_ast.specs.MathArgs.{items_left, told_items_left, args_left, told_args_left};
+ghost use Rattle.typst_ast.specs.MathArgs.{nodes_ahead, nodes_ahead_of_args, items_left, told_items_left, args_left, told_args_left};
 ghost use Rattle.typst_ast.specs.View.{node_of};
 ghost use Rattle.typst_atoms.specs.Children.{children_in};
 ghost use Rattle.typst_atoms.specs.Classes.{is_arg_kind};
@@ -12,6 +13,7 @@ ghost use Rattle.typst_node.specs.Views.{node_kind, told, told_of};
 
 use crate::arg::Arg;
 use crate::views as of;
+use std::iter::FusedIterator;
 use typst_atoms::MathItems;
 use typst_base::SyntaxKind;
 use typst_node::{AstNode, SyntaxNode};
@@ -64,7 +66,7 @@ fn item_of<'a>(node: &'a SyntaxNode) -> Option<MathArgItem<'a>>
 /// The items of the arguments of a function call in math, in order: one list from both ends.
 ///
 /// All steps together go over the children at most twice.
-#[derive(Drop)]
+#[derive(Clone, Drop)]
 pub struct MathArgItems<'a> {
     nodes: MathItems<'a>,
 }
@@ -82,6 +84,15 @@ impl<'a> Iterator for MathArgItems<'a> {
             None => None,
         }
     }
+
+    /// From none up to all of the nodes that it hasn't passed yet.
+    fn size_hint(&self) -> (usize, Option<usize>)
+        ensures lower { IsWithinCount result.0 (at_most (length (items_left self.now))) }
+        ensures upper { IfSome result.1 (UpTo (at_most (length (items_left self.now)))) }
+        ensures exact { result ≡ (0, Some (length (nodes_ahead self.now))) }
+    {
+        self.nodes.size_hint()
+    }
 }
 
 impl<'a> DoubleEndedIterator for MathArgItems<'a> {
@@ -95,8 +106,10 @@ impl<'a> DoubleEndedIterator for MathArgItems<'a> {
     }
 }
 
+impl<'a> FusedIterator for MathArgItems<'a> {}
+
 /// The arguments of a function call in math, in order, from the front.
-#[derive(Drop)]
+#[derive(Clone, Drop)]
 pub struct MathArgList<'a> {
     nodes: MathItems<'a>,
 }
@@ -129,7 +142,19 @@ impl<'a> Iterator for MathArgList<'a> {
         }
         None
     }
+
+    /// From none up to all of the nodes that it hasn't passed yet.
+    #[tactic(auto, using(typst_atoms::proofs::NoMore::no_more_args))]
+    fn size_hint(&self) -> (usize, Option<usize>)
+        ensures lower { IsWithinCount result.0 (at_most (length (args_left self.now))) }
+        ensures upper { IfSome result.1 (UpTo (at_most (length (args_left self.now)))) }
+        ensures exact { result ≡ (0, Some (length (nodes_ahead_of_args self.now))) }
+    {
+        self.nodes.size_hint()
+    }
 }
+
+impl<'a> FusedIterator for MathArgList<'a> {}
 
 impl<'a> of::MathArgs<'a> {
     /// The parts of the arguments in order, from both ends: arguments, spaces, commas, parens and semicolons.
