@@ -222,8 +222,9 @@ class Judge:
         emptied = self.emptied(batch, control, tries)
         name = self.room.crate.name
         hunks += [neutral] if neutral else []
-        said, errors = self.room.checked(hunks, emptied, self.named(set().union(*(it.functions for it in batch)) | {control}))
-        if not said and not self.known:  # a guessed path may be none
+        only = self.named(set().union(*(it.functions for it in batch)) | {control})
+        said, errors = self.room.checked(hunks, emptied, only)
+        if not said and only:  # a guessed path may be none
             said, errors = self.room.checked(hunks, emptied)
         self.known |= said
         path = control and control.path(name, said)
@@ -289,6 +290,8 @@ class Judge:
             elif len(batch) > 1:
                 again = self.batches(open_ones, True) if tries == 0 else [[it] for it in open_ones]
                 todo += [(it, tries + 1) for it in again]
+            elif tries < 2:
+                todo.append((batch, 2))
             else:
                 self.give_up(open_ones[0], ways.get(open_ones[0]))
 
