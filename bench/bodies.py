@@ -1,7 +1,7 @@
 #!/usr/bin/env python3
 """Says of each wrong body of a crate whether the prover refuses it, many bodies in one check.
 
-    bench/bodies.py CRATE.. [--only WORD] [--each] [--jobs N]    judges the crates' edits, in must-fail/ and wrong-bodies/
+    bench/bodies.py CRATE.. [--only WORD] [--each] [--jobs N]    judges the crates' edits, in wrong-bodies/
     bench/bodies.py --goals CRATE..                              the same, and by which goals of its functions each falls: their
                                                                  names tell the clause, as `returns-clause-looks`
     bench/bodies.py --beside LOG CRATE..                         the same, each crate once `rt ci`, which writes LOG, has
@@ -10,8 +10,7 @@
     bench/bodies.py --test                                       judges a small made-up crate whose verdicts are known
 
 An edit has lines `file: src/x.rt`, `old: TEXT` and `new: TEXT`, each text one line. The old text stands once in the file, or
-once in the function that a line `in: Type::method` before it names (`in: function`, `in: Trait for Type::method`), which
-`rt ci` doesn't read: so only edits in wrong-bodies/ have it.
+once in the function that a line `in: Type::method` before it names (`in: function`, `in: Trait for Type::method`).
 
 A body is refused only by a failure of its own: a goal of that very function that `search` did not prove, or an error in its
 own proof files that isn't a name which the edit took away. What a function owes rests on the contracts of those that it

@@ -4,8 +4,7 @@
     bench/minutes.py ./gate
 
 Each second it reads what every `rattle` process has used so far, so a part that lasts less isn't seen. A process is told by
-the folder in which it runs: a crate's own (its proof, or with --test that of its tests), one of `rt ci` for the edits of
-must-fail/, or one of bench/bodies.py.
+the folder in which it runs: a crate's own (its proof, or with --test that of its tests), or one of bench/bodies.py.
 """
 import os
 import subprocess
@@ -18,8 +17,6 @@ TICKS = os.sysconf("SC_CLK_TCK")
 
 def kind(folder, words):
     """The part that a process works for."""
-    if "/rt-edit" in folder:
-        return "must-fail"
     if "/bodies-" in folder or "/made-up-" in folder:
         return "judge"
     return "tests" if "--test" in words else "proof"
@@ -46,7 +43,7 @@ def sampled(used):
 
 def table(used):
     """The minutes of each crate, and of each part."""
-    parts, sums = ["proof", "tests", "must-fail", "judge"], {}
+    parts, sums = ["proof", "tests", "judge"], {}
     for part, crate, seconds in used.values():
         for key in ((crate, part), (crate, "all"), ("all", part), ("all", "all")):
             sums[key] = sums.get(key, 0) + seconds

@@ -7,7 +7,7 @@ use Rattle.typst_base.specs.declared.kind.SyntaxKind.{SyntaxKind}
 use Rattle.typst_node.specs.Tree.{Tree}
 use Rattle.typst_node.specs.Views.{node_kind, told_of}
 
--- the nodes that it hasn't passed yet
+-- the nodes that an iterator over items, over arguments, hasn't passed yet
 abbrev pub nodes_ahead : MathArgItems → List Tree
 nodes_ahead i = math_nodes_ahead i.nodes
 

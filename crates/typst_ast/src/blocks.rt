@@ -3,9 +3,9 @@ ghost use Rattle.std.specs.Prelude.{◌≡◌};
 ghost use Rattle.typst_ast.specs.Expr.{IsExprOf};
 ghost use Rattle.typst_ast.specs.Pattern.{IsPatternOf};
 ghost use Rattle.typst_ast.specs.View.{node_of};
-ghost use Rattle.typst_atoms.specs.Children.{all_children, first_child};
+ghost use Rattle.typst_atoms.specs.Children.{all_children, children_in, first_child};
 ghost use Rattle.typst_atoms.specs.Classes.{is_expr_kind, is_pattern_kind};
-ghost use Rattle.typst_atoms.specs.Items.{nodes_left};
+ghost use Rattle.typst_atoms.specs.Items.{nodes_ahead, nodes_left};
 ghost use Rattle.typst_atoms.specs.Kinds.{is_kind};
 ghost use Rattle.typst_base.specs.declared.kind.SyntaxKind.TheVariants as kinds;
 
@@ -18,7 +18,8 @@ use typst_atoms::{Items, cast_all, cast_first};
 impl<'a> Code<'a> {
     /// The expressions in order, from both ends.
     pub fn exprs(self) -> Items<'a, Expr<'a>>
-        ensures { nodes_left is_expr_kind result ≡ all_children is_expr_kind (node_of self.entry) }
+        ensures left { nodes_left is_expr_kind result ≡ all_children is_expr_kind (node_of self.entry) }
+        ensures ahead { nodes_ahead result ≡ children_in (node_of self.entry) }
     {
         cast_all(self.node())
     }

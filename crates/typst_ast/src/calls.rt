@@ -7,7 +7,7 @@ ghost use Rattle.typst_ast.specs.Closures.{closure_name};
 ghost use Rattle.typst_ast.specs.View.{IsOptionalAtom, node_of};
 ghost use Rattle.typst_atoms.specs.Children.{all_children, children_in, first_child, last_child};
 ghost use Rattle.typst_atoms.specs.Classes.{is_arg_kind, is_expr_kind};
-ghost use Rattle.typst_atoms.specs.Items.{nodes_left};
+ghost use Rattle.typst_atoms.specs.Items.{nodes_ahead, nodes_left};
 ghost use Rattle.typst_atoms.specs.Kinds.{is_kind};
 ghost use Rattle.typst_atoms.specs.Missing.{is_of_kind};
 ghost use Rattle.typst_base.specs.declared.kind.SyntaxKind.TheVariants as kinds;
@@ -42,7 +42,8 @@ impl<'a> FuncCall<'a> {
 impl<'a> Args<'a> {
     /// The arguments in order, from both ends.
     pub fn items(self) -> Items<'a, Arg<'a>>
-        ensures { nodes_left is_arg_kind result ≡ all_children is_arg_kind (node_of self.entry) }
+        ensures left { nodes_left is_arg_kind result ≡ all_children is_arg_kind (node_of self.entry) }
+        ensures ahead { nodes_ahead result ≡ children_in (node_of self.entry) }
     {
         cast_all(self.node())
     }
@@ -83,7 +84,8 @@ impl<'a> Closure<'a> {
 impl<'a> Params<'a> {
     /// The parameters in order, from both ends.
     pub fn children(self) -> Items<'a, Param<'a>>
-        ensures { nodes_left is_param_kind result ≡ all_children is_param_kind (node_of self.entry) }
+        ensures left { nodes_left is_param_kind result ≡ all_children is_param_kind (node_of self.entry) }
+        ensures ahead { nodes_ahead result ≡ children_in (node_of self.entry) }
     {
         cast_all(self.node())
     }

@@ -4,9 +4,9 @@ ghost use Rattle.typst_ast.specs.Expr.{IsExprOf, IsOptionalExprOf};
 ghost use Rattle.typst_ast.specs.Kinds.{is_array_item_kind, is_dict_item_kind};
 ghost use Rattle.typst_ast.specs.Pattern.{IsPatternOf};
 ghost use Rattle.typst_ast.specs.View.{IsOptionalAtom, node_of};
-ghost use Rattle.typst_atoms.specs.Children.{all_children, first_child, last_child};
+ghost use Rattle.typst_atoms.specs.Children.{all_children, children_in, first_child, last_child};
 ghost use Rattle.typst_atoms.specs.Classes.{is_destructuring_item_kind, is_expr_kind, is_pattern_kind};
-ghost use Rattle.typst_atoms.specs.Items.{nodes_left};
+ghost use Rattle.typst_atoms.specs.Items.{nodes_ahead, nodes_left};
 ghost use Rattle.typst_atoms.specs.Kinds.{is_kind};
 ghost use Rattle.typst_atoms.specs.View.{node_of as atom_node};
 ghost use Rattle.typst_base.specs.declared.kind.SyntaxKind.TheVariants as kinds;
@@ -23,7 +23,8 @@ use typst_atoms::{Items, cast_all, cast_first, cast_last, try_cast_first};
 impl<'a> Array<'a> {
     /// The items in order, from both ends.
     pub fn items(self) -> Items<'a, ArrayItem<'a>>
-        ensures { nodes_left is_array_item_kind result ≡ all_children is_array_item_kind (node_of self.entry) }
+        ensures left { nodes_left is_array_item_kind result ≡ all_children is_array_item_kind (node_of self.entry) }
+        ensures ahead { nodes_ahead result ≡ children_in (node_of self.entry) }
     {
         cast_all(self.node())
     }
@@ -32,7 +33,8 @@ impl<'a> Array<'a> {
 impl<'a> Dict<'a> {
     /// The items in order, from both ends.
     pub fn items(self) -> Items<'a, DictItem<'a>>
-        ensures { nodes_left is_dict_item_kind result ≡ all_children is_dict_item_kind (node_of self.entry) }
+        ensures left { nodes_left is_dict_item_kind result ≡ all_children is_dict_item_kind (node_of self.entry) }
+        ensures ahead { nodes_ahead result ≡ children_in (node_of self.entry) }
     {
         cast_all(self.node())
     }
@@ -41,7 +43,8 @@ impl<'a> Dict<'a> {
 impl<'a> Destructuring<'a> {
     /// The items in order, from both ends.
     pub fn items(self) -> Items<'a, DestructuringItem<'a>>
-        ensures { nodes_left is_destructuring_item_kind result ≡ all_children is_destructuring_item_kind (node_of self.entry) }
+        ensures left { nodes_left is_destructuring_item_kind result ≡ all_children is_destructuring_item_kind (node_of self.entry) }
+        ensures ahead { nodes_ahead result ≡ children_in (node_of self.entry) }
     {
         cast_all(self.node())
     }

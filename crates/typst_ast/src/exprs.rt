@@ -19,7 +19,7 @@ use typst_node::{AstNode, SyntaxNode};
 ///
 /// Markup leaves out each space that stands directly after a statement.
 /// Each step passes over the children of other kinds, so all steps together go over the children once.
-#[derive(Clone, Drop)]
+#[derive(Clone, Debug, Drop)]
 pub struct Exprs<'a> {
     nodes: KeptNodes<'a>,
 }
@@ -81,7 +81,8 @@ impl<'a> FusedIterator for Exprs<'a> {}
 impl<'a> of::Markup<'a> {
     /// The expressions and spaces in order, from both ends. A space directly after a statement is left out.
     pub fn exprs(self) -> Exprs<'a>
-        ensures { exprs_left result ≡ markup_exprs (children_in (node_of self.entry)) }
+        ensures left { exprs_left result ≡ markup_exprs (children_in (node_of self.entry)) }
+        ensures ahead { nodes_ahead result ≡ children_in (node_of self.entry) }
     {
         Exprs {
             nodes: KeptNodes::of_markup(self.node()),
@@ -92,7 +93,8 @@ impl<'a> of::Markup<'a> {
 impl<'a> of::Math<'a> {
     /// The expressions and spaces in order, from both ends.
     pub fn exprs(self) -> Exprs<'a>
-        ensures { exprs_left result ≡ all_children is_expr_or_space_kind (node_of self.entry) }
+        ensures left { exprs_left result ≡ all_children is_expr_or_space_kind (node_of self.entry) }
+        ensures ahead { nodes_ahead result ≡ children_in (node_of self.entry) }
     {
         Exprs {
             nodes: KeptNodes::of_all(self.node()),

@@ -66,7 +66,7 @@ fn item_of<'a>(node: &'a SyntaxNode) -> Option<MathArgItem<'a>>
 /// The items of the arguments of a function call in math, in order: one list from both ends.
 ///
 /// All steps together go over the children at most twice.
-#[derive(Clone, Drop)]
+#[derive(Clone, Debug, Drop)]
 pub struct MathArgItems<'a> {
     nodes: MathItems<'a>,
 }
@@ -109,7 +109,7 @@ impl<'a> DoubleEndedIterator for MathArgItems<'a> {
 impl<'a> FusedIterator for MathArgItems<'a> {}
 
 /// The arguments of a function call in math, in order, from the front.
-#[derive(Clone, Drop)]
+#[derive(Clone, Debug, Drop)]
 pub struct MathArgList<'a> {
     nodes: MathItems<'a>,
 }
@@ -160,7 +160,8 @@ impl<'a> of::MathArgs<'a> {
     /// The parts of the arguments in order, from both ends: arguments, spaces, commas, parens and semicolons.
     /// A semicolon that only ends what a hash began is left out.
     pub fn content_items(self) -> MathArgItems<'a>
-        ensures { items_left result ≡ content_items (children_in (node_of self.entry)) }
+        ensures left { items_left result ≡ content_items (children_in (node_of self.entry)) }
+        ensures ahead { nodes_ahead result ≡ children_in (node_of self.entry) }
     {
         MathArgItems {
             nodes: MathItems::new(self.node()),
@@ -169,7 +170,8 @@ impl<'a> of::MathArgs<'a> {
 
     /// The arguments in order, from the front, each with whether a semicolon ends it.
     pub fn arg_items(self) -> MathArgList<'a>
-        ensures { args_left result ≡ args_in (content_items (children_in (node_of self.entry))) }
+        ensures left { args_left result ≡ args_in (content_items (children_in (node_of self.entry))) }
+        ensures ahead { nodes_ahead_of_args result ≡ children_in (node_of self.entry) }
     {
         MathArgList {
             nodes: MathItems::new(self.node()),

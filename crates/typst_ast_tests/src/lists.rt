@@ -164,3 +164,34 @@ fn lists_hint_at_most_the_nodes_ahead(rt: HostRuntime) -> Result<(), Fail> {
     assert_eq!(rt; said, [four, seven, seven, three, six, four]);
     Ok(())
 }
+
+/// What the lists of expressions, of items and of arguments show after a step each.
+fn shown_ahead(
+    alloc: Global,
+    markup: of::Markup,
+    arguments: of::MathArgs,
+) -> Result<String, AllocError> {
+    let mut exprs = markup.exprs();
+    let mut items = arguments.content_items();
+    let mut args = arguments.arg_items();
+    let _expr = exprs.next();
+    let _item = items.next();
+    let _arg = args.next();
+    format!(in alloc; "{exprs:?}\n{items:?}\n{args:?}")
+}
+
+/// Three lists after a step each, an entry a line.
+const AHEAD: &str =
+    r##"Exprs { nodes: KeptNodes { rest: [Space: " ", Text: "a"], drops: true, behind_stmt: true } }
+MathArgItems { nodes: MathItems { rest: [Hash: "#", Ident: "x", RightParen: ")"], behind_hash: false } }
+MathArgList { nodes: MathItems { rest: [RightParen: ")"], behind_hash: true } }"##;
+
+#[test]
+fn lists_show_the_nodes_ahead(rt: HostRuntime) -> Result<(), Fail> {
+    let alloc = rt.alloc();
+    let markup = drawn(alloc, "Markup[ LetBinding[ Let:let ] Space:~ Text:a ]")?;
+    let arguments = drawn(alloc, "MathArgs[ LeftParen:( Hash:# Ident:x RightParen:) ]")?;
+    let said = shown_ahead(alloc, view(Some(&markup)), view(Some(&arguments)))?;
+    assert_eq!(rt; said.as_str(), AHEAD);
+    Ok(())
+}

@@ -1,8 +1,8 @@
 //! First, last and all children of a class, for any type of views.
 ghost use Rattle.std.specs.Prelude.{◌≡◌};
 ghost use Rattle.std.specs.Option.{option_copied};
-ghost use Rattle.typst_atoms.specs.Children.{all_in, all_children, first_of, last_of, first_child, last_child};
-ghost use Rattle.typst_atoms.specs.Items.{nodes_left};
+ghost use Rattle.typst_atoms.specs.Children.{all_in, all_children, children_in, first_of, last_of, first_child, last_child};
+ghost use Rattle.typst_atoms.specs.Items.{nodes_ahead, nodes_left};
 ghost use Rattle.typst_node.specs.Views.{IsViewOf, IsOptionalViewOf};
 
 use crate::items::Items;
@@ -11,7 +11,8 @@ use typst_node::{AstNode, SyntaxNode};
 
 /// The views of the node's children, from both ends.
 pub fn cast_all<'a, T: AstNode<'a>>(node: Option<&'a SyntaxNode>) -> Items<'a, T>
-    ensures { nodes_left T.class result ≡ all_children T.class (option_copied node.entry) }
+    ensures left { nodes_left T.class result ≡ all_children T.class (option_copied node.entry) }
+    ensures ahead { nodes_ahead result ≡ children_in (option_copied node.entry) }
 {
     Items::new(node)
 }

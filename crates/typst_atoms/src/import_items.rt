@@ -1,8 +1,8 @@
 //! The items of an import.
 ghost use Rattle.std.specs.Prelude.{◌≡◌, refl};
-ghost use Rattle.typst_atoms.specs.Children.{all_children, last_child};
+ghost use Rattle.typst_atoms.specs.Children.{all_children, children_in, last_child};
 ghost use Rattle.typst_atoms.specs.ImportItem.{item_path, item_bound_name};
-ghost use Rattle.typst_atoms.specs.Items.{nodes_left};
+ghost use Rattle.typst_atoms.specs.Items.{nodes_ahead, nodes_left};
 ghost use Rattle.typst_atoms.specs.Kinds.{is_kind, is_import_item_kind};
 ghost use Rattle.typst_atoms.specs.View.{node_of};
 ghost use Rattle.typst_base.specs.declared.kind.SyntaxKind.TheVariants as kinds;
@@ -16,8 +16,9 @@ use typst_node::{AstNode, SyntaxNode};
 impl<'a> ImportItems<'a> {
     /// The items in order, from both ends.
     pub fn iter(self) -> Items<'a, ImportItem<'a>>
-        ensures { nodes_left is_import_item_kind result
+        ensures left { nodes_left is_import_item_kind result
             ≡ all_children is_import_item_kind (node_of self.entry) }
+        ensures ahead { nodes_ahead result ≡ children_in (node_of self.entry) }
     {
         cast_all(self.node())
     }

@@ -1,7 +1,7 @@
 //! Paths to imported items.
 ghost use Rattle.std.specs.Prelude.{◌≡◌};
-ghost use Rattle.typst_atoms.specs.Children.{all_children, last_child};
-ghost use Rattle.typst_atoms.specs.Items.{nodes_left};
+ghost use Rattle.typst_atoms.specs.Children.{all_children, children_in, last_child};
+ghost use Rattle.typst_atoms.specs.Items.{nodes_ahead, nodes_left};
 ghost use Rattle.typst_atoms.specs.Kinds.{is_kind};
 ghost use Rattle.typst_atoms.specs.View.{node_of};
 ghost use Rattle.typst_base.specs.declared.kind.SyntaxKind.TheVariants as kinds;
@@ -13,8 +13,9 @@ use crate::views::{Ident, ImportItemPath};
 impl<'a> ImportItemPath<'a> {
     /// The path's parts in order, from both ends.
     pub fn iter(self) -> Items<'a, Ident<'a>>
-        ensures { nodes_left (is_kind kinds.Ident) result
+        ensures left { nodes_left (is_kind kinds.Ident) result
             ≡ all_children (is_kind kinds.Ident) (node_of self.entry) }
+        ensures ahead { nodes_ahead result ≡ children_in (node_of self.entry) }
     {
         cast_all(self.node())
     }

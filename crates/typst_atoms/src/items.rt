@@ -3,12 +3,13 @@ ghost use Rattle.std.specs.Prelude.{◌≡◌, ⊤, IfSome, Some, length};
 ghost use Rattle.std.specs.Iterator.{UpTo, YieldsFirstBy, YieldsLastBy, at_most, item_count};
 ghost use Rattle.std.specs.Iterator.SizeHint.{IsWithinCount};
 ghost use Rattle.std.specs.Option.{option_copied};
-ghost use Rattle.typst_atoms.specs.Children.{all_in, all_children};
+ghost use Rattle.typst_atoms.specs.Children.{all_in, all_children, children_in};
 ghost use Rattle.typst_atoms.specs.Items.{nodes_ahead, nodes_left, told_left};
 ghost use Rattle.typst_node.specs.Views.{told};
 
 use crate::nodes::children;
 use std::alloc::AllocError;
+use std::fmt;
 use std::iter::FusedIterator;
 use std::marker::PhantomData;
 use typst_node::{AstNode, SyntaxNode};
@@ -25,14 +26,16 @@ pub struct Items<'a, T> {
 impl<'a, T: AstNode<'a>> Items<'a, T> {
     /// The views of the children; none where there is no node.
     pub fn new(node: Option<&'a SyntaxNode>) -> Self
-        ensures { nodes_left T.class result ≡ all_children T.class (option_copied node.entry) }
+        ensures left { nodes_left T.class result ≡ all_children T.class (option_copied node.entry) }
+        ensures ahead { nodes_ahead result ≡ children_in (option_copied node.entry) }
     {
         Items::over(children(node))
     }
 
     /// The views of these nodes.
     pub fn over(nodes: &'a [SyntaxNode]) -> Self
-        ensures { nodes_left T.class result ≡ all_in T.class nodes.now }
+        ensures left { nodes_left T.class result ≡ all_in T.class nodes.now }
+        ensures ahead { nodes_ahead result ≡ nodes.now }
     {
         Items {
             rest: nodes,
@@ -51,6 +54,13 @@ impl<'a, T> Clone for Items<'a, T> {
             rest: self.rest,
             of: PhantomData,
         })
+    }
+}
+
+impl<'a, T> fmt::Debug for Items<'a, T> {
+    /// Writes the nodes that it hasn't passed yet, those without a view among them: `Items([..])`.
+    fn fmt<W: fmt::Write>(&self, f: &mut fmt::Formatter<W>) -> fmt::Result {
+        f.debug_tuple("Items").field(&self.rest).finish()
     }
 }
 

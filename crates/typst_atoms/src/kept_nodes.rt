@@ -19,7 +19,7 @@ use typst_node::SyntaxNode;
 /// stands directly after a statement.
 ///
 /// Each step passes over the nodes that are left out, so all steps together go over the children once.
-#[derive(Clone, Drop)]
+#[derive(Clone, Debug, Drop)]
 pub struct KeptNodes<'a> {
     rest: &'a [SyntaxNode],
     // Whether spaces directly after statements are left out.
@@ -50,7 +50,8 @@ impl<'a> KeptNodes<'a> {
     /// All children of the node; none where there is no node.
     #[tactic(auto, using(crate::proofs::KeptLists::all_are_kept))]
     pub fn of_all(node: Option<&'a SyntaxNode>) -> Self
-        ensures { kept_left result ≡ children_in (option_copied node.entry) }
+        ensures left { kept_left result ≡ children_in (option_copied node.entry) }
+        ensures ahead { nodes_ahead result ≡ children_in (option_copied node.entry) }
     {
         KeptNodes {
             rest: children(node),
@@ -62,7 +63,8 @@ impl<'a> KeptNodes<'a> {
     /// The children of the node without each space that stands directly after a statement; none where there is no node.
     #[tactic(auto, using(crate::proofs::KeptLists::kept_in_markup))]
     pub fn of_markup(node: Option<&'a SyntaxNode>) -> Self
-        ensures { kept_left result ≡ markup_nodes (children_in (option_copied node.entry)) }
+        ensures left { kept_left result ≡ markup_nodes (children_in (option_copied node.entry)) }
+        ensures ahead { nodes_ahead result ≡ children_in (option_copied node.entry) }
     {
         KeptNodes {
             rest: children(node),

@@ -21,7 +21,7 @@ use typst_node::SyntaxNode;
 /// and semicolons. A semicolon that only ends what a hash began is none.
 ///
 /// All steps together go over the children at most twice.
-#[derive(Clone, Drop)]
+#[derive(Clone, Debug, Drop)]
 pub struct MathItems<'a> {
     rest: &'a [SyntaxNode],
     // Whether the nearest node before the rest that is no argument is a hash.
@@ -111,7 +111,8 @@ impl<'a> MathItems<'a> {
     /// The items among the children; none where there is no node.
     #[tactic(auto, using(crate::proofs::ItemLists::items_in_content))]
     pub fn new(node: Option<&'a SyntaxNode>) -> Self
-        ensures { items_left result ≡ content_items (children_in (option_copied node.entry)) }
+        ensures left { items_left result ≡ content_items (children_in (option_copied node.entry)) }
+        ensures ahead { nodes_ahead result ≡ children_in (option_copied node.entry) }
     {
         MathItems {
             rest: children(node),

@@ -2,8 +2,8 @@
 ghost use Rattle.std.specs.Prelude.{◌≡◌, ◌<◌, ◌⊎◌, [], ◌∷◌, ◌++◌, length, true, false, MatchBool, MatchOption, IfSome};
 ghost use Rattle.std.specs.List.{AllByRecursion};
 ghost use Rattle.std.specs.Str.{chars};
-ghost use Rattle.typst_atoms.specs.Children.{all_children};
-ghost use Rattle.typst_atoms.specs.Items.{nodes_left};
+ghost use Rattle.typst_atoms.specs.Children.{all_children, children_in};
+ghost use Rattle.typst_atoms.specs.Items.{nodes_ahead, nodes_left};
 ghost use Rattle.typst_atoms.specs.Kinds.{is_kind};
 ghost use Rattle.typst_atoms.specs.Raws.{is_fenced, lang_node, trimmed_chars, trimmed_in, AnyByRecursion, IsBlock, IsInline};
 ghost use Rattle.typst_atoms.specs.Texts.{text_in};
@@ -81,8 +81,9 @@ fn any_trimmed_char<F: Fn(char) -> bool>(nodes: &[SyntaxNode], test: &F) -> bool
 impl<'a> Raw<'a> {
     /// The lines of the text, from both ends.
     pub fn lines(self) -> Items<'a, Text<'a>>
-        ensures { nodes_left (is_kind kinds.Text) result
+        ensures left { nodes_left (is_kind kinds.Text) result
             ≡ all_children (is_kind kinds.Text) (node_of self.entry) }
+        ensures ahead { nodes_ahead result ≡ children_in (node_of self.entry) }
     {
         cast_all(self.node())
     }

@@ -12,7 +12,8 @@ fn char_in(list: &[(&str, char)], text: &str) -> char
 {
     let mut rest = list;
     while let [(written, stands_for), more @ ..] = rest {
-        if *written == text {
+        // Most texts of a list differ in length, and a length is read faster than a text.
+        if written.len() == text.len() && *written == text {
             return *stands_for;
         }
         rest = more;

@@ -89,3 +89,39 @@ fn lists_hint_at_most_the_nodes_ahead(rt: HostRuntime) -> Result<(), Fail> {
     );
     Ok(())
 }
+
+#[test]
+fn lists_show_the_nodes_ahead(rt: HostRuntime) -> Result<(), Fail> {
+    let alloc = rt.alloc();
+    let pair = drawn(alloc, PAIR)?;
+    let mut views = Items::<of::Ident>::new(Some(&pair));
+    let mut nodes = KeptNodes::of_markup(Some(&pair));
+    let mut items = MathItems::new(Some(&pair));
+    let _view = views.next();
+    let _node = nodes.next_back();
+    let _item = items.next();
+    let [views, nodes, items] = [
+        format!(in alloc; "{views:?}")?,
+        format!(in alloc; "{nodes:?}")?,
+        format!(in alloc; "{items:?}")?,
+    ];
+    let rows = [
+        (
+            "views",
+            views.as_str(),
+            r#"Items([Colon: ":", Space: " ", Ident: "b"])"#,
+        ),
+        (
+            "nodes",
+            nodes.as_str(),
+            r#"KeptNodes { rest: [Ident: "a", Colon: ":", Space: " "], drops: true, behind_stmt: false }"#,
+        ),
+        (
+            "items",
+            items.as_str(),
+            r#"MathItems { rest: [Colon: ":", Space: " ", Ident: "b"], behind_hash: false }"#,
+        ),
+    ];
+    assert_texts(&rt, &rows);
+    Ok(())
+}

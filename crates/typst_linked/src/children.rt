@@ -14,7 +14,7 @@ use std::rc::Rc;
 ///
 /// Where memory is refused for a child, the item in that child's place is an error, and the child is passed.
 /// A clone takes no memory: its only error is that the parent is shared too often.
-#[derive(Drop)]
+#[derive(Debug, Drop)]
 pub struct LinkedChildren<'a> {
     parent: Rc<LinkedNode<'a>>,
     // The children from the first index up to the second are left.

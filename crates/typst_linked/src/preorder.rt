@@ -7,6 +7,7 @@ ghost use Rattle.typst_linked.specs.Onwards.{places_behind, places_from};
 
 use crate::node::LinkedNode;
 use std::alloc::{AllocError, Global};
+use std::fmt;
 use std::iter::FusedIterator;
 use std::marker::Model;
 
@@ -91,6 +92,16 @@ impl<'a> Clone for LinkedPreorder<'a> {
             next,
             left: self.left,
         })
+    }
+}
+
+impl<'a> fmt::Debug for LinkedPreorder<'a> {
+    /// Writes the next node, and how many are left with it.
+    fn fmt<W: fmt::Write>(&self, f: &mut fmt::Formatter<W>) -> fmt::Result {
+        f.debug_struct("LinkedPreorder")
+            .field("next", &self.next)
+            .field("left", &self.left)
+            .finish_non_exhaustive()
     }
 }
 

@@ -434,6 +434,27 @@ fn a_preorder_hints_the_nodes_that_are_left(rt: HostRuntime) -> Result<(), Fail>
     Ok(())
 }
 
+/// What a walk over a tree's children and one in preorder show after a step each.
+fn shown_ahead(alloc: Global, drawing: &str) -> Result<String, DrawingError> {
+    let tree = drawn(alloc, drawing)?;
+    let root = LinkedNode::new(&tree);
+    let mut children = root.clone()?.children(alloc)?;
+    let mut nodes = root.preorder(alloc)?;
+    let _child = children.next().transpose()?;
+    let _node = nodes.next().transpose()?;
+    Ok(format!(in alloc; "{children:?} {nodes:?}")?)
+}
+
+#[test]
+fn walks_show_what_is_left(rt: HostRuntime) -> Result<(), Fail> {
+    let said = shown_ahead(rt.alloc(), "Markup[ Text:a Text:b ]")?;
+    assert_eq!(rt;
+        said.as_str(),
+        r#"LinkedChildren { parent: Markup: 2 [Text: "a", Text: "b"], from: 1, to: 2 } LinkedPreorder { next: Some(Text: "a"), left: 2, .. }"#
+    );
+    Ok(())
+}
+
 /// The words for a tree's children, taken from the front for `f` and from the back for `b`, and how many are left.
 fn taken(alloc: Global, drawing: &str, ends: &str) -> Result<String, DrawingError> {
     let tree = drawn(alloc, drawing)?;

@@ -6,14 +6,14 @@ ghost use Rattle.typst_node.specs.Numbered.{IsNumbered};
 ghost use Rattle.typst_node.specs.Plain.{plain};
 ghost use Rattle.typst_script.specs.Fault.{IsWriteFault};
 
-use crate::answers::Answers;
-use crate::diagnostics::diagnostics;
 use crate::remark::Remark;
-use crate::views::{blanks, views};
-use crate::walks::walks;
 use std::alloc::{AllocError, Global};
 use std::io;
 use std::io::Write;
+use typst_answers::Answers;
+use typst_answers::diagnostics::diagnostics;
+use typst_answers::views::{blanks, views};
+use typst_answers::walks::walks;
 use typst_script::script::Obey;
 use typst_script::{Fault, Interpreter, ScriptTree};
 use typst_tree::{FileId, NumberedTree, Span, SyntaxNode};

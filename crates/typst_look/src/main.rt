@@ -21,26 +21,12 @@
 //! 0 Text.get "Hi"
 //! ```
 //!
-//! The library crate `typst_script` has the lines that build trees; [`looker::Looker`] has the others.
+//! The library crate `typst_script` has the lines that build trees, `typst_answers` what is answered; [`looker::Looker`] has
+//! the other lines.
 #![tactic(auto)]
 
-mod answers;
-mod code;
-mod control;
-mod diagnostics;
-mod imports;
-mod lists;
 mod looker;
-mod markup;
-mod math;
-mod names;
-mod pairs;
-mod place;
 mod remark;
-mod subject;
-mod texts;
-mod views;
-mod walks;
 
 use crate::looker::Looker;
 use std::process::ExitCode;

@@ -63,18 +63,19 @@ enum Node {
 #[derive(Drop)]
 struct InnerNode {
     kind: SyntaxKind,
+    diagnosis: Diagnosis,
     // The length of the text in bytes.
     len: usize,
     // The number of nodes, this one included.
     descendants: usize,
-    diagnosis: Diagnosis,
     // The bound: above every number of the subtree, once it is numbered.
     upper: u64,
     children: Vec<SyntaxNode>,
-    // At each place the joined length of the children up to and with the one there.
-    ends: Ends,
     // From the innermost to the outermost.
     warnings: Vec<Warning>,
+    // At each place the joined length of the children up to and with the one there. They stand last, since most calls
+    // read all but them.
+    ends: Ends,
 }
 
 /// A leaf whose text may be long, and which may have warnings. Its kind is never `Error`.

@@ -128,11 +128,15 @@ impl SyntaxNode {
     {
         let len = self.len();
         let count = self.descendants();
-        let children = self.node_at(path).child_slice();
-        let Some(gone) = sums_of(&children[range.start..range.end]) else {
+        let Some(added) = sums_of(others) else {
             return false;
         };
-        let Some(added) = sums_of(others) else {
+        // Mostly they fit together with what goes, so that the way down need not be gone for what that holds.
+        if len.checked_add(added.len).is_some() && count.checked_add(added.descendants).is_some() {
+            return true;
+        }
+        let children = self.node_at(path).child_slice();
+        let Some(gone) = sums_of(&children[range.start..range.end]) else {
             return false;
         };
         if (len - gone.len).checked_add(added.len).is_none() {

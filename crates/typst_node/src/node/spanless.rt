@@ -76,8 +76,16 @@ impl SyntaxNode {
     pub fn spanless_eq(&self, other: &SyntaxNode) -> bool
         ensures { IsTrue result ↔ (plain self.now ≡ plain other.now) }
     {
-        same_warnings(self.node.warnings(), other.node.warnings())
-            && self.node.spanless_eq(&other.node)
+        match &self.node {
+            // It has no warnings, so what equals it has none.
+            Node::Short(kind, text) => {
+                other.node.is_leaf_of(*kind, text.as_str()) && other.node.warnings().is_empty()
+            }
+            Node::Leaf(_) | Node::Inner(_) | Node::Error(_) => {
+                same_warnings(self.node.warnings(), other.node.warnings())
+                    && self.node.spanless_eq(&other.node)
+            }
+        }
     }
 }
 

@@ -1,0 +1,175 @@
+//! What math answers.
+ghost use Rattle.typst_answers.specs.Kept.{Keeps};
+
+use crate::answers::Answers;
+use crate::lists::both;
+use crate::place::Place;
+use crate::subject::Subject;
+use typst_tree::ast::{
+    Math, MathArg, MathArgItem, MathArgs, MathAttach, MathCall, MathDelimited, MathFieldAccess,
+    MathFrac, MathRoot,
+};
+use typst_tree::{SyntaxKind, SyntaxNode};
+
+/// What the accessors of a node or a placeholder answer: nothing for a kind of another module.
+pub fn answer(out: &mut Answers, subject: Subject)
+    ensures kept { Keeps out.old out.new }
+{
+    match subject.kind() {
+        SyntaxKind::Math => math(out, subject.view()),
+        SyntaxKind::MathFieldAccess => math_field_access(out, subject.view()),
+        SyntaxKind::MathCall => math_call(out, subject.view()),
+        SyntaxKind::MathArgs => math_args(out, subject.view()),
+        SyntaxKind::MathDelimited => math_delimited(out, subject.view()),
+        SyntaxKind::MathAttach => math_attach(out, subject.view()),
+        SyntaxKind::MathFrac => math_frac(out, subject.view()),
+        SyntaxKind::MathRoot => math_root(out, subject.view()),
+        _ => {}
+    }
+}
+
+fn math(out: &mut Answers, math: Math)
+    ensures kept { Keeps out.old out.new }
+{
+    out.expr_list(math.exprs(), math.exprs(), math.exprs());
+    out.shown("was_deparenthesized", math.was_deparenthesized());
+}
+
+fn math_field_access(out: &mut Answers, access: MathFieldAccess)
+    ensures kept { Keeps out.old out.new }
+{
+    out.view("target", access.target());
+    out.view("field", access.field());
+}
+
+fn math_call(out: &mut Answers, call: MathCall)
+    ensures kept { Keeps out.old out.new }
+{
+    out.view("callee", call.callee());
+    out.view("args", call.args());
+}
+
+fn math_args(out: &mut Answers, args: MathArgs)
+    ensures kept { Keeps out.old out.new }
+{
+    content_items(out, args);
+    arg_items(out, args);
+}
+
+fn content_items(out: &mut Answers, args: MathArgs)
+    ensures kept { Keeps out.old out.new }
+{
+    match both(
+        out.alloc,
+        args.content_items(),
+        args.content_items(),
+        args.content_items(),
+    ) {
+        Ok(ends) => {
+            math_content_items(out, &ends.items);
+            out.warn_of(ends.agree);
+        }
+        Err(error) => out.note(Err(error)),
+    }
+}
+
+fn arg_items(out: &mut Answers, args: MathArgs)
+    ensures kept { Keeps out.old out.new }
+{
+    match args.arg_items().collect::<Vec<MathArg>>(out.alloc) {
+        Ok(items) => math_arg_items(out, &items),
+        Err(error) => out.note(Err(error)),
+    }
+}
+
+fn math_content_items(out: &mut Answers, items: &[MathArgItem])
+    ensures kept { Keeps out.old out.new }
+{
+    out.begin("content_items");
+    out.put("[");
+    for (index, item) in items.iter().enumerate() {
+        out.put_comma(index);
+        math_arg_item(out, *item);
+    }
+    out.put("]");
+    out.end();
+}
+
+fn math_arg_items(out: &mut Answers, items: &[MathArg])
+    ensures kept { Keeps out.old out.new }
+{
+    out.begin("arg_items");
+    out.put("[");
+    for (index, item) in items.iter().enumerate() {
+        out.put_comma(index);
+        math_arg(out, *item);
+    }
+    out.put("]");
+    out.end();
+}
+
+fn math_arg(out: &mut Answers, item: MathArg)
+    ensures kept { Keeps out.old out.new }
+{
+    let end = if item.ends_in_semicolon {
+        ", true)"
+    } else {
+        ", false)"
+    };
+    out.put("(");
+    out.put_view(item.arg);
+    out.put(end);
+}
+
+fn math_arg_item(out: &mut Answers, item: MathArgItem)
+    ensures kept { Keeps out.old out.new }
+{
+    match item {
+        MathArgItem::Arg(arg) => out.put_wrapped("Arg", arg),
+        MathArgItem::Space(space) => out.put_wrapped("Space", space),
+        MathArgItem::Comma(c, node) => token(out, "Comma", c, node),
+        MathArgItem::Semicolon(c, node) => token(out, "Semicolon", c, node),
+        MathArgItem::LeftParen(c, node) => token(out, "LeftParen", c, node),
+        MathArgItem::RightParen(c, node) => token(out, "RightParen", c, node),
+    }
+}
+
+fn token(out: &mut Answers, name: &str, c: char, node: &SyntaxNode)
+    ensures kept { Keeps out.old out.new }
+{
+    let alloc = out.alloc;
+    out.put_made(format!(in alloc; "{name}({c:?}, "));
+    out.put_place(Place::of_node(node));
+    out.put(")");
+}
+
+fn math_delimited(out: &mut Answers, delimited: MathDelimited)
+    ensures kept { Keeps out.old out.new }
+{
+    out.expr_view("open", delimited.open());
+    out.view("body", delimited.body());
+    out.expr_view("close", delimited.close());
+}
+
+fn math_attach(out: &mut Answers, attach: MathAttach)
+    ensures kept { Keeps out.old out.new }
+{
+    out.expr_view("base", attach.base());
+    out.expr_option("bottom", attach.bottom());
+    out.expr_option("top", attach.top());
+    out.option("primes", attach.primes());
+}
+
+fn math_frac(out: &mut Answers, frac: MathFrac)
+    ensures kept { Keeps out.old out.new }
+{
+    out.expr_view("num", frac.num());
+    out.expr_view("denom", frac.denom());
+}
+
+fn math_root(out: &mut Answers, root: MathRoot)
+    ensures kept { Keeps out.old out.new }
+{
+    out.number("index", root.index());
+    out.expr_view("radicand", root.radicand());
+}
