@@ -16,10 +16,10 @@ A body is refused only by a failure of its own: a goal of that very function tha
 own proof files that isn't a name which the edit took away. What a function owes rests on the contracts of those that it
 calls, and not on their bodies, so edits of many functions stand in one check: that a function calls one that isn't proved
 says nothing of it, and takes nothing from its own failure. So the functions that no edit of a batch changes stand there with
-`unreachable!()` for a body, whose one goal fails at once. No batch has two edits of a function or of a cycle, and
-each has a control, a right body, which must be proved. What a batch doesn't decide is tried again, apart from all that the
-function may call, whose bodies are then as they are, and at last alone, with every body; what isn't decided then is told as
-not judged, which fails.
+`unreachable!()` for a body and a proof that is refused at once. No batch has two edits of a function or of a cycle, and each
+has a control, a right body, which must be proved. What a batch doesn't decide is tried again, apart from all that the function
+may call, whose bodies are then as they are, and at last alone, with every body; what isn't decided then is told as not judged,
+which fails.
 """
 import argparse
 import re
@@ -45,6 +45,13 @@ VANISHED = re.compile(r"has no field|is not in scope|has no `|was not admitted")
 REFUSED = ("goal", "proof file")  # the two ways of a failure of its own
 UNSEEN = re.compile(r"[=!<>]=|[?+*/<>-]|\bfor\b")  # what may call a method of a trait that the body doesn't name
 CALL = re.compile(r"\b[a-z]\w*(?:::<[^;]*?>)?\(")
+# What an emptied function has for a proof: it is refused at once, so that the prover neither searches for its goal nor offers an
+# answer for it. The name that isn't there tells of a function that got this by mistake, which no verdict then rests on.
+EMPTIED = """use {module}.Goals as goal
+
+pub unreachable-requires : goal.unreachable-requires
+unreachable-requires = emptied
+"""
 
 
 def needs_of(top):
@@ -91,11 +98,22 @@ class Room:
             if it.name in names:
                 Path(it.folder, "out/rlib/stamp").write_text(it.stamp())
 
-    def checked(self, hunks, emptied=(), only=()):
+    def prove_nothing(self, function, paths):
+        """Gives an emptied function, in the place of its proof, one that is refused at once."""
+        for folder in function.proof_folders(self.crate / "proofs"):
+            shutil.rmtree(folder)
+        for path in paths:
+            crate, *parts = path.split("::")
+            folder = self.crate.joinpath("proofs", *parts)
+            if not folder.exists():  # else it may be the proof of another
+                folder.mkdir(parents=True)
+                (folder / "Answers.antt").write_text(EMPTIED.format(module=".".join(["Rattle", crate, "proofs", *parts])))
+
+    def checked(self, hunks, emptied, only=()):
         """What the check says of each function, and the errors in the files below proofs/; nothing where the prover wasn't reached.
 
-        Emptied functions have `unreachable!()` for a body, and no proof files. With paths in `only` it says nothing but of these
-        functions and of those that they call."""
+        Emptied functions, each with the paths that it may have, have `unreachable!()` for a body, and a proof that is refused at
+        once. With paths in `only` it says nothing but of these functions and of those that they call."""
         for part in ("src", "specs", "proofs"):
             shutil.rmtree(self.crate / part, ignore_errors=True)
             if (self.source / part).is_dir():
@@ -103,9 +121,8 @@ class Room:
         if (self.source / "out/incremental").is_dir():  # what is kept of right bodies, also after a check of wrong ones
             shutil.rmtree(self.crate / "out/incremental", ignore_errors=True)
             shutil.copytree(self.source / "out/incremental", self.crate / "out/incremental")
-        for it in emptied:
-            for folder in it.proof_folders(self.crate / "proofs"):
-                shutil.rmtree(folder)
+        for function, paths in emptied.items():
+            self.prove_nothing(function, paths)
         hunks = [*hunks, *(Hunk(it.file, it.body, it.end - 1, " unreachable!() ") for it in emptied)]
         for file in {it.file for it in hunks}:
             text = (self.crate / file).read_text()
@@ -200,18 +217,23 @@ class Judge:
         return batch, waiting, self.control(batch)
 
     def emptied(self, batch, control, tries):
-        """The functions whose bodies the batch's verdicts don't ask for: first all others, then all that they may not call, then none."""
+        """The functions whose bodies the batch's verdicts don't ask for, with the paths that they may have: first all others, then all
+        that they may not call, then none."""
         if not control or tries > 1:
-            return []
+            return {}
         asked = set().union(*(it.functions for it in batch))
         asked |= {control}.union(*(self.reached.get(it, set()) for it in (asked if tries else ()))) | self.reached.get(control, set())
         inner = {b for a in self.functions for b in self.functions if a.file == b.file and a.start < b.start < a.end}
-        return [it for it in self.functions if it.can_be_emptied and it not in asked | inner]
+        return {it: self.ways_to(it) for it in self.functions if it.can_be_emptied and it not in asked | inner}
+
+    def ways_to(self, function):
+        """The paths of this function, as the prover spoke of it or else as it may."""
+        name = self.room.crate.name
+        return function.paths(name, self.known) or function.guessed(name, self.types)
 
     def named(self, asked):
         """The paths of these functions, as the prover spoke of them or else as it may; nothing where one has none."""
-        name = self.room.crate.name
-        found = [it.paths(name, self.known) or it.guessed(name, self.types) for it in asked if it]
+        found = [self.ways_to(it) for it in asked if it]
         return [path for paths in found for path in paths] if all(found) else []
 
     def try_batch(self, batch, control, tries):
