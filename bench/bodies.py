@@ -36,7 +36,7 @@ from pathlib import Path
 from bodies_sources import Hunk, blanked, edits_of, functions, placed, reach, types
 
 TOP = Path(__file__).resolve().parent.parent
-SAID = re.compile(r"^fn (\S+): (.*)$", re.M)
+SAID = re.compile(r"fn (\S+): (.*)")
 ERRORS = re.compile(r"^\./proofs/(\S+?\.antt):\d+:\d+: error: (.*)", re.M)
 REACHED = re.compile(r"^(?:logic=(?:not-)?proved|only=\d)", re.M)
 GOAL = "`search` did not prove `"
@@ -45,12 +45,18 @@ VANISHED = re.compile(r"has no field|is not in scope|has no `|was not admitted")
 REFUSED = ("goal", "proof file")  # the two ways of a failure of its own
 UNSEEN = re.compile(r"[=!<>]=|[?+*/<>-]|\bfor\b")  # what may call a method of a trait that the body doesn't name
 CALL = re.compile(r"\b[a-z]\w*(?:::<[^;]*?>)?\(")
-# What an emptied function has for a proof: it is refused at once, so that the prover neither searches for its goal nor offers an
-# answer for it. The name that isn't there tells of a function that got this by mistake, which no verdict then rests on.
+NOTE = re.compile(r"note: src/\S+?:\d+:\d+: .*?\(`([^`]+)`\)(.*gave up at one of its limits)?")  # a goal that is left
+# What an emptied function has for a proof: it is refused at once, so that the prover doesn't search for its goal.
 EMPTIED = """use {module}.Goals as goal
 
 pub unreachable-requires : goal.unreachable-requires
-unreachable-requires = emptied
+unreachable-requires = unnamed
+"""
+# What a function that is judged has in its proof besides: something that is refused. The prover searches for its goals as before
+# and tells those that are left, but leaves out its second run, in which it would offer answers for them.
+MARK = """
+judged : unnamed
+judged = unnamed
 """
 
 
@@ -98,22 +104,35 @@ class Room:
             if it.name in names:
                 Path(it.folder, "out/rlib/stamp").write_text(it.stamp())
 
+    def folder(self, path):
+        """The folder of the proof of the function with this path."""
+        return self.crate.joinpath("proofs", *path.split("::")[1:])
+
     def prove_nothing(self, function, paths):
         """Gives an emptied function, in the place of its proof, one that is refused at once."""
         for folder in function.proof_folders(self.crate / "proofs"):
             shutil.rmtree(folder)
         for path in paths:
-            crate, *parts = path.split("::")
-            folder = self.crate.joinpath("proofs", *parts)
+            folder = self.folder(path)
             if not folder.exists():  # else it may be the proof of another
                 folder.mkdir(parents=True)
-                (folder / "Answers.antt").write_text(EMPTIED.format(module=".".join(["Rattle", crate, "proofs", *parts])))
+                module = path.replace("::", ".proofs.", 1).replace("::", ".")
+                (folder / "Answers.antt").write_text(EMPTIED.format(module=f"Rattle.{module}"))
 
-    def checked(self, hunks, emptied, only=()):
+    def mark(self, function, paths):
+        """Adds to the proof of a function something that is refused."""
+        for folder in [*function.proof_folders(self.crate / "proofs")] or [self.folder(path) for path in paths]:
+            if not (folder / "Proof.antt").exists():
+                folder.mkdir(parents=True, exist_ok=True)
+                with (folder / "Answers.antt").open("a") as file:
+                    file.write(MARK)
+
+    def checked(self, hunks, emptied, marked, only=()):
         """What the check says of each function, and the errors in the files below proofs/; nothing where the prover wasn't reached.
 
         Emptied functions, each with the paths that it may have, have `unreachable!()` for a body, and a proof that is refused at
-        once. With paths in `only` it says nothing but of these functions and of those that they call."""
+        once; of marked ones it says by which goals they fail, and never that they are proved. With paths in `only` it says nothing but of these functions
+        and of those that they call."""
         for part in ("src", "specs", "proofs"):
             shutil.rmtree(self.crate / part, ignore_errors=True)
             if (self.source / part).is_dir():
@@ -123,6 +142,8 @@ class Room:
             shutil.copytree(self.source / "out/incremental", self.crate / "out/incremental")
         for function, paths in emptied.items():
             self.prove_nothing(function, paths)
+        for function, paths in marked.items():
+            self.mark(function, paths)
         hunks = [*hunks, *(Hunk(it.file, it.body, it.end - 1, " unreachable!() ") for it in emptied)]
         for file in {it.file for it in hunks}:
             text = (self.crate / file).read_text()
@@ -132,7 +153,18 @@ class Room:
         ran = subprocess.run(words, cwd=self.crate, capture_output=True, text=True)
         self.text = ran.stdout + ran.stderr
         reached = REACHED.search(self.text)
-        return (dict(SAID.findall(self.text)), ERRORS.findall(self.text)) if reached else ({}, [])
+        return (said_in(self.text), ERRORS.findall(self.text)) if reached else ({}, [])
+
+
+def said_in(text):
+    """What a check says of each function, with the goals that are left, which notes before it tell."""
+    said, left = {}, ""
+    for line in text.split("\n"):
+        if note := NOTE.match(line):
+            left += f"; {GOAL}{note[1]}{' at a limit' * bool(note[2])}`"
+        elif function := SAID.match(line):
+            said[function[1]], left = function[2].partition(GOAL)[0] + left, ""
+    return said
 
 
 def is_part(it, path):
@@ -226,6 +258,14 @@ class Judge:
         inner = {b for a in self.functions for b in self.functions if a.file == b.file and a.start < b.start < a.end}
         return {it: self.ways_to(it) for it in self.functions if it.can_be_emptied and it not in asked | inner}
 
+    def marked(self, batch, control, tries):
+        """The functions of the batch that a mark can be put on, with the paths that they may have; none in the last try, which may
+        end in a proof."""
+        asked = set().union(*(it.functions for it in batch)) if tries < 2 else ()
+        fits = {it: self.ways_to(it) for it in asked if it.name and not it.cycle and not it.name.isupper()}
+        kept = {*self.ways_to(control)} if control else set()
+        return {it: paths for it, paths in fits.items() if not kept & {*paths}}
+
     def ways_to(self, function):
         """The paths of this function, as the prover spoke of it or else as it may."""
         name = self.room.crate.name
@@ -244,9 +284,10 @@ class Judge:
         name = self.room.crate.name
         hunks += [neutral] if neutral else []
         only = self.named(set().union(*(it.functions for it in batch)) | {control})
-        said, errors = self.room.checked(hunks, emptied, only)
+        marked = self.marked(batch, control, tries)
+        said, errors = self.room.checked(hunks, emptied, marked, only)
         if not said and only:  # a guessed path may be none
-            said, errors = self.room.checked(hunks, emptied)
+            said, errors = self.room.checked(hunks, emptied, marked)
         self.known |= said
         path = control and control.path(name, said)
         sound = bool(path) and said[path].startswith("proved")
@@ -278,7 +319,7 @@ class Judge:
         for file, text in errors:
             if file.rpartition("/")[0].replace("/+", "/") in own or any(cycle in f"/{file}" for cycle in cycles):
                 lines.append(f"error: {text}")
-        return sorted({goal or declaration for line in lines for goal, declaration in NAMED.findall(line)})
+        return sorted({goal or declaration for line in lines for goal, declaration in NAMED.findall(line)} - {"judged"})
 
     def unowned(self, batch, emptied, said, errors):
         """Tells what fails of its own with no edit in it."""
