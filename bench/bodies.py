@@ -131,8 +131,8 @@ class Room:
         """What the check says of each function, and the errors in the files below proofs/; nothing where the prover wasn't reached.
 
         Emptied functions, each with the paths that it may have, have `unreachable!()` for a body, and a proof that is refused at
-        once; of marked ones it says by which goals they fail, and never that they are proved. With paths in `only` it says nothing but of these functions
-        and of those that they call."""
+        once; of marked ones it says by which goals they fail, and never that they are proved. With paths in `only` it says nothing
+        but of these functions and of those that they call."""
         for part in ("src", "specs", "proofs"):
             shutil.rmtree(self.crate / part, ignore_errors=True)
             if (self.source / part).is_dir():
@@ -423,9 +423,8 @@ def report(name, given, proved):
 
 
 def judge_all(given):
-    """Judges the crates, the lowest first; returns whether all is well."""
-    needs = needs_of(TOP)
-    names = sorted(given.crates, key=lambda it: len(below(it, needs)))
+    """Judges the crates, those with the most edits first; returns whether all is well."""
+    names = sorted(given.crates, key=lambda it: -len([*(TOP / "crates" / it).glob("wrong-bodies/*.edit")]))
     with tempfile.TemporaryDirectory(prefix="proved-") as place, ThreadPoolExecutor(given.lanes) as pool:
         proved = Proved(given.beside, place) if given.beside else None
         well = [*pool.map(lambda name: report(name, given, proved), names)]
