@@ -264,7 +264,9 @@ class Judge:
         asked = set().union(*(it.functions for it in batch)) if tries < 2 else ()
         fits = {it: self.ways_to(it) for it in asked if it.name and not it.cycle and not it.name.isupper()}
         kept = {*self.ways_to(control)} if control else set()
-        return {it: paths for it, paths in fits.items() if not kept & {*paths}}
+        # The files of a function that calls itself stand elsewhere, and are found where there are some.
+        calls_itself = lambda it: it in self.reached.get(it, ())
+        return {it: [] if calls_itself(it) else paths for it, paths in fits.items() if not kept & {*paths}}
 
     def ways_to(self, function):
         """The paths of this function, as the prover spoke of it or else as it may."""
