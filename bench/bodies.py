@@ -43,6 +43,7 @@ GOAL = "`search` did not prove `"
 NAMED = re.compile(r"`search` did not prove `([^`]+)`|error: `([^`]+)`")  # a goal, or a declaration of a proof file
 VANISHED = re.compile(r"has no field|is not in scope|has no `|was not admitted")  # the edit took a name away: it says little
 REFUSED = ("goal", "proof file")  # the two ways of a failure of its own
+OF_CLAUSE = re.compile(r"\breturns\b|loop-.*-(?:preserved|init)|invariant_of|-bits")  # goals of what the function promises
 UNSEEN = re.compile(r"[=!<>]=|[?+*/<>-]|\bfor\b")  # what may call a method of a trait that the body doesn't name
 CALL = re.compile(r"\b[a-z]\w*(?:::<[^;]*?>)?\(")
 NOTE = re.compile(r"note: src/\S+?:\d+:\d+: .*?\(`([^`]+)`\)(.*gave up at one of its limits)?")  # a goal that is left
@@ -323,6 +324,12 @@ class Judge:
                 lines.append(f"error: {text}")
         return sorted({goal or declaration for line in lines for goal, declaration in NAMED.findall(line)} - {"judged"})
 
+    def tell_conditions(self):
+        """Tells which bodies fall by no goal of what their function promises, but by a condition of what it calls or a range."""
+        for name, goals in sorted(self.goals.items()):
+            if not any(OF_CLAUSE.search(goal) for goal in goals):
+                self.say(f"  {self.room.crate.name}/{name}: falls by no clause, but at {', '.join(goals)}")
+
     def unowned(self, batch, emptied, said, errors):
         """Tells what fails of its own with no edit in it."""
         name = self.room.crate.name
@@ -404,6 +411,7 @@ def judged(top, name, given, say, proved=None):
         bad += [f"{name}/{it}: NOT REFUSED" for it, way in judge.verdicts.items() if way == "not refused"]
         if given.goals:
             say("\n".join(f"  {name}/{it}: falls at {', '.join(judge.goals[it])}" for it in sorted(judge.goals)))
+        judge.tell_conditions()
         return judge.verdicts, bad, room.checks
 
 
