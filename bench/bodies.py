@@ -164,7 +164,8 @@ def said_in(text):
         if note := NOTE.match(line):
             left += f"; {GOAL}{note[1]}{' at a limit' * bool(note[2])}`"
         elif function := SAID.match(line):
-            said[function[1]], left = function[2].partition(GOAL)[0] + left, ""
+            path, words = function.groups()
+            said[path], left = words.partition(GOAL)[0] + left if left else words, ""
     return said
 
 
