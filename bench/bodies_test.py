@@ -75,6 +75,19 @@ pub fn answered() -> u8
     nine
 }
 
+pub fn kept() -> u8
+    ensures { result ≡ 10 }
+{
+    let ten = 10;
+    ten
+}
+
+pub fn down(n: u8) -> u8
+    ensures { result ≡ 0 }
+{
+    if n == 0 { 0 } else { down(n - 1) }
+}
+
 pub fn renamed(is_high: bool) -> u8
     ensures { result ≡ 8 }
 {
@@ -113,12 +126,20 @@ abbrev pub decreases-is_odd : goal.decreases-is_odd
 decreases-is_odd l = l.n
 """
 
+MEASURE = """use Rattle.made_up.proofs.+down.Given as goal
+
+abbrev pub decreases-down : goal.decreases-down
+decreases-down l = l.n
+"""
+
 FILES = {
     "src/lib.rt": LIB,
     "proofs/Lib.antt": "",
     "proofs/answered/Answers.antt": ANSWER.replace("NAME", "answered"),
+    "proofs/kept/Answers.antt": ANSWER.replace("NAME", "kept"),
     "proofs/renamed/Answers.antt": ANSWER.replace("NAME", "renamed"),
     "proofs/+parity/Invariants.antt": MEASURES,
+    "proofs/+down/Invariants.antt": MEASURE,
 }
 
 # name: function (or none), old text, new text, verdict
@@ -133,6 +154,8 @@ EDITS = {
     "what_no_contract_forbids": ("", "let any = 7;", "let any = 8;", "not refused"),
     "what_does_not_compile": ("", "let any = 7;", "let any = nothing;", "not judged"),
     "a_wrong_answer_by_a_proof_file": ("", "let nine = 9;", "let nine = 8;", "proof file"),
+    "a_right_answer_by_a_proof_file": ("", "let ten = 10;", "let ten = 5 + 5;", "not refused"),
+    "a_wrong_body_that_calls_itself": ("down", "{ 0 }", "{ 1 }", "goal"),
     "a_right_body_without_the_goal_of_a_proof": ("renamed", "8 + 0", "if is_high { 8 } else { 8 }", "not judged"),
     "a_wrong_member_of_a_cycle": ("is_even", "{ true }", "{ false }", "goal"),
     "a_right_member_of_a_cycle": ("is_odd", "{ false }", "{ n != 0 }", "not refused"),
