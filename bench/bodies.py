@@ -16,10 +16,11 @@ A body is refused only by a failure of its own: a goal of that very function tha
 own proof files that isn't a name which the edit took away. What a function owes rests on the contracts of those that it
 calls, and not on their bodies, so edits of many functions stand in one check: that a function calls one that isn't proved
 says nothing of it, and takes nothing from its own failure. So the functions that no edit of a batch changes stand there with
-`unreachable!()` for a body and a proof that is refused at once. No batch has two edits of a function or of a cycle, and each
-has a control, a right body, which must be proved. What a batch doesn't decide is tried again, apart from all that the function
-may call, whose bodies are then as they are, and at last alone, with every body; what isn't decided then is told as not judged,
-which fails.
+`unreachable!()` for a body and a proof that is refused at once. Further edits of one function stand in copies of it under other
+names, which have copies of its proof: then a right copy stands beside them, which may not fail. Where a copy may not mean the
+same, as of a trait's method or of one in a cycle, no batch has two edits of a function. Each batch has a control, a right body,
+which must be proved. What a batch doesn't decide is tried again, apart from all that the function may call, whose bodies are then
+as they are, and at last alone, with every body; what isn't decided then is told as not judged, which fails.
 """
 import argparse
 import re
@@ -33,7 +34,7 @@ import time
 from concurrent.futures import ThreadPoolExecutor
 from pathlib import Path
 
-from bodies_sources import Hunk, blanked, edits_of, functions, placed, reach, types
+from bodies_sources import Hunk, blanked, calls_itself, copied, edits_of, functions, in_copy, placed, reach, types
 
 TOP = Path(__file__).resolve().parent.parent
 SAID = re.compile(r"fn (\S+): (.*)")
@@ -128,12 +129,20 @@ class Room:
                 with (folder / "Answers.antt").open("a") as file:
                     file.write(MARK)
 
-    def checked(self, hunks, emptied, marked, only=()):
+    def prove_copies(self, copies):
+        """Gives copies of functions the proofs of these."""
+        for made, original in copies.items():
+            for folder in original.proof_folders(self.crate / "proofs"):
+                module = ".".join(folder.relative_to(self.crate).parent.parts)
+                for file in shutil.copytree(folder, folder.with_name(made.name)).glob("*.antt"):
+                    file.write_text(file.read_text().replace(f".{module}.{original.name}.", f".{module}.{made.name}."))
+
+    def checked(self, hunks, copies, emptied, marked, only=()):
         """What the check says of each function, and the errors in the files below proofs/; nothing where the prover wasn't reached.
 
-        Emptied functions, each with the paths that it may have, have `unreachable!()` for a body, and a proof that is refused at
-        once; of marked ones it says by which goals they fail, and never that they are proved. With paths in `only` it says nothing
-        but of these functions and of those that they call."""
+        Copies have the proofs of their originals. Emptied functions, each with the paths that it may have, have `unreachable!()`
+        for a body, and a proof that is refused at once; of marked ones it says by which goals they fail, and never that they are
+        proved. With paths in `only` it says nothing but of these functions and of those that they call."""
         for part in ("src", "specs", "proofs"):
             shutil.rmtree(self.crate / part, ignore_errors=True)
             if (self.source / part).is_dir():
@@ -141,6 +150,7 @@ class Room:
         if (self.source / "out/incremental").is_dir():  # what is kept of right bodies, also after a check of wrong ones
             shutil.rmtree(self.crate / "out/incremental", ignore_errors=True)
             shutil.copytree(self.source / "out/incremental", self.crate / "out/incremental")
+        self.prove_copies(copies)
         for function, paths in emptied.items():
             self.prove_nothing(function, paths)
         for function, paths in marked.items():
@@ -154,7 +164,8 @@ class Room:
         ran = subprocess.run(words, cwd=self.crate, capture_output=True, text=True)
         self.text = ran.stdout + ran.stderr
         reached = REACHED.search(self.text)
-        return (said_in(self.text), ERRORS.findall(self.text)) if reached else ({}, [])
+        errors = [(file, text) for file, text in ERRORS.findall(self.text) if not text.startswith("`judged`")]
+        return (said_in(self.text), errors) if reached else ({}, [])
 
 
 def said_in(text):
@@ -206,6 +217,8 @@ class Judge:
 
     def clash(self, one, two, is_strict):
         """Whether two edits may not stand in one check."""
+        if one.copied or two.copied:
+            return False
         cycles = {it.cycle for it in one.functions} & {it.cycle for it in two.functions} - {""}
         lines = any(a.file == b.file and a.start <= b.end and b.start <= a.end for a in one.hunks for b in two.hunks)
         calls = is_strict and any(
@@ -214,16 +227,25 @@ class Judge:
         return bool(one.functions & two.functions or cycles) or lines or calls
 
     def batches(self, edits, is_strict):
-        """The edits in few batches in which none bears on another."""
+        """The edits in few batches in which none bears on another; at first a further one of a function stands in a copy of it."""
         made = []
         for edit in edits:
             for batch in made:
-                if not any(self.clash(edit, it, is_strict) for it in batch):
-                    batch.append(edit)
+                against = [it for it in batch if self.clash(edit, it, is_strict)]
+                copy = None if is_strict or not against else self.copy(edit, against, batch)
+                if copy or not against:
+                    batch.append(copy or edit)
                     break
             else:
                 made.append([edit])
         return made
+
+    def copy(self, edit, against, batch):
+        """The edit in a copy of its function, if it can't stand in the batch only since another one changes that function."""
+        if any(it.functions != edit.functions for it in against):
+            return None
+        count = sum(it.original in edit.functions for it in batch)
+        return in_copy(self.room.source, edit, f"{next(iter(edit.functions)).name}_copy{count}")
 
     def control(self, batch):
         """A function that no edit of the batch changes, and that calls none that one changes, with a body that means the same."""
@@ -244,11 +266,14 @@ class Judge:
         control = self.control(batch)
         if control or len(batch) == 1:
             return batch, [], control
-        leaves = [it for it in batch if not any(self.reached.get(f) or f.cycle for f in it.functions)]
-        leaves.sort(key=lambda it: any(self.hides_calls(f) for f in it.functions))
-        waiting = leaves[:1] or batch[len(batch) // 2 :]
-        batch = [it for it in batch if it not in waiting]
-        return batch, waiting, self.control(batch)
+        changed = {function for it in batch for function in ({it.original} if it.copied else it.functions)}
+        order = sorted(changed, key=lambda it: (self.hides_calls(it), it.file, it.start))
+        splits = [[it for it in batch if it.original == f or f in it.functions] for f in order]
+        for waiting in [*sorted(splits, key=len), batch[len(batch) // 2 :]]:
+            rest = [it for it in batch if it not in waiting]
+            if control := self.control(rest):
+                break
+        return rest, waiting, control
 
     def emptied(self, batch, control, tries):
         """The functions whose bodies the batch's verdicts don't ask for, with the paths that they may have: first all others, then all
@@ -260,15 +285,16 @@ class Judge:
         inner = {b for a in self.functions for b in self.functions if a.file == b.file and a.start < b.start < a.end}
         return {it: self.ways_to(it) for it in self.functions if it.can_be_emptied and it not in asked | inner}
 
-    def marked(self, batch, control, tries):
-        """The functions of the batch that a mark can be put on, with the paths that they may have; none in the last try, which may
-        end in a proof."""
-        asked = set().union(*(it.functions for it in batch)) if tries < 2 else ()
+    def marked(self, batch, right, control, tries):
+        """The functions of the batch and the right copies that a mark can be put on, with the paths that they may have; none in
+        the last try, which may end in a proof."""
+        asked = set(right).union(*(it.functions for it in batch)) if tries < 2 else ()
         fits = {it: self.ways_to(it) for it in asked if it.name and not it.cycle and not it.name.isupper()}
         kept = {*self.ways_to(control)} if control else set()
-        # The files of a function that calls itself stand elsewhere, and are found where there are some.
-        calls_itself = lambda it: it in self.reached.get(it, ())
-        return {it: [] if calls_itself(it) else paths for it, paths in fits.items() if not kept & {*paths}}
+        # The files of a function that calls itself stand elsewhere, and are found where there are some. A file in a wrong place
+        # stops a check, whose batch is halved then.
+        elsewhere = {it for it in fits if calls_itself(self.room.source, it)}
+        return {it: [] if it in elsewhere else paths for it, paths in fits.items() if not kept & {*paths}}
 
     def ways_to(self, function):
         """The paths of this function, as the prover spoke of it or else as it may."""
@@ -280,33 +306,54 @@ class Judge:
         found = [self.ways_to(it) for it in asked if it]
         return [path for paths in found for path in paths] if all(found) else []
 
+    def checked(self, batch, right, control, tries):
+        """What the check of a batch says, with the right copies beside it, and which functions are emptied there or copies."""
+        hunks = [*(it for edit in batch for it in edit.hunks), *(hunk for _, hunk in right.values())]
+        hunks += [Hunk(control.file, control.body, control.body, " let _ = 0u8;")] if control else []
+        made_right = {made: original for original, (made, _) in right.items()}
+        copies = made_right | {made: edit.original for edit in batch if edit.copied for made in edit.functions}
+        emptied, marked = self.emptied(batch, control, tries), self.marked(batch, made_right, control, tries)
+        only = self.named({control, *made_right}.union(*(it.functions for it in batch)))
+        said, errors = self.room.checked(hunks, copies, emptied, marked, only)
+        if not said and only:  # a guessed path may be none
+            said, errors = self.room.checked(hunks, copies, emptied, marked)
+        self.known |= said
+        return said, errors, {*emptied, *copies}
+
     def try_batch(self, batch, control, tries):
         """Checks the batch, settles what it decides, and returns the edits that are still open."""
-        neutral = Hunk(control.file, control.body, control.body, " let _ = 0u8;") if control else None
-        hunks = [it for edit in batch for it in edit.hunks]
-        emptied = self.emptied(batch, control, tries)
+        right = self.right_copies(batch)
+        said, errors, others = self.checked(batch, right, control, tries)
         name = self.room.crate.name
-        hunks += [neutral] if neutral else []
-        only = self.named(set().union(*(it.functions for it in batch)) | {control})
-        marked = self.marked(batch, control, tries)
-        said, errors = self.room.checked(hunks, emptied, marked, only)
-        if not said and only:  # a guessed path may be none
-            said, errors = self.room.checked(hunks, emptied, marked)
-        self.known |= said
         path = control and control.path(name, said)
         sound = bool(path) and said[path].startswith("proved")
         self.is_reached = bool(said)
         if said and control and not sound:
             self.spoiled.add(control)
-        ways = {edit: self.way(edit, said, errors) for edit in batch if sound}
+        doubtful = {it for it, (made, _) in right.items() if self.fails(made, said, errors)}
+        ways = {edit: self.way(edit, said, errors) for edit in batch if sound and edit.original not in doubtful}
         self.goals |= {it.name: self.fallen(it, said, errors) for it in ways if ways[it] in REFUSED}
         if sound:
-            self.unowned(batch, emptied, said, errors)
-        open_ones = [it for it in batch if ways.get(it) not in (*REFUSED, "proved")]
-        self.verdicts |= {it.name: "not refused" if ways[it] == "proved" else ways[it] for it in batch if it not in open_ones}
+            self.unowned(batch, others, said, errors)
+        decides = {it: REFUSED if it.copied else (*REFUSED, "proved") for it in batch}
+        open_ones = [it.copied or it for it in batch if ways.get(it) not in decides[it]]
+        decided = {it.name: ways[it] for it in batch if ways.get(it) in decides[it]}
+        self.verdicts |= {it: "not refused" if way == "proved" else way for it, way in decided.items()}
         state = "proved" if sound else "NOT proved" if said else "unknown: the prover wasn't reached"
         self.say(f"  {name}: batch of {len(batch)}: {len(batch) - len(open_ones)} judged, control {path or control and control.name} {state}")
         return open_ones, ways, sound
+
+    def right_copies(self, batch):
+        """A right copy, and the hunk that places it, of each function that has a proof of its own and stands in copies: it may not
+        fail, lest the proofs of the others fail since they are copied."""
+        source = self.room.source
+        originals = {it.original for it in batch if it.copied and any(it.original.proof_folders(source / "proofs"))}
+        return {it: copied(source, it, f"{it.name}_copy") for it in originals}
+
+    def fails(self, function, said, errors):
+        """Whether this function fails of its own, or the prover says nothing of it."""
+        path = function.path(self.room.crate.name, said)
+        return not path or outcome(path, function.cycle, said, errors) in (*REFUSED, "names")
 
     def way(self, edit, said, errors):
         """How the functions that the edit changes came out, the strongest first."""
@@ -323,7 +370,7 @@ class Judge:
         for file, text in errors:
             if file.rpartition("/")[0].replace("/+", "/") in own or any(cycle in f"/{file}" for cycle in cycles):
                 lines.append(f"error: {text}")
-        return sorted({goal or declaration for line in lines for goal, declaration in NAMED.findall(line)} - {"judged"})
+        return sorted({goal or declaration for line in lines for goal, declaration in NAMED.findall(line)})
 
     def tell_conditions(self):
         """Tells which bodies fall by no goal of what their function promises, but by a condition of what it calls or a range."""
@@ -331,12 +378,13 @@ class Judge:
             if not any(OF_CLAUSE.search(goal) for goal in goals):
                 self.say(f"  {self.room.crate.name}/{name}: falls by no clause, but at {', '.join(goals)}")
 
-    def unowned(self, batch, emptied, said, errors):
-        """Tells what fails of its own with no edit in it."""
+    def unowned(self, batch, others, said, errors):
+        """Tells what fails of its own with no edit in it, and is none of the others that may."""
         name = self.room.crate.name
-        changed = set(emptied).union(*(it.functions for it in batch))
+        changed = others.union(*(it.functions for it in batch))
         cycles = {it.cycle for it in changed} - {""}
-        paths = {path: it for it in sorted(self.functions, key=lambda it: bool(it.name)) for path in it.paths(name, said)}
+        functions = sorted([*self.functions, *others], key=lambda it: bool(it.name))
+        paths = {path: it for it in functions for path in it.paths(name, said)}
         for path in said:
             it = paths.get(path)
             if "fn" in path.split("::") or it in changed or it and it.cycle in cycles:
@@ -363,7 +411,7 @@ class Judge:
                 again = self.batches(open_ones, True) if tries == 0 else [[it] for it in open_ones]
                 todo += [(it, tries + 1) for it in again]
             elif tries < 2:
-                todo.append((batch, 2))
+                todo.append((open_ones, 2))
             else:
                 self.give_up(open_ones[0], ways.get(open_ones[0]))
 

@@ -1,6 +1,6 @@
 """What the judge of wrong bodies reads in a crate's sources: its functions, its edits, and a guess of who calls whom."""
 import re
-from dataclasses import dataclass
+from dataclasses import dataclass, replace
 from pathlib import Path
 
 HIDDEN = re.compile(r"//[^\n]*|/\*.*?\*/|\"(?:\\.|[^\"\\])*\"|'(?:\\.[^']*|[^'\\\n])'", re.S)
@@ -45,6 +45,11 @@ class Function:
 
     def holds(self, hunk):
         return hunk.file == self.file and self.start < hunk.end and hunk.start < self.end
+
+    @property
+    def can_be_copied(self):
+        """Whether a copy of it under another name means the same: it is a function or a method of its own, and not of a trait's."""
+        return self.can_be_emptied and not self.trait and self.name != "drop"
 
     @property
     def can_be_emptied(self):
@@ -112,6 +117,30 @@ class Edit:
     name: str
     hunks: tuple
     functions: frozenset  # those that it changes
+    copied: "Edit | None" = None  # the edit that stands here in a copy of its function
+    original: Function | None = None  # the function of that edit
+
+
+def copied(crate, function, name, hunks=()):
+    """The function under another name, with these changes, and the hunk that puts it right behind the original."""
+    text = (crate / function.file).read_text()
+    start = function.start
+    while not text[:start].endswith("\n") or re.search(r"[^\s{};]\n$", text[:start]):  # with its attributes
+        start = text.rindex("\n", 0, start - 1) + 1
+    copy = placed(text[start : function.end], [Hunk(it.file, it.start - start, it.end - start, it.new) for it in hunks])
+    copy = copy.replace(f"fn {function.name}", f"fn {name}", 1)
+    return replace(function, name=name), Hunk(function.file, function.end, function.end, f"\n\n{copy}")
+
+
+def in_copy(crate, edit, name):
+    """The edit in a copy of its function that has this name; none where a copy may not mean the same."""
+    function = next(iter(edit.functions))
+    is_inside = all(it.file == function.file and function.start <= it.start and it.end < function.end for it in edit.hunks)
+    has_measure = any(crate.joinpath("proofs").glob(f"**/+{function.name}"))  # it calls itself
+    if len(edit.functions) > 1 or not is_inside or not function.can_be_copied or has_measure:
+        return None
+    made, hunk = copied(crate, function, name, edit.hunks)
+    return Edit(edit.name, (hunk,), frozenset({made}), edit, function)
 
 
 def blanked(text):
@@ -273,6 +302,14 @@ def edits_of(crate, all_functions, bad, only=""):
         except (ValueError, OSError) as error:
             bad.append(f"{crate.name}/{file.stem}: cannot be placed: {error}")
     return found
+
+
+def calls_itself(crate, function):
+    """Whether the function's own body seems to call it again: as a method on itself, its parent or a child, or by its path."""
+    body = blanked((crate / function.file).read_text())[function.body : function.end]
+    owner = "|".join(["self", "Self", "parent", "child", function.subject.split("::")[-1] or "self"])
+    head = rf"\b(?:{owner})(?:\.|::)" if function.subject else r"(?<![.:\w])"
+    return bool(re.search(rf"{head}{function.name}(?:::<[^;]*?>)?\(", body))
 
 
 def reach(crate, all_functions):

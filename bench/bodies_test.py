@@ -72,7 +72,7 @@ pub fn answered() -> u8
     ensures { result ≡ 9 }
 {
     let nine = 9;
-    nine
+    nine + 0
 }
 
 pub fn kept() -> u8
@@ -154,7 +154,9 @@ EDITS = {
     "what_no_contract_forbids": ("", "let any = 7;", "let any = 8;", "not refused"),
     "what_does_not_compile": ("", "let any = 7;", "let any = nothing;", "not judged"),
     "a_wrong_answer_by_a_proof_file": ("", "let nine = 9;", "let nine = 8;", "proof file"),
+    "another_wrong_answer_by_a_proof_file": ("", "nine + 0", "nine - 1", "proof file"),
     "a_right_answer_by_a_proof_file": ("", "let ten = 10;", "let ten = 5 + 5;", "not refused"),
+    "another_right_answer_by_a_proof_file": ("", "let ten = 10;", "let ten = 2 + 8;", "not refused"),
     "a_wrong_body_that_calls_itself": ("down", "{ 0 }", "{ 1 }", "goal"),
     "a_right_body_without_the_goal_of_a_proof": ("renamed", "8 + 0", "if is_high { 8 } else { 8 }", "not judged"),
     "a_wrong_member_of_a_cycle": ("is_even", "{ true }", "{ false }", "goal"),

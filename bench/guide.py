@@ -3,7 +3,7 @@
 
     bench/guide.py
 
-A piece is what stands between ```rust and ```. Its lines must follow one another in a source of crates/typst_guide_tests or of
+A piece is what stands between ```rust and ```. Its lines must follow one another in a source in crates/typst_tree_tests/src/guide or of
 crates/example_*, however far they are indented there. A line `..` stands for lines that are left out.
 """
 import re
@@ -37,7 +37,7 @@ def stands_in(piece, source):
 
 
 def main():
-    files = sorted(TOP.glob("crates/typst_guide_tests/src/*.rt")) + sorted(TOP.glob("crates/example_*/src/*.rt"))
+    files = sorted(TOP.glob("crates/typst_tree_tests/src/guide/*.rt")) + sorted(TOP.glob("crates/example_*/src/*.rt"))
     sources = [file.read_text() for file in files]
     is_well = True
     for name in PAGES:

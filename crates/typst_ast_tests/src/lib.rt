@@ -1,22 +1,11 @@
-//! Tests of `typst_ast`, in a crate of their own, so that the code is proved without them.
-//!
-//! Most are tables: a drawn tree, what it is viewed as, and the words for what is read of the view.
+//! Tests of `typst_atoms` and `typst_ast`, in a crate of their own, so that the code is proved without them.
 #![tactic(auto)]
 
 #[cfg(test)]
-mod alike;
+mod ast;
 #[cfg(test)]
-mod bindings;
-#[cfg(test)]
-mod imports;
-#[cfg(test)]
-mod items;
-#[cfg(test)]
-mod lists;
-#[cfg(test)]
-mod no_parser_makes;
+mod atoms;
 #[cfg(test)]
 mod rows;
-pub mod trees;
 #[cfg(test)]
-mod walk;
+mod trees;

@@ -2,6 +2,7 @@
 use std::alloc::{AllocError, Global};
 use std::fmt::Debug;
 use std::test::Fail;
+use typst_atoms::views as of;
 use typst_node::{AstNode, SyntaxNode};
 
 /// The node's view.
@@ -38,5 +39,13 @@ pub(crate) fn shown<T: Debug + Copy>(alloc: Global, it: Option<T>) -> Result<Str
     match it {
         Some(it) => format!(in alloc; "{it:?}"),
         None => String::from_str(alloc, "-"),
+    }
+}
+
+/// The identifier's text; `-` for none.
+pub(crate) fn got<'a>(view: Option<of::Ident<'a>>) -> &'a str {
+    match view {
+        Some(view) => view.get(),
+        None => "-",
     }
 }

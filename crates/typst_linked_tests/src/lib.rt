@@ -1,13 +1,12 @@
-//! Tests of `typst_linked`, in a crate of their own, so that the code is proved without them.
-//!
-//! Most are tables: a drawn tree, a path to a node of it, what this node is asked, and the words for the answer.
+//! Tests of `typst_linked` and of what it stands on, in a crate of their own, so that the code is proved without them: each crate's
+//! in the module that has its name.
 #![tactic(auto)]
 
 #[cfg(test)]
-mod asking;
+mod base;
 #[cfg(test)]
-mod cursors;
+mod linked;
 #[cfg(test)]
-mod finds;
+mod node;
 #[cfg(test)]
-mod walks;
+mod rows;

@@ -1,9 +1,10 @@
-//! Tests of `typst_tree`, in a crate of their own, so that the code is proved without them.
+//! Tests of `typst_tree`, in a crate of their own, so that the code is proved without them; of its guide's code; and of calls that
+//! find no memory.
 #![tactic(auto)]
 
 #[cfg(test)]
-mod asking;
+mod guide;
 #[cfg(test)]
-mod numbered;
+mod memory;
 #[cfg(test)]
-mod runs;
+mod tree;

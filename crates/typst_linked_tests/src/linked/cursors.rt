@@ -1,5 +1,5 @@
 // The leaf at a cursor.
-use crate::asking::{Ask, Row, assert_rows};
+use crate::linked::asking::{Ask, Row, assert_rows};
 use std::alloc::Global;
 use std::test::Fail;
 use typst_base::SyntaxKind;

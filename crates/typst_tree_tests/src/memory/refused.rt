@@ -1,5 +1,5 @@
 // Calls that are refused memory, each with a little more left than before, until it suffices.
-use crate::scarce::Scarce;
+use crate::memory::scarce::Scarce;
 use std::alloc::Global;
 use std::fs::{self, Files};
 use std::ops::Range;

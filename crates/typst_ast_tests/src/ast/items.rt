@@ -1,5 +1,5 @@
 // What nodes are viewed as.
-use crate::bindings::BINDING;
+use crate::ast::bindings::BINDING;
 use crate::rows::assert_all;
 use crate::trees::{shown, text, view};
 use std::alloc::{AllocError, Global};

@@ -1,5 +1,5 @@
 // What is answered where memory is refused.
-use crate::editing::numbered;
+use crate::guide::editing::numbered;
 use std::test::Fail;
 use typst_tree::session::Reply;
 use typst_tree::{InnerError, ReplaceError, Span};

@@ -1,5 +1,5 @@
 // From a cursor to a view, and from a view to its place.
-use crate::editing::numbered;
+use crate::guide::editing::numbered;
 use std::test::Fail;
 use typst_tree::ast::{AstNode, Heading, Text};
 use typst_tree::session::Reply;

@@ -1,6 +1,6 @@
 // Spans that synthesis gives.
-use crate::diagnostics::listed;
-use crate::numbering::is_of;
+use crate::node::diagnostics::listed;
+use crate::node::numbering::is_of;
 use crate::rows::assert_all;
 use std::alloc::{AllocError, Global};
 use std::test::Fail;

@@ -1,5 +1,5 @@
 // Numbering and editing a tree.
-use crate::building::document;
+use crate::guide::building::document;
 use std::alloc::Global;
 use std::ops::Range;
 use std::test::Fail;

@@ -1,6 +1,6 @@
 // Replacements, and the numbers after them.
-use crate::numbering::is_of;
-use crate::reading::diagnosed;
+use crate::node::numbering::is_of;
+use crate::node::reading::diagnosed;
 use std::alloc::Global;
 use std::ops::Range;
 use std::test::Fail;

@@ -1,6 +1,6 @@
 // Searches by spans.
-use crate::asking::{Ask, Row, assert_rows, place, span_of};
-use crate::cursors::thousand_texts;
+use crate::linked::asking::{Ask, Row, assert_rows, place, span_of};
+use crate::linked::cursors::thousand_texts;
 use std::alloc::{AllocError, Global};
 use std::num::NonZeroU64;
 use std::test::Fail;

@@ -1,5 +1,5 @@
 // Runs of edits and searches, and the trees after them.
-use crate::asking::{Ask, all_said, request, slots};
+use crate::tree::asking::{Ask, all_said, request, slots};
 use std::alloc::{AllocError, Global};
 use std::ops::Range;
 use std::test::Fail;

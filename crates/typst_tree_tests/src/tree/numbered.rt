@@ -1,5 +1,5 @@
 // Trees that are kept numbered, and the nodes that come back.
-use crate::asking::{said, span_of};
+use crate::tree::asking::{said, span_of};
 use std::alloc::Global;
 use std::ops::Range;
 use std::test::Fail;

@@ -1,5 +1,5 @@
 // Reading markup, math and code by views.
-use crate::building::document;
+use crate::guide::building::document;
 use std::alloc::{AllocError, Global};
 use std::test::Fail;
 use typst_tree::SyntaxKind::{

@@ -1,5 +1,5 @@
 // Children, siblings, leaves and modes.
-use crate::asking::{Ask, Row, assert_rows, at, place};
+use crate::linked::asking::{Ask, Row, assert_rows, at, place};
 use std::alloc::{AllocError, Global};
 use std::test::Fail;
 use typst_drawn::{DrawingError, drawn};

@@ -1,0 +1,6 @@
+//! Tests of `typst_atoms`. Most are tables, whose rows are asserted one by one: what a row shows, and what comes of it.
+mod accessors;
+mod children;
+mod comparing;
+mod missing;
+mod readings;

@@ -1,0 +1,4 @@
+//! Tests of `typst_tree`.
+mod asking;
+mod numbered;
+mod runs;
