@@ -1,6 +1,7 @@
 -- Inner nodes seen as trees.
 use Rattle.std.proofs.Common.{◌≡◌, ℕ, ◌+◌, ◌<◌, ◌≤◌, ◌^◌, ◌⊎◌, inl, inr, List, map, refl, sym, ap, subst, ◌∙◌, arith, Box, Global, Option, Some, None}
 use Rattle.std.specs.Prelude.{SomeIff, IfSome, MatchOption, Result, Ok, Err, IfOk, OnOk}
+use Rattle.typst_base.specs.declared.kind.SyntaxKind.{SyntaxKind}
 use Rattle.typst_node.specs.Tree.{AsInner, Forest, Tree, trees, forest, IsInner}
 use Rattle.typst_node.specs.Labels.{number, bound, bound_of}
 use Rattle.typst_node.specs.Plain.{plain, plain_label, plain_forest}
@@ -17,18 +18,18 @@ use Rattle.typst_node.proofs.Plain.{forest_plain}
 use Rattle.typst_node.proofs.Trees.{trees_of_forest, forest-trees}
 use Rattle.typst_node.proofs.Ordered.{within_from_numbered, numbered_from_within}
 
-module _ (a : Inside) (b : Box InnerNode Global) (t : Tree) (is : a.node ≡ Inner b) (view : tree_of a ≡ t) where
+module _ (a : Inside) (k : SyntaxKind) (b : Box InnerNode Global) (t : Tree) (is : a.node ≡ Inner k b) (view : tree_of a ≡ t) where
   pub inner_forest : t.children ≡ forest b.value.children.items
   inner_forest = ap (λ (u : Tree). u.children) (sym view) ∙ ap (λ n. forest (below n)) is
 
   pub inner_kids : trees t.children ≡ b.value.children.items
   inner_kids = ap trees inner_forest ∙ trees_of_forest b.value.children.items
 
-  pub inner_content : t.label.content ≡ AsInner b.value.kind b.value.upper
+  pub inner_content : t.label.content ≡ AsInner k b.value.upper
   inner_content = ap (λ (u : Tree). u.label.content) (sym view) ∙ ap content is
 
   pub inner_bound : bound t.label ≡ b.value.upper
-  inner_bound = ap (λ k. bound_of k (number t.label)) inner_content
+  inner_bound = ap (λ c. bound_of c (number t.label)) inner_content
 
   pub is_inner : IsInner t.label.content
   is_inner = subst IsInner (sym inner_content) tt
@@ -37,18 +38,18 @@ module _ (a : Inside) (b : Box InnerNode Global) (t : Tree) (is : a.node ≡ Inn
   inner_number = ap (λ (u : Tree). number u.label) (sym view)
 
   -- with other contents of the inner node, the label is the same
-  pub inner_label : (new : InnerNode) → new.kind ≡ b.value.kind → new.upper ≡ b.value.upper → new.warnings ≡ b.value.warnings → (tree_of record { node = Inner (with_value b new); span = a.span }).label ≡ t.label
-  inner_label new kind upper warned =
-      (λ i. record { span = a.span; warnings = shown_warnings (warned i).items; content = AsInner (kind i) (upper i) })
+  pub inner_label : (new : InnerNode) → new.upper ≡ b.value.upper → new.warnings ≡ b.value.warnings → (tree_of record { node = Inner k (with_value b new); span = a.span }).label ≡ t.label
+  inner_label new upper warned =
+      (λ i. record { span = a.span; warnings = shown_warnings (warned i).items; content = AsInner k (upper i) })
       ∙ (ap (λ n. (tree_of record { node = n; span = a.span }).label) (sym is) ∙ ap (λ (u : Tree). u.label) view)
 
   -- and the whole is the plain edit where the children are
-  pub inner_edited : (new : InnerNode) (from to : ℕ) (others : List Tree) → new.kind ≡ b.value.kind → new.upper ≡ b.value.upper → new.warnings ≡ b.value.warnings → map plain new.children.items ≡ map plain (splice b.value.children.items from to others)
-      → plain (tree_of record { node = Inner (with_value b new); span = a.span }) ≡ plain (edited from to others t)
-  inner_edited new from to others kind upper warned same =
+  pub inner_edited : (new : InnerNode) (from to : ℕ) (others : List Tree) → new.upper ≡ b.value.upper → new.warnings ≡ b.value.warnings → map plain new.children.items ≡ map plain (splice b.value.children.items from to others)
+      → plain (tree_of record { node = Inner k (with_value b new); span = a.span }) ≡ plain (edited from to others t)
+  inner_edited new from to others upper warned same =
       let kids : plain_forest (forest new.children.items) ≡ plain_forest (forest (splice (trees t.children) from to others)) =
       sym (forest_plain new.children.items) ∙ (ap forest same ∙ (forest_plain (splice b.value.children.items from to others) ∙ ap (λ (ts : List Tree). plain_forest (forest (splice ts from to others))) (sym inner_kids))) in
-      λ i. record { label = plain_label (inner_label new kind upper warned i); children = kids i }
+      λ i. record { label = plain_label (inner_label new upper warned i); children = kids i }
 
   pub inner_file : t.label.span.file ≡ a.span.file
   inner_file = ap (λ (u : Tree). u.label.span.file) (sym view)

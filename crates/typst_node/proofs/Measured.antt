@@ -5,4 +5,4 @@ use Rattle.typst_node.specs.declared.node.InnerNode.{InnerNode}
 use Rattle.typst_node.specs.declared.node.Warning.{Warning}
 
 pub measured_under : (inner : InnerNode) (warnings : Vec Warning Global) → IsMeasured inner → IsMeasured record inner { warnings = warnings }
-measured_under inner warnings m = record { kind = m.kind; len = m.len; descendants = m.descendants; errors = m.errors; warnings = m.warnings; ends = m.ends }
+measured_under inner warnings m = record { len = m.len; descendants = m.descendants; errors = m.errors; warnings = m.warnings; ends = m.ends }

@@ -2,6 +2,7 @@
 use Rattle.std.proofs.Common.{◌≡◌, ℕ, suc, ◌+◌, ◌||◌, List, [], ◌∷◌, ◌++◌, length, map, refl, sym, ap, subst, ◌∙◌}
 use Rattle.std.specs.List.{list_any}
 use Rattle.std.proofs.lemmas.List.{map-append}
+use Rattle.typst_base.specs.declared.kind.SyntaxKind.{SyntaxKind}
 use Rattle.typst_node.specs.Tree.{Content, AsLeaf, AsError, AsInner, Label, Forest, none, tree, Tree, forest}
 use Rattle.typst_node.specs.Preorder.{preorder}
 use Rattle.typst_node.specs.Text.{content_text, own_text, joined, text, text_of_all}
@@ -88,10 +89,9 @@ module _ (ts us : List Tree) (same : map plain ts ≡ map plain us) where
   same_ends at = sym (ends_plain at ts) ∙ ap (ends_from at) same ∙ ends_plain at us
 
   -- an inner node whose children change in spans and bounds alone
-  pub measured_by_plain : (old new : InnerNode) → old.children.items ≡ us → new.children.items ≡ ts → new.kind ≡ old.kind → new.len ≡ old.len → new.descendants ≡ old.descendants → new.diagnosis ≡ old.diagnosis → new.ends ≡ old.ends
+  pub measured_by_plain : (old new : InnerNode) → old.children.items ≡ us → new.children.items ≡ ts → new.len ≡ old.len → new.descendants ≡ old.descendants → new.diagnosis ≡ old.diagnosis → new.ends ≡ old.ends
       → IsMeasured old → IsMeasured new
-  measured_by_plain old new were are kind len descendants diagnosis ends m = record {
-    kind = λ e. m.kind (sym kind ∙ e);
+  measured_by_plain old new were are len descendants diagnosis ends m = record {
     len = len ∙ m.len ∙ ap (λ vs. length (text_of_all vs)) were ∙ ap length (sym same_text_of_all) ∙ ap (λ vs. length (text_of_all vs)) (sym are);
     descendants = descendants ∙ m.descendants ∙ ap (λ vs. suc (count_of_all vs)) were ∙ ap suc (sym same_count_of_all) ∙ ap (λ vs. suc (count_of_all vs)) (sym are);
     errors = ap (λ d. d.errors) diagnosis ∙ m.errors ∙ ap (λ vs. list_any is_error (preorder (forest vs))) were ∙ sym same_errors ∙ ap (λ vs. list_any is_error (preorder (forest vs))) (sym are);
@@ -100,14 +100,14 @@ module _ (ts us : List Tree) (same : map plain ts ≡ map plain us) where
   }
 
 -- an inner node, after a change of spans and bounds alone
-pub same_plain_inner : (a : Inside) (b : Box InnerNode Global) (t : Tree) (new : InnerNode) (s : SpanParts) → a.node ≡ Inner b → tree_of a ≡ t → new.kind ≡ b.value.kind → new.warnings ≡ b.value.warnings → map plain new.children.items ≡ map plain b.value.children.items
-    → plain (tree_of record { node = Inner (with_value b new); span = s }) ≡ plain t
-same_plain_inner a b t new s is view kind warned same =
-    (λ i. record { label = record { span = detached; warnings = shown_warnings (warned i).items; content = AsInner (kind i) 0 }; children = (sym (forest_plain new.children.items) ∙ ap forest same ∙ forest_plain b.value.children.items) i })
+pub same_plain_inner : (a : Inside) (k : SyntaxKind) (b : Box InnerNode Global) (t : Tree) (new : InnerNode) (s : SpanParts) → a.node ≡ Inner k b → tree_of a ≡ t → new.warnings ≡ b.value.warnings → map plain new.children.items ≡ map plain b.value.children.items
+    → plain (tree_of record { node = Inner k (with_value b new); span = s }) ≡ plain t
+same_plain_inner a k b t new s is view warned same =
+    (λ i. record { label = record { span = detached; warnings = shown_warnings (warned i).items; content = AsInner k 0 }; children = (sym (forest_plain new.children.items) ∙ ap forest same ∙ forest_plain b.value.children.items) i })
     ∙ sym (ap (λ n. plain (tree_of record { node = n; span = a.span })) is) ∙ ap plain view
 
 -- how many nodes an inner node says that it has
-pub inner_count : (a : Inside) (b : Box InnerNode Global) (t : Tree) → a.node ≡ Inner b → IsKept a.node → tree_of a ≡ t → b.value.descendants ≡ count t
-inner_count a b t is kept view =
-    let measured : IsMeasured b.value = subst IsKept is kept in
+pub inner_count : (a : Inside) (k : SyntaxKind) (b : Box InnerNode Global) (t : Tree) → a.node ≡ Inner k b → IsKept a.node → tree_of a ≡ t → b.value.descendants ≡ count t
+inner_count a k b t is kept view =
+    let measured : IsMeasured b.value = (subst IsKept is kept).1 in
     measured.descendants ∙ sym (ap (λ n. suc (count_of_all (below n))) is) ∙ ap count view

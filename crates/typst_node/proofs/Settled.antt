@@ -173,7 +173,7 @@ slice_one xs i d h =
 -- an inner node whose children were exchanged, and whose list of ends has place for theirs
 module _ (old new : InnerNode) (ys : List Tree) (from to : ℕ) (gone : Sums) (order : from ≤ to) (inside : to ≤ length old.children.items) (measured : IsMeasured old)
     (is_gone : AreSums gone (slice_range old.children.items from to)) (children : new.children.items ≡ splice old.children.items from to ys)
-    (kind : new.kind ≡ old.kind) (len : new.len ≡ old.len) (descendants : new.descendants ≡ old.descendants) (diagnosis : new.diagnosis ≡ old.diagnosis)
+    (len : new.len ≡ old.len) (descendants : new.descendants ≡ old.descendants) (diagnosis : new.diagnosis ≡ old.diagnosis)
     (ends : length new.ends + (to - from) ≡ length old.ends + length ys) (ends_before : take from new.ends ≡ take from old.ends)
     (ends_behind : drop (from + length ys) new.ends ≡ drop to old.ends) where
   front : take from new.children.items ≡ take from old.children.items
@@ -203,7 +203,6 @@ module _ (old new : InnerNode) (ys : List Tree) (from to : ℕ) (gone : Sums) (o
       let text_front : length (text_of_all (take from new.children.items)) ≡ length (text_of_all (take from old.children.items)) = ap (λ ts. length (text_of_all ts)) front in
       let many : length new.children.items ≡ length (splice old.children.items from to ys) = ap length children in
       record {
-        kind = λ e. measured.kind (sym kind ∙ e);
         len = omega (arith, texts, text_in, text_new, len, measured.len, is_gone.len);
         descendants = omega (arith, counts, count_in, count_new, descendants, measured.descendants, is_gone.descendants);
         errors = stale_any is_error new.diagnosis.errors gone.diagnosis.errors (ap (λ d. d.errors) diagnosis ∙ measured.errors) is_gone.errors;

@@ -1,6 +1,7 @@
 -- Trees before and after synthesis.
 use Rattle.std.proofs.Common.{◌≡◌, ℕ, List, [], ◌∷◌, map, refl, sym, ap, ◌∙◌, Box, Global}
 use Rattle.typst_base.specs.Span.{SpanParts, detached}
+use Rattle.typst_base.specs.declared.kind.SyntaxKind.{SyntaxKind}
 use Rattle.typst_node.specs.Tree.{HintText, WarningText, Content, AsLeaf, AsError, AsInner, Label, Forest, none, tree, Tree, forest}
 use Rattle.typst_node.specs.Text.{content_text}
 use Rattle.typst_node.specs.Diagnosis.{is_error_content, has_some}
@@ -65,9 +66,9 @@ forest_synthesized span [] = refl
 forest_synthesized span (t ∷ ts) = ap (λ f. tree (synthesized_label span t.label) (synthesized_forest span t.children) f) (forest_synthesized span ts)
 
 -- an inner node, after its children are synthesized
-pub synthesized_inner : (span : SpanParts) (a : Inside) (b : Box InnerNode Global) (t : Tree) (new : InnerNode) (ws : List WarningText) → a.node ≡ Inner b → tree_of a ≡ t
-    → new.kind ≡ b.value.kind → new.upper ≡ span.low → ws ≡ map whole_warning (shown_warnings b.value.warnings.items) → new.children.items ≡ map (synthesized span) b.value.children.items
-    → record { label = record { span = span; warnings = ws; content = AsInner new.kind new.upper }; children = forest new.children.items } ≡ synthesized span t
-synthesized_inner span a b t new ws is view kind upper warned below =
-    (λ i. record { label = record { span = span; warnings = warned i; content = AsInner (kind i) (upper i) }; children = (ap forest below ∙ forest_synthesized span b.value.children.items) i })
+pub synthesized_inner : (span : SpanParts) (a : Inside) (k : SyntaxKind) (b : Box InnerNode Global) (t : Tree) (new : InnerNode) (ws : List WarningText) → a.node ≡ Inner k b → tree_of a ≡ t
+    → new.upper ≡ span.low → ws ≡ map whole_warning (shown_warnings b.value.warnings.items) → new.children.items ≡ map (synthesized span) b.value.children.items
+    → record { label = record { span = span; warnings = ws; content = AsInner k new.upper }; children = forest new.children.items } ≡ synthesized span t
+synthesized_inner span a k b t new ws is view upper warned below =
+    (λ i. record { label = record { span = span; warnings = warned i; content = AsInner k (upper i) }; children = (ap forest below ∙ forest_synthesized span b.value.children.items) i })
     ∙ sym (ap (λ n. synthesized span (tree_of record { node = n; span = a.span })) is) ∙ ap (synthesized span) view

@@ -37,7 +37,6 @@ all_at s = s.before ++ (s.changed ++ s.behind)
 -- what a replacement makes of an inner node's children, where the node has this file id, if it has one
 pub record AreReplaced (s : Site) (id : Option ℕ) (old new : InnerNode) (result : Result Renumbered ReplaceError) : Type 0 where
   pub measured : IsMeasured new
-  pub kind : new.kind ≡ old.kind
   pub upper : new.upper ≡ old.upper
   pub warnings : new.warnings ≡ old.warnings
   pub err : OnErr result (new.children.items ≡ old.children.items)

@@ -27,21 +27,21 @@ shown_warnings ws = reverse (map warning_text ws)
 abbrev pub content : Node → Content
 content (Short kind text) = AsLeaf kind text
 content (Leaf b) = AsLeaf b.value.kind (string_bytes b.value.text)
-content (Inner b) = AsInner b.value.kind b.value.upper
+content (Inner kind b) = AsInner kind b.value.upper
 content (Error b) = AsError (string_bytes b.value.text) (string_bytes b.value.message) (map hint_text b.value.hints.items)
 
 -- the warnings as they are kept, innermost first
 abbrev pub warnings_in : Node → List Warning
 warnings_in (Short kind text) = []
 warnings_in (Leaf b) = b.value.warnings.items
-warnings_in (Inner b) = b.value.warnings.items
+warnings_in (Inner kind b) = b.value.warnings.items
 warnings_in (Error b) = b.value.warnings.items
 
 -- the node's children
 abbrev pub below : Node → List Tree
 below (Short kind text) = []
 below (Leaf b) = []
-below (Inner b) = b.value.children.items
+below (Inner kind b) = b.value.children.items
 below (Error b) = []
 
 abbrev pub tree_of : Inside → Tree
@@ -57,7 +57,6 @@ ends_from at (t ∷ ts) = (at + length (text t)) ∷ ends_from (at + length (tex
 
 -- what an inner node keeps is what its children measure
 pub record IsMeasured (inner : InnerNode) : Type 0 where
-  pub kind : inner.kind ≢ kinds.Error
   pub len : inner.len ≡ length (text_of_all inner.children.items)
   pub descendants : inner.descendants ≡ suc (count_of_all inner.children.items)
   pub errors : inner.diagnosis.errors ≡ list_any is_error (preorder (forest inner.children.items))
@@ -67,5 +66,5 @@ pub record IsMeasured (inner : InnerNode) : Type 0 where
 abbrev pub IsKept : Node → Type 0
 IsKept (Short kind text) = kind ≢ kinds.Error
 IsKept (Leaf b) = b.value.kind ≢ kinds.Error
-IsKept (Inner b) = IsMeasured b.value
+IsKept (Inner kind b) = (kind ≢ kinds.Error) × IsMeasured b.value
 IsKept (Error b) = Unit {0}

@@ -46,7 +46,7 @@ pub struct SyntaxNode {
     span: Span,
 }
 
-/// A node without its span. The kind of a leaf is never `Error`.
+/// A node without its span. The kind of a leaf or an inner node is never `Error`.
 #[cycle(node)]
 #[derive(Drop)]
 enum Node {
@@ -54,15 +54,15 @@ enum Node {
     Short(SyntaxKind, ShortText),
     // Any other leaf.
     Leaf(Box<LeafNode>),
-    Inner(Box<InnerNode>),
+    // Its kind stands here, so that it is read without the box.
+    Inner(SyntaxKind, Box<InnerNode>),
     Error(Box<ErrorNode>),
 }
 
-/// An inner node. Its kind is never `Error`, and the sums, the diagnosis and the ends are those of its children.
+/// An inner node without its kind. The sums, the diagnosis and the ends are those of its children.
 #[cycle(node)]
 #[derive(Drop)]
 struct InnerNode {
-    kind: SyntaxKind,
     diagnosis: Diagnosis,
     // The length of the text in bytes.
     len: usize,
@@ -150,7 +150,7 @@ impl Node {
         match self {
             Node::Short(..) => &[],
             Node::Leaf(leaf) => &leaf.warnings,
-            Node::Inner(inner) => &inner.warnings,
+            Node::Inner(_, inner) => &inner.warnings,
             Node::Error(error) => &error.warnings,
         }
     }
@@ -166,7 +166,7 @@ impl SyntaxNode {
         match &self.node {
             Node::Short(kind, _) => *kind,
             Node::Leaf(leaf) => leaf.kind,
-            Node::Inner(inner) => inner.kind,
+            Node::Inner(kind, _) => *kind,
             Node::Error(_) => SyntaxKind::Error,
         }
     }
@@ -177,7 +177,7 @@ impl SyntaxNode {
     {
         match &self.node {
             Node::Short(..) | Node::Leaf(_) => true,
-            Node::Inner(_) => false,
+            Node::Inner(..) => false,
             Node::Error(error) => !error.text.is_empty(),
         }
     }
@@ -186,7 +186,7 @@ impl SyntaxNode {
     pub fn is_inner(&self) -> bool
         ensures { IsTrue result ↔ IsInner self.now.label.content }
     {
-        matches!(&self.node, Node::Inner(_))
+        matches!(&self.node, Node::Inner(..))
     }
 
     /// The node's span: detached until the tree is numbered or synthesized.
@@ -202,7 +202,7 @@ impl SyntaxNode {
         ensures { result ≡ bound self.now.label }
     {
         match &self.node {
-            Node::Inner(inner) => inner.upper,
+            Node::Inner(_, inner) => inner.upper,
             Node::Short(..) | Node::Leaf(_) | Node::Error(_) => self.span.number() + 1,
         }
     }
@@ -217,7 +217,7 @@ impl SyntaxNode {
         match &self.node {
             Node::Short(_, text) => text.len(),
             Node::Leaf(leaf) => leaf.text.len(),
-            Node::Inner(inner) => inner.len,
+            Node::Inner(_, inner) => inner.len,
             Node::Error(error) => error.text.len(),
         }
     }
@@ -234,7 +234,7 @@ impl SyntaxNode {
         ensures { result ≡ count self.now }
     {
         match &self.node {
-            Node::Inner(inner) => inner.descendants,
+            Node::Inner(_, inner) => inner.descendants,
             Node::Short(..) | Node::Leaf(_) | Node::Error(_) => 1,
         }
     }
@@ -249,7 +249,7 @@ impl SyntaxNode {
                 errors: false,
                 warnings: false,
             },
-            Node::Inner(inner) => inner.diagnosis,
+            Node::Inner(_, inner) => inner.diagnosis,
             Node::Error(_) => Diagnosis {
                 errors: true,
                 warnings: false,
@@ -268,7 +268,7 @@ impl SyntaxNode {
         match &self.node {
             Node::Short(_, text) => text.as_str(),
             Node::Leaf(leaf) => leaf.text.as_str(),
-            Node::Inner(_) => "",
+            Node::Inner(..) => "",
             Node::Error(error) => error.text.as_str(),
         }
     }
@@ -289,7 +289,7 @@ impl SyntaxNode {
         match &self.node {
             Node::Short(_, text) => out.push_str(text.as_str()),
             Node::Leaf(leaf) => out.push_str(leaf.text.as_str()),
-            Node::Inner(inner) => {
+            Node::Inner(_, inner) => {
                 for child in &inner.children {
                     child.push_text(out)?;
                 }
@@ -314,7 +314,7 @@ impl SyntaxNode {
         ensures inner_only { ¬ (IsInner self.now.label.content) → result.now ≡ [] }
     {
         match &self.node {
-            Node::Inner(inner) => &inner.children,
+            Node::Inner(_, inner) => &inner.children,
             Node::Short(..) | Node::Leaf(_) | Node::Error(_) => &[],
         }
     }
@@ -327,7 +327,7 @@ impl SyntaxNode {
         ensures { result ≡ length (text_of_all (take (index + 1) (trees self.now.children))) }
     {
         match &self.node {
-            Node::Inner(inner) => inner.ends.get(index),
+            Node::Inner(_, inner) => inner.ends.get(index),
             Node::Short(..) | Node::Leaf(_) | Node::Error(_) => unreachable!(),
         }
     }

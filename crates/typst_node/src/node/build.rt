@@ -91,7 +91,6 @@ impl SyntaxNode {
     {
         let (sums, ends) = measured(alloc, &children)?;
         let inner = InnerNode {
-            kind,
             len: sums.len,
             descendants: sums.descendants,
             diagnosis: sums.diagnosis,
@@ -101,7 +100,7 @@ impl SyntaxNode {
             warnings: Vec::new(alloc),
         };
         Ok(SyntaxNode {
-            node: Node::Inner(Box::new(alloc, inner)?),
+            node: Node::Inner(kind, Box::new(alloc, inner)?),
             span: Span::detached(),
         })
     }

@@ -28,7 +28,7 @@ impl SyntaxNode {
         match &mut self.node {
             Node::Short(old, _) => *old = kind,
             Node::Leaf(leaf) => leaf.kind = kind,
-            Node::Inner(inner) => inner.kind = kind,
+            Node::Inner(old, _) => *old = kind,
             Node::Error(_) => unreachable!(),
         }
     }

@@ -31,8 +31,8 @@ impl SyntaxNode {
             Node::Short(kind, text) => write!(f, "{kind:?}: {:?}", text.as_str())?,
             Node::Leaf(leaf) => write!(f, "{:?}: {:?}", leaf.kind, leaf.text)?,
             Node::Error(error) => self.write_error(f, error)?,
-            Node::Inner(inner) => {
-                write!(f, "{:?}: {}", inner.kind, inner.len)?;
+            Node::Inner(kind, inner) => {
+                write!(f, "{kind:?}: {}", inner.len)?;
                 let mut first = true;
                 for child in &inner.children {
                     if first {
@@ -117,7 +117,7 @@ impl SyntaxNode {
             Node::Short(_, text) => text.as_str().is_char_boundary(at),
             Node::Leaf(leaf) => leaf.text.as_str().is_char_boundary(at),
             Node::Error(error) => error.text.as_str().is_char_boundary(at),
-            Node::Inner(inner) => {
+            Node::Inner(_, inner) => {
                 let mut rest = at;
                 for child in &inner.children {
                     if rest <= child.len() {
@@ -141,7 +141,7 @@ impl SyntaxNode {
             Node::Short(_, text) => write_escaped(f, text.as_str(), start, end),
             Node::Leaf(leaf) => write_escaped(f, leaf.text.as_str(), start, end),
             Node::Error(error) => write_escaped(f, error.text.as_str(), start, end),
-            Node::Inner(inner) => {
+            Node::Inner(_, inner) => {
                 let mut start = start;
                 let mut end = end;
                 for child in &inner.children {

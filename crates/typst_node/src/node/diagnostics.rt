@@ -63,7 +63,7 @@ impl SyntaxNode {
         push_warnings(alloc, self.span, self.node.warnings(), warnings)?;
         match &self.node {
             Node::Short(..) | Node::Leaf(_) => Ok(()),
-            Node::Inner(inner) => {
+            Node::Inner(_, inner) => {
                 for child in &inner.children {
                     child.push_reports(alloc, errors, warnings)?;
                 }

@@ -83,9 +83,9 @@ impl Node {
                 error.message.as_str().hash(state);
                 feed_hints(&error.hints, state);
             }
-            Node::Inner(inner) => {
+            Node::Inner(kind, inner) => {
                 state.write_u8(2);
-                state.write_u8(inner.kind.to_u8());
+                state.write_u8(kind.to_u8());
                 state.write_u64(inner.upper);
             }
         }

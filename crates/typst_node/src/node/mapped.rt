@@ -77,7 +77,7 @@ impl SyntaxNode {
                 map_parts(&mut error.warnings, mapper, at, end);
                 map_hint_parts(&mut error.hints, mapper, at, end);
             }
-            Node::Inner(inner) => {
+            Node::Inner(_, inner) => {
                 self.span = span;
                 inner.map_places_below(id, mapper, at, span);
             }
@@ -91,7 +91,6 @@ impl InnerNode {
         requires measured { IsMeasured self.old }
         requires inside { at + length (text_of_all self.old.children.items) ≤ length mapper.now.positions }
         ensures measured { IsMeasured self.new }
-        ensures kind { self.new.kind ≡ self.old.kind }
         ensures upper { self.new.upper ≡ span.low }
         ensures children { self.new.children.items ≡ mapped_trees mapper.now id at self.old.children.items }
         ensures warnings { shown_warnings self.new.warnings.items

@@ -21,7 +21,6 @@ impl InnerNode {
         requires positive { 1 ≤ stride }
         requires high { start + stride * count_of_all (slice_range self.old.children.items from to) ≤ 2 ^ 47 }
         ensures measured { IsMeasured self.new }
-        ensures kind { self.new.kind ≡ self.old.kind }
         ensures upper { self.new.upper ≡ self.old.upper }
         ensures warnings { self.new.warnings ≡ self.old.warnings }
         ensures before { take from self.new.children.items ≡ take from self.old.children.items }

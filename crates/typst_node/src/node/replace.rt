@@ -104,7 +104,6 @@ impl InnerNode {
     fn make_room(&mut self, more: usize) -> Result<(), AllocError>
         requires { IsMeasured self.old }
         ensures measured { IsMeasured self.new }
-        ensures kind { self.new.kind ≡ self.old.kind }
         ensures upper { self.new.upper ≡ self.old.upper }
         ensures warnings { self.new.warnings ≡ self.old.warnings }
         ensures children { self.new.children.items ≡ self.old.children.items }
@@ -127,7 +126,6 @@ impl InnerNode {
         requires inside { to ≤ length self.old.children.items }
         requires change { IsChange from to self.old.children.items others.items change.now }
         ensures measured { IsMeasured self.new }
-        ensures kind { self.new.kind ≡ self.old.kind }
         ensures upper { self.new.upper ≡ self.old.upper }
         ensures warnings { self.new.warnings ≡ self.old.warnings }
         ensures ok { OnOk result (self.new.children.items ≡ splice self.old.children.items from to others.items) }
@@ -260,7 +258,7 @@ impl SyntaxNode {
         let id = self.span.id();
         let number = self.span.number();
         match &mut self.node {
-            Node::Inner(inner) => {
+            Node::Inner(_, inner) => {
                 let result = inner.replace(id, number, range.start, range.end, replacement);
                 return result;
             }

@@ -71,7 +71,7 @@ impl SyntaxNode {
         match path.split_first() {
             None => errand.arrive(self),
             Some((index, rest)) => match &mut self.node {
-                Node::Inner(inner) => inner.replace_in(*index, rest, errand),
+                Node::Inner(_, inner) => inner.replace_in(*index, rest, errand),
                 Node::Short(..) | Node::Leaf(_) | Node::Error(_) => unreachable!(),
             },
         }
@@ -88,7 +88,6 @@ impl InnerNode {
         requires sums { let child = child_of self.old.children.items index in
             SumsFit (set self.old.children.items index (edited_by path.now errand.old child)) }
         ensures measured { IsMeasured self.new }
-        ensures kind { self.new.kind ≡ self.old.kind }
         ensures upper { self.new.upper ≡ self.old.upper }
         ensures warnings { self.new.warnings ≡ self.old.warnings }
         ensures err { OnErr errand.new.answer (self.new.children.items ≡ self.old.children.items) }

@@ -117,7 +117,6 @@ impl InnerNode {
         requires added { AreSums added.now (slice_range self.old.children.items from to) }
         requires fits { SumsFit self.old.children.items }
         ensures measured { IsMeasured self.new }
-        ensures kind { self.new.kind ≡ self.old.kind }
         ensures upper { self.new.upper ≡ self.old.upper }
         ensures warnings { self.new.warnings ≡ self.old.warnings }
         ensures children { self.new.children ≡ self.old.children }

@@ -27,7 +27,7 @@ impl SyntaxNode {
                 make_whole(&mut error.warnings);
                 make_hints_whole(&mut error.hints);
             }
-            Node::Inner(inner) => {
+            Node::Inner(_, inner) => {
                 self.span = span;
                 inner.synthesize_below(span);
             }
@@ -40,7 +40,6 @@ impl InnerNode {
     fn synthesize_below(&mut self, span: Span)
         requires { IsMeasured self.old }
         ensures measured { IsMeasured self.new }
-        ensures kind { self.new.kind ≡ self.old.kind }
         ensures upper { self.new.upper ≡ span.low }
         ensures warnings { shown_warnings self.new.warnings.items ≡ map whole_warning (shown_warnings self.old.warnings.items) }
         ensures children { self.new.children.items ≡ map (synthesized span) self.old.children.items }

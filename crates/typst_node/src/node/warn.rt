@@ -184,7 +184,7 @@ impl SyntaxNode {
         }
         match &mut self.node {
             Node::Error(error) => error.push_hint(hint),
-            Node::Short(..) | Node::Leaf(_) | Node::Inner(_) => unreachable!(),
+            Node::Short(..) | Node::Leaf(_) | Node::Inner(..) => unreachable!(),
         }
     }
 }
@@ -208,7 +208,7 @@ impl Node {
                 Ok(())
             }
             Node::Leaf(leaf) => warn_last(&mut leaf.warnings, warning),
-            Node::Inner(inner) => warn_last(&mut inner.warnings, warning),
+            Node::Inner(_, inner) => warn_last(&mut inner.warnings, warning),
             Node::Error(error) => warn_last(&mut error.warnings, warning),
         }
     }
@@ -228,7 +228,7 @@ impl Node {
         match self {
             Node::Short(..) => unreachable!(),
             Node::Leaf(leaf) => hint_last(&mut leaf.warnings, hint),
-            Node::Inner(inner) => hint_last(&mut inner.warnings, hint),
+            Node::Inner(_, inner) => hint_last(&mut inner.warnings, hint),
             Node::Error(error) => hint_last(&mut error.warnings, hint),
         }
     }

@@ -54,7 +54,7 @@ InnerNode::replace_in-settle-requires-clause-stale t c =
     let child = c.replace_below.new.self in
     let one : c.index.result.now ∷ [] ≡ slice_range items i (i + 1) = ap (λ x. x ∷ []) c.index.ensures ∙ slice_one items i c.index.result.now c.requires.index in
     put_stale c.args.self.now _ (child ∷ []) i (i + 1) c.sums_of_one-gone.result (omega arith) (omega (arith, c.requires.index)) c.requires.measured
-    (subst (λ (ts : List Tree). AreSums c.sums_of_one-gone.result ts) one c.sums_of_one-gone.ensures) (set_splice items i child c.requires.index) refl refl refl refl (omega arith) refl refl
+    (subst (λ (ts : List Tree). AreSums c.sums_of_one-gone.result ts) one c.sums_of_one-gone.ensures) (set_splice items i child c.requires.index) refl refl refl (omega arith) refl refl
 
 pub InnerNode::replace_in-settle-requires-clause-added : goal.InnerNode::replace_in-settle-requires-clause-added
 InnerNode::replace_in-settle-requires-clause-added t c =
@@ -75,7 +75,7 @@ pub SyntaxNode::replace_below-replace_in-requires : goal.SyntaxNode::replace_bel
 SyntaxNode::replace_below-replace_in-requires t c =
     let is : c.args.path.now ≡ c.in-Some.index.now ∷ c.in-Some.rest.now = c.in-Some.ensures.cases.0 in
     let edit = subst (λ (p : List ℕ). IsEdit p c.args.errand.now.range.start c.args.errand.now.range.end c.args.errand.now.others.items c.args.self.now) is c.requires in
-    let kids : trees c.args.self.now.children ≡ c.deref_mut.result.now.children.items = inner_kids c.self.inside c.in-Inner.inner c.args.self.now c.in-Inner.is c.self.view_is ∙ sym (ap (λ b. b.children.items) c.deref_mut.ensures.value) in
+    let kids : trees c.args.self.now.children ≡ c.deref_mut.result.now.children.items = inner_kids c.self.inside _ c.in-Inner.inner c.args.self.now c.in-Inner.is c.self.view_is ∙ sym (ap (λ b. b.children.items) c.deref_mut.ensures.value) in
     let below = edit_below c.in-Some.index.now c.in-Some.rest.now c.args.errand.now.range.start c.args.errand.now.range.end c.args.errand.now.others.items c.args.self.now edit in
     let sums = edit_sums c.in-Some.index.now c.in-Some.rest.now c.args.errand.now.range.start c.args.errand.now.range.end c.args.errand.now.others.items c.args.self.now edit.sums in (
       omega (arith, c.decreases, c.in-Some.ensures.cases.1),
@@ -93,14 +93,14 @@ SyntaxNode::replace_below-replace_in-requires t c =
 
 pub SyntaxNode::replace_below-returns-in-Inner-clause-frame : goal.SyntaxNode::replace_below-returns-in-Inner-clause-frame
 SyntaxNode::replace_below-returns-in-Inner-clause-frame t c =
-    let kids : trees c.args.self.now.children ≡ c.deref_mut.result.now.children.items = inner_kids c.self.inside c.in-Inner.inner c.args.self.now c.in-Inner.is c.self.view_is ∙ sym (ap (λ b. b.children.items) c.deref_mut.ensures.value) in
-    let same = inner_label c.self.inside c.in-Inner.inner c.args.self.now c.in-Inner.is c.self.view_is c.replace_in.new.self (c.replace_in.ensures.kind ∙ ap (λ b. b.kind) c.deref_mut.ensures.value) (c.replace_in.ensures.upper ∙ ap (λ b. b.upper) c.deref_mut.ensures.value) (c.replace_in.ensures.warnings ∙ ap (λ b. b.warnings) c.deref_mut.ensures.value) in
-    frame_cons c.args.path.now c.in-Some.index.now c.in-Some.rest.now c.args.self.now (tree_of record { node = Inner (with_value c.in-Inner.inner c.replace_in.new.self); span = c.self.inside.span })
+    let kids : trees c.args.self.now.children ≡ c.deref_mut.result.now.children.items = inner_kids c.self.inside _ c.in-Inner.inner c.args.self.now c.in-Inner.is c.self.view_is ∙ sym (ap (λ b. b.children.items) c.deref_mut.ensures.value) in
+    let same = inner_label c.self.inside _ c.in-Inner.inner c.args.self.now c.in-Inner.is c.self.view_is c.replace_in.new.self (c.replace_in.ensures.upper ∙ ap (λ b. b.upper) c.deref_mut.ensures.value) (c.replace_in.ensures.warnings ∙ ap (λ b. b.warnings) c.deref_mut.ensures.value) in
+    frame_cons c.args.path.now c.in-Some.index.now c.in-Some.rest.now c.args.self.now (tree_of record { node = Inner _ (with_value c.in-Inner.inner c.replace_in.new.self); span = c.self.inside.span })
     c.deref_mut.result.now.children.items c.replace_in.new.self.children.items c.in-Some.ensures.cases.0 kids same refl
     (c.replace_in.ensures.one ∙ ap (set c.deref_mut.result.now.children.items c.in-Some.index.now) c.replace_in.ensures.frame)
 
 pub SyntaxNode::replace_below-returns-in-Inner-clause-at : goal.SyntaxNode::replace_below-returns-in-Inner-clause-at
 SyntaxNode::replace_below-returns-in-Inner-clause-at t c =
-    let kids : trees c.args.self.now.children ≡ c.deref_mut.result.now.children.items = inner_kids c.self.inside c.in-Inner.inner c.args.self.now c.in-Inner.is c.self.view_is ∙ sym (ap (λ b. b.children.items) c.deref_mut.ensures.value) in
-    at_cons c.args.path.now c.in-Some.index.now c.in-Some.rest.now c.args.errand.now.range.start c.args.errand.now.range.end c.args.errand.now.others.items c.args.self.now (tree_of record { node = Inner (with_value c.in-Inner.inner c.replace_in.new.self); span = c.self.inside.span })
+    let kids : trees c.args.self.now.children ≡ c.deref_mut.result.now.children.items = inner_kids c.self.inside _ c.in-Inner.inner c.args.self.now c.in-Inner.is c.self.view_is ∙ sym (ap (λ b. b.children.items) c.deref_mut.ensures.value) in
+    at_cons c.args.path.now c.in-Some.index.now c.in-Some.rest.now c.args.errand.now.range.start c.args.errand.now.range.end c.args.errand.now.others.items c.args.self.now (tree_of record { node = Inner _ (with_value c.in-Inner.inner c.replace_in.new.self); span = c.self.inside.span })
     c.deref_mut.result.now.children.items c.replace_in.new.self.children.items c.replace_in.new.errand.answer c.in-Some.ensures.cases.0 kids refl c.replace_in.ensures.at

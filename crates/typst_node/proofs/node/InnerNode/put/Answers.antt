@@ -22,8 +22,8 @@ settle-requires-clause-stale c =
     let same : old.children.items ≡ c.args.self.now.children.items = c.make_room.ensures.children in
     let is_gone : AreSums gone (slice_range old.children.items from to) = subst (λ (ts : List Tree). AreSums gone (slice_range ts from to)) (sym same) c.requires.change.gone in
     let many : c.len-many.result ≡ length ys = omega arith in
-    let new : InnerNode = record { kind = old.kind; len = old.len; descendants = old.descendants; diagnosis = old.diagnosis; upper = old.upper; warnings = old.warnings; children = c.exchange.new.items; ends = c.make_place.new.self } in
+    let new : InnerNode = record { len = old.len; descendants = old.descendants; diagnosis = old.diagnosis; upper = old.upper; warnings = old.warnings; children = c.exchange.new.items; ends = c.make_place.new.self } in
     let behind : drop (from + length ys) new.ends ≡ drop to old.ends = ap (λ n. drop (from + n) new.ends) (sym many) ∙ c.in_ok-make_place.ensures.behind in
     subst (λ n. IsStale from (from + n) gone new) (sym many)
-    (put_stale old new ys from to gone c.requires.window (omega (arith, ap length same)) c.make_room.ensures.measured is_gone c.in_ok-exchange.ensures.ok refl refl refl refl
+    (put_stale old new ys from to gone c.requires.window (omega (arith, ap length same)) c.make_room.ensures.measured is_gone c.in_ok-exchange.ensures.ok refl refl refl
     (omega (arith, c.in_ok-make_place.ensures.len)) c.in_ok-make_place.ensures.before behind)

@@ -54,7 +54,6 @@ returns-clause-made c =
     let within = if_some c.args.id c.in-Some-id.id (λ file. IsWithin file (c.args.number + 1) c.args.self.now.upper (forest xs)) c.in-Some-id.is c.requires.within in
     record {
       measured = search rules;
-      kind = search rules;
       upper = search rules;
       warnings = search rules;
       err = tt;

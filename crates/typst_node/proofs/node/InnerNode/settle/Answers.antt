@@ -13,7 +13,6 @@ returns-clause-measured c =
     let texts = part_text items c.args.from c.args.to c.requires.window in
     let counts = part_count items c.args.from c.args.to c.requires.window in
     record {
-      kind = c.requires.stale.kind;
       len = omega (arith, texts, c.requires.stale.len, c.requires.added.len);
       descendants = omega (arith, counts, c.requires.stale.descendants, c.requires.added.descendants);
       errors = c.diagnosis_after-self.ensures.errors ∙ ap (λ ts. list_any is_error (preorder (forest ts))) c.deref.ensures.value;
