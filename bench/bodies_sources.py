@@ -305,11 +305,14 @@ def edits_of(crate, all_functions, bad, only=""):
 
 
 def calls_itself(crate, function):
-    """Whether the function's own body seems to call it again: as a method on itself, its parent or a child, or by its path."""
-    body = blanked((crate / function.file).read_text())[function.body : function.end]
-    owner = "|".join(["self", "Self", "parent", "child", function.subject.split("::")[-1] or "self"])
+    """Whether the function's own body seems to call it again: as a method on itself, its parent, a child, or a field of its
+    own type, or by its path."""
+    text = blanked((crate / function.file).read_text())
+    own = function.subject.split("::")[-1]
+    fields = re.findall(rf"^    (?:pub(?:\(\w+\))? )?(\w+): [^\n]*\b{own}\b", text, re.M) if own else []
+    owner = "|".join(["self", "Self", "parent", "child", own or "self", *fields])
     head = rf"\b(?:{owner})(?:\.|::)" if function.subject else r"(?<![.:\w])"
-    return bool(re.search(rf"{head}{function.name}(?:::<[^;]*?>)?\(", body))
+    return bool(re.search(rf"{head}{function.name}(?:::<[^;]*?>)?\(", text[function.body : function.end]))
 
 
 def reach(crate, all_functions):

@@ -1,16 +1,15 @@
 -- Ends that are kept in blocks.
-use Rattle.std.proofs.Common.{◌≡◌, ℕ, suc, zero, ◌+◌, ◌-◌, ◌/◌, ◌%◌, ◌<◌, ◌≤◌, ◌^◌, List, [], ◌∷◌, ◌++◌, length, take, drop, refl, sym, ap, ◌∙◌, arith, get_or, set, map, inl, inr, ◌⊎◌, length-drop, length-take, get_or-drop, get_or-take}
+use Rattle.std.proofs.Common.{◌≡◌, ℕ, suc, zero, ◌+◌, ◌-◌, ◌*◌, ◌/◌, ◌%◌, ◌<◌, ◌≤◌, ◌^◌, List, [], ◌∷◌, ◌++◌, length, take, drop, refl, sym, ap, ◌∙◌, arith, get_or, set, map, inl, inr, ◌⊎◌, length-append, length-drop, length-take, get_or-drop, get_or-take}
 use Rattle.std.proofs.Math.ListN.{replicate}
+use Rattle.std.proofs.Math.Seq.{take-append_seam}
 use Rattle.std.proofs.lemmas.Bool.{cases_lt}
 use Rattle.std.proofs.lemmas.Grind.{same_number_lists}
-use Rattle.std.proofs.lemmas.List.{get_or-map, length-map}
+use Rattle.std.proofs.lemmas.List.{append-nil, get_or_append_left, get_or-append_right, get_or-map, get_or-replicate, length-map, length-replicate}
 use Rattle.std.specs.List.{AllByRecursion}
-use Rattle.std.specs.Prelude.{if◌then◌else◌, Result, Ok, Err, IsOk, is_ok}
-use Rattle.typst_node.specs.Ends.{ends_seen}
-
-pub length-ends_seen : (starts : List ℕ) (place : ℕ) (es : List ℕ) → length (ends_seen starts place es) ≡ length es
-length-ends_seen starts place [] = refl
-length-ends_seen starts place (e ∷ es) = ap suc (length-ends_seen starts (suc place) es)
+use Rattle.std.specs.Prelude.{if◌then◌else◌, Result, Ok, Err, IsOk, is_ok, Option, Some, None, Box}
+use Rattle.std.specs.Global.{Global}
+use Rattle.typst_node.specs.Ends.{ends_seen, starts_in, IsTight}
+use Rattle.typst_node.specs.EndsLength.{length-ends_seen}
 
 pub seen_from : (starts : List ℕ) (place : ℕ) (es : List ℕ) (i : ℕ) → i < length es → get_or (ends_seen starts place es) i 0 ≡ (get_or starts ((place + i) / 256) 0 + get_or es i 0) % 2 ^ 64
 seen_from starts place [] i h = absurd (omega arith)
@@ -159,11 +158,11 @@ module _ (starts others before after : List ℕ) (from stop by : ℕ) (many : le
   high zero h j = absurd (omega arith)
   high (suc block) h j = moved block (omega arith) (omega arith)
 
-  stays : (k : ℕ) → k < length before → k < from → get_or (ends_seen (0 ∷ others) 0 after) k 0 ≡ get_or (ends_seen (0 ∷ starts) 0 before) k 0
+  pub stays : (k : ℕ) → k < length before → k < from → get_or (ends_seen (0 ∷ others) 0 after) k 0 ≡ get_or (ends_seen (0 ∷ starts) 0 before) k 0
   stays k h j =
       seen_at (0 ∷ others) after k (omega arith) ∙ ((λ i. (low (k / 256) (omega arith) i + front k j i) % 2 ^ 64) ∙ sym (seen_at (0 ∷ starts) before k h))
 
-  rises : (k : ℕ) → k < length before → from ≤ k → get_or (ends_seen (0 ∷ others) 0 after) k 0 ≡ (get_or (ends_seen (0 ∷ starts) 0 before) k 0 + by) % 2 ^ 64
+  pub rises : (k : ℕ) → k < length before → from ≤ k → get_or (ends_seen (0 ∷ others) 0 after) k 0 ≡ (get_or (ends_seen (0 ∷ starts) 0 before) k 0 + by) % 2 ^ 64
   rises k h j = seen_at (0 ∷ others) after k (omega arith) ∙ (by_part (cases_lt k stop) ∙ ap (λ e. (e + by) % 2 ^ 64) (sym (seen_at (0 ∷ starts) before k h)))
     where
       by_part : (k < stop) ⊎ (stop ≤ k) → (get_or (0 ∷ others) (k / 256) 0 + get_or after k 0) % 2 ^ 64 ≡ ((get_or (0 ∷ starts) (k / 256) 0 + get_or before k 0) % 2 ^ 64 + by) % 2 ^ 64
@@ -171,29 +170,6 @@ module _ (starts others before after : List ℕ) (from stop by : ℕ) (many : le
           let e : k / 256 ≤ from / 256 = omega (arith, same_block k j here) in
           (λ i. (low (k / 256) e i + raised k j here i) % 2 ^ 64) ∙ raised_within (get_or (0 ∷ starts) (k / 256) 0) (get_or before k 0) by
       by_part (inr there) = (λ i. (high (k / 256) (later_block k there h) (omega arith) i + back k there i) % 2 ^ 64) ∙ raised_start (get_or (0 ∷ starts) (k / 256) 0) (get_or before k 0) by
-
-  pub rest_stays : from ≤ length before → take from (ends_seen (0 ∷ others) 0 after) ≡ take from (ends_seen (0 ∷ starts) 0 before)
-  rest_stays inside =
-      same_number_lists (take from (ends_seen (0 ∷ others) 0 after)) (take from (ends_seen (0 ∷ starts) 0 before))
-      (omega (arith, length-take from (ends_seen (0 ∷ others) 0 after), length-take from (ends_seen (0 ∷ starts) 0 before), length-ends_seen (0 ∷ others) 0 after, length-ends_seen (0 ∷ starts) 0 before))
-      (λ k h. let inner : k < from = omega (arith, length-take from (ends_seen (0 ∷ others) 0 after)) in
-      get_or-take from (ends_seen (0 ∷ others) 0 after) k 0 inner ∙ (stays k (omega arith) inner ∙ sym (get_or-take from (ends_seen (0 ∷ starts) 0 before) k 0 inner)))
-
-  pub rest_moves : (gone added : ℕ) → gone < 2 ^ 64 → by ≡ (added + (2 ^ 64 - gone)) % 2 ^ 64
-      → AllByRecursion (λ e. (gone ≤ e) × (e - gone + added < 2 ^ 64)) (drop from (ends_seen (0 ∷ starts) 0 before))
-      → drop from (ends_seen (0 ∷ others) 0 after) ≡ map (λ e. e - gone + added) (drop from (ends_seen (0 ∷ starts) 0 before))
-  rest_moves gone added small is all =
-      let old : List ℕ = ends_seen (0 ∷ starts) 0 before in
-      let new : List ℕ = ends_seen (0 ∷ others) 0 after in
-      let old_many : length (drop from old) ≡ length before - from = length-drop from old ∙ ap (λ n. n - from) (length-ends_seen (0 ∷ starts) 0 before) in
-      let new_many : length (drop from new) ≡ length before - from = length-drop from new ∙ ap (λ n. n - from) (length-ends_seen (0 ∷ others) 0 after ∙ many) in
-      same_number_lists (drop from new) (map (λ e. e - gone + added) (drop from old)) (omega (arith, old_many, new_many, length-map (drop from old) (λ e. e - gone + added)))
-      (λ k h. let inner : k < length (drop from old) = omega (arith, old_many, new_many) in
-      let there = at_each (λ e. (gone ≤ e) × (e - gone + added < 2 ^ 64)) (drop from old) all k inner in
-      get_or-drop from new k 0
-      ∙ (rises (from + k) (omega (arith, old_many)) (omega arith)
-      ∙ ((λ i. (sym (get_or-drop from old k 0) i + is i) % 2 ^ 64)
-      ∙ (raised_to (get_or (drop from old) k 0) gone added small there.0 there.1 ∙ sym (get_or-map (λ e. e - gone + added) (drop from old) k 0 0 inner)))))
 
 -- Ends are moved to another place, where no block begins after the one before.
 module _ (starts before after : List ℕ) (from to many first n : ℕ) (order : from ≤ to) (begins : first ≡ from / 256 - 1) where
@@ -225,6 +201,68 @@ pub where_ok : {E : Type 0} {X : Type 0} (r : Result (Unit {0}) E) (a b : X) →
 where_ok (Ok x) a b h = refl
 where_ok (Err e) a b h = cc
 
-pub take_none : (n : ℕ) → let none : List ℕ = [] in take n none ≡ none
-take_none zero = refl
-take_none (suc n) = refl
+-- what is left to go down from some blocks
+abbrev pub weight : Option (Box (List ℕ) Global) → ℕ
+weight None = 0
+weight (Some starts) = 2 * length starts.value + 2
+
+pub lighter : (starts : Option (Box (List ℕ) Global)) (many : ℕ) → IsTight starts → length (starts_in starts) ≡ many / 256 → weight starts < 2 * many + 1
+lighter None many tight is = omega arith
+lighter (Some starts) many tight is = omega (arith, tight, is)
+
+-- Numbers of which all from a place on are raised by a difference, which wraps.
+module _ (old new : List ℕ) (from gone added : ℕ) (many : length new ≡ length old) (small : gone < 2 ^ 64)
+    (before : (k : ℕ) → k < from → get_or new k 0 ≡ get_or old k 0)
+    (behind : (k : ℕ) → from ≤ k → k < length old → get_or new k 0 ≡ (get_or old k 0 + (added + (2 ^ 64 - gone)) % 2 ^ 64) % 2 ^ 64) where
+  pub rest_stays : take from new ≡ take from old
+  rest_stays =
+      same_number_lists (take from new) (take from old) (omega (arith, many, length-take from new, length-take from old))
+      (λ k h. let inner : k < from = omega (arith, length-take from new) in get_or-take from new k 0 inner ∙ (before k inner ∙ sym (get_or-take from old k 0 inner)))
+
+  pub rest_moves : AllByRecursion (λ e. (gone ≤ e) × (e - gone + added < 2 ^ 64)) (drop from old) → drop from new ≡ map (λ e. e - gone + added) (drop from old)
+  rest_moves all =
+      same_number_lists (drop from new) (map (λ e. e - gone + added) (drop from old)) (omega (arith, many, length-drop from new, length-drop from old, length-map (drop from old) (λ e. e - gone + added)))
+      (λ k h. let inner : k < length (drop from old) = omega (arith, many, length-drop from new, length-drop from old) in
+      let there = at_each (λ e. (gone ≤ e) × (e - gone + added < 2 ^ 64)) (drop from old) all k inner in
+      get_or-drop from new k 0
+      ∙ (behind (from + k) (omega arith) (omega (arith, length-drop from old))
+      ∙ (ap (λ e. (e + (added + (2 ^ 64 - gone)) % 2 ^ 64) % 2 ^ 64) (sym (get_or-drop from old k 0))
+      ∙ (raised_to (get_or (drop from old) k 0) gone added small there.0 there.1 ∙ sym (get_or-map (λ e. e - gone + added) (drop from old) k 0 0 inner)))))
+
+-- The rest of a list is 0.
+pub cleared : (old new : List ℕ) (from : ℕ) → from ≤ length old → length new ≡ length old
+    → ((k : ℕ) → k < from → get_or new k 0 ≡ get_or old k 0)
+    → ((k : ℕ) → from ≤ k → k < length old → get_or new k 0 ≡ 0)
+    → new ≡ take from old ++ replicate (length old - from) zero
+cleared old new from inside many kept zeros_behind =
+    same_number_lists new (take from old ++ replicate (length old - from) 0) (omega (arith, many, length-append (take from old) (replicate (length old - from) 0), length-take from old, length-replicate {A = ℕ} (length old - from) 0))
+    (λ k h. at k (omega (arith, many)) (cases_lt k from))
+  where
+    at : (k : ℕ) → k < length old → (k < from) ⊎ (from ≤ k) → get_or new k 0 ≡ get_or (take from old ++ replicate (length old - from) 0) k 0
+    at k h (inl a) = kept k a ∙ (sym (get_or-take from old k 0 a) ∙ sym (get_or_append_left (take from old) (replicate (length old - from) 0) 0 k (omega (arith, length-take from old))))
+    at k h (inr a) =
+        zeros_behind k a h
+        ∙ (sym (get_or-replicate (length old - from) (k - from) 0 0 (omega arith))
+        ∙ sym (get_or-append_right (take from old) (replicate (length old - from) 0) from k 0 (omega (arith, length-take from old)) a))
+
+-- blocks that begin at 0 after all others change no end
+pub seen_with_zeros : (starts : List ℕ) (n : ℕ) (es : List ℕ) → ends_seen (0 ∷ (starts ++ replicate n zero)) 0 es ≡ ends_seen (0 ∷ starts) 0 es
+seen_with_zeros starts n es = seen_alike (0 ∷ (starts ++ replicate n zero)) (0 ∷ starts) 0 es (with_zeros (zero ∷ starts) n)
+
+-- nor do blocks after the last end
+pub seen_trimmed : (starts : List ℕ) (first : ℕ) (es : List ℕ) → length es / 256 ≤ first → ends_seen (0 ∷ take first starts) 0 es ≡ ends_seen (0 ∷ starts) 0 es
+seen_trimmed starts first es enough = seen_joined starts es es first refl (λ k a. refl) (λ k a b. absurd (omega (arith, enough)))
+
+pub seen_cut : (starts within : List ℕ) (many first n : ℕ) → length (take many within) / 256 ≤ first
+    → ends_seen (0 ∷ (take first starts ++ replicate n zero)) 0 (take many within) ≡ take many (ends_seen (0 ∷ starts) 0 within)
+seen_cut starts within many first n enough =
+    seen_with_zeros (take first starts) n (take many within) ∙ (seen_trimmed starts first (take many within) enough ∙ sym (take-seen (0 ∷ starts) 0 many within))
+
+pub with_none : (xs : List ℕ) (n : ℕ) → n ≡ 0 → xs ≡ xs ++ replicate n zero
+with_none xs n is = sym (append-nil xs) ∙ ap (λ k. xs ++ replicate k zero) (sym is)
+
+-- the first ends, after others have come and blocks that begin at 0
+pub seen_before : (starts within more : List ℕ) (n : ℕ) → take (length within) (ends_seen (0 ∷ (starts ++ replicate n zero)) 0 (within ++ more)) ≡ ends_seen (0 ∷ starts) 0 within
+seen_before starts within more n =
+    ap (take (length within)) (seen_with_zeros starts n (within ++ more))
+    ∙ (take-seen (0 ∷ starts) 0 (length within) (within ++ more) ∙ ap (ends_seen (0 ∷ starts) 0) (take-append_seam within more))

@@ -41,3 +41,4 @@ pub mod Converted
 pub mod Mapped
 pub mod MappedForest
 pub mod Ends
+pub mod EndsLength

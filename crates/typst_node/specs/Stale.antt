@@ -1,5 +1,5 @@
 -- An inner node that counts children which are gone.
-use Rattle.std.specs.Prelude.{ℕ, ◌≡◌, ◌≢◌, ◌+◌, ◌||◌, ◌++◌, length, take, drop, slice_range}
+use Rattle.std.specs.Prelude.{ℕ, ◌≡◌, ◌+◌, ◌||◌, ◌++◌, length, take, drop, slice_range}
 use Rattle.std.specs.List.{list_any}
 use Rattle.typst_node.specs.Tree.{forest}
 use Rattle.typst_node.specs.Preorder.{preorder}

@@ -1,10 +1,10 @@
 //! Where texts end that stand side by side.
-ghost use Rattle.std.specs.Prelude.{ℕ, ◌∷◌, ◌≡◌, ◌+◌, ◌-◌, ◌%◌, ◌/◌, ◌^◌, ◌<◌, ◌≤◌, map, length, take, drop, slice_index, slice_set, IfOk, IsOk, OnOk, OnErr};
+ghost use Rattle.std.specs.Prelude.{ℕ, ◌∷◌, ◌≡◌, ◌+◌, ◌-◌, ◌*◌, ◌%◌, ◌/◌, ◌^◌, ◌<◌, ◌≤◌, ◌++◌, map, length, take, drop, slice_index, slice_set, replicate, IfOk, IsOk, OnOk, OnErr};
 ghost use Rattle.std.specs.List.{AllByRecursion};
-ghost use Rattle.typst_node.specs.Ends.{ends_seen};
+ghost use Rattle.typst_node.specs.Ends.{ends_seen, starts_in, IsTight};
 
 use crate::exchange::make_place;
-use std::alloc::AllocError;
+use std::alloc::{AllocError, Global};
 use std::marker::Model;
 
 /// How many ends a block has.
@@ -12,33 +12,43 @@ const BLOCK: usize = 256;
 
 /// Where texts end that stand side by side. In contracts it is the list of their ends.
 ///
-/// The ends stand in blocks. After a change of a length the rest of its block is written, and of the later blocks only
-/// where they begin.
+/// The ends stand in blocks, and where the blocks begin is kept as ends are. So after a change of a length the rest of
+/// one block is written, and that of one in each layer above it.
 #[derive(Drop)]
 pub(crate) struct Ends {
     // At each place the end, counted from where its block begins.
     within: Vec<usize>,
-    // Where the blocks after the first begin. Sums wrap, so one may stand for a number below 0.
-    starts: Vec<usize>,
+    // Where the blocks after the first begin, if there are any. Sums wrap, so one may stand for a number below 0.
+    starts: Option<Box<Ends>>,
 }
 
 impl Model for Ends {
     ghost use Rattle.std.specs.Prelude.{ℕ, List, ◌∷◌, ◌≡◌, ◌/◌, length};
-    ghost use Rattle.typst_node.specs.Ends.{ends_seen};
+    ghost use Rattle.std.proofs.Common.{arith};
+    ghost use Rattle.typst_node.specs.Ends.{ends_seen, starts_in, IsTight};
+    ghost use Rattle.typst_node.specs.EndsLength.{length-ends_seen};
 
     ghost Value = { List ℕ };
 
-    ghost view = { λ a. ends_seen (0 ∷ a.starts.items) 0 a.within.items };
+    ghost view = { λ a. ends_seen (0 ∷ starts_in a.starts) 0 a.within.items };
 
-    ghost invariant = { λ a. length a.starts.items ≡ length a.within.items / 256 };
+    ghost invariant = { λ a. IsTight a.starts × (length (starts_in a.starts) ≡ length a.within.items / 256) };
+
+    ghost size = { length };
+
+    ghost size_decreases = { λ a h. Prim.grind (arith, length-ends_seen) };
 }
 
 /// Where a block begins.
-fn start_of(starts: &[usize], block: usize) -> usize
-    requires { block ≤ length starts.now }
-    ensures { result ≡ slice_index (0 ∷ starts.now) block }
+#[cycle(get)]
+fn start_of(starts: &Option<Box<Ends>>, block: usize) -> usize
+    requires { block ≤ length (starts_in starts.now) }
+    ensures { result ≡ slice_index (0 ∷ starts_in starts.now) block }
 {
-    if block == 0 { 0 } else { starts[block - 1] }
+    match starts {
+        Some(starts) if 0 < block => starts.get(block - 1),
+        Some(_) | None => 0,
+    }
 }
 
 /// Adds a number to those from `from` up to `to`.
@@ -54,16 +64,70 @@ fn raise(numbers: &mut [usize], from: usize, to: usize, by: usize)
     }
 }
 
+/// Adds a number to where blocks begin, from one on. Sums wrap.
+#[cycle(add)]
+fn raise_starts(starts: &mut Option<Box<Ends>>, from: usize, by: usize)
+    requires tight { IsTight starts.old }
+    requires inside { from ≤ length (starts_in starts.old) }
+    ensures tight { IsTight starts.new }
+    ensures len { length (starts_in starts.new) ≡ length (starts_in starts.old) }
+    ensures before { (k : ℕ) → k < from → slice_index (starts_in starts.new) k ≡ slice_index (starts_in starts.old) k }
+    ensures behind { (k : ℕ) → from ≤ k → k < length (starts_in starts.old) → slice_index (starts_in starts.new) k ≡ (slice_index (starts_in starts.old) k + by) % 2 ^ 64 }
+{
+    if let Some(starts) = starts {
+        starts.add(from, by);
+    }
+}
+
 /// Counts the ends of all blocks after one from the beginning of all, so that these blocks need not begin anywhere.
-fn join(within: &mut [usize], starts: &[usize], first: usize)
-    requires { length starts.now ≡ length within.old / 256 }
-    ensures { ends_seen (0 ∷ take first starts.now) 0 within.new ≡ ends_seen (0 ∷ starts.now) 0 within.old }
+fn join(within: &mut [usize], starts: &Option<Box<Ends>>, first: usize)
+    requires { length within.old / 256 ≤ length (starts_in starts.now) }
+    ensures { ends_seen (0 ∷ take first (starts_in starts.now)) 0 within.new ≡ ends_seen (0 ∷ starts_in starts.now) 0 within.old }
 {
     let count = within.len();
-    for block in first..starts.len() {
+    for block in first..count / BLOCK {
         let from = (block + 1) * BLOCK;
         let to = count.min(from + BLOCK);
-        raise(within, from, to, starts[block]);
+        raise(within, from, to, start_of(starts, block + 1));
+    }
+}
+
+/// Adds blocks that begin at 0, until so many are after the first.
+#[cycle(grow)]
+fn grow(starts: &mut Option<Box<Ends>>, alloc: Global, many: usize) -> Result<(), AllocError>
+    requires { IsTight starts.old }
+    ensures tight { IsTight starts.new }
+    ensures ok { OnOk result (starts_in starts.new ≡ starts_in starts.old ++ replicate (many - length (starts_in starts.old)) 0) }
+    ensures err { OnErr result (starts_in starts.new ≡ starts_in starts.old) }
+    ensures succeeds { many ≤ length (starts_in starts.old) → IsOk result }
+{
+    if let Some(starts) = starts {
+        return starts.extend(many);
+    }
+    if many > 0 {
+        let mut zeros = Ends {
+            within: Vec::new(alloc),
+            starts: None,
+        };
+        zeros.extend(many)?;
+        *starts = Some(Box::new(alloc, zeros)?);
+    }
+    Ok(())
+}
+
+/// Keeps where the first blocks after the very first begin. The others begin at 0, so many in all.
+#[cycle(restart)]
+fn restart(starts: &mut Option<Box<Ends>>, first: usize, many: usize)
+    requires window { first ≤ many }
+    requires inside { many ≤ length (starts_in starts.old) }
+    ensures tight { IsTight starts.new }
+    ensures is { starts_in starts.new ≡ take first (starts_in starts.old) ++ replicate (many - first) 0 }
+{
+    if many == 0 {
+        *starts = None;
+    } else if let Some(starts) = starts {
+        starts.truncate(many);
+        starts.clear(first);
     }
 }
 
@@ -72,15 +136,16 @@ impl Ends {
     pub(crate) fn new(ends: Vec<usize>) -> Result<Ends, AllocError>
         ensures { IfOk result (λ e. e ≡ ends.items) }
     {
-        let mut starts = Vec::new(*ends.allocator());
-        starts.resize(ends.len() / BLOCK, 0)?;
+        let mut starts = None;
+        grow(&mut starts, *ends.allocator(), ends.len() / BLOCK)?;
         Ok(Ends {
             within: ends,
             starts,
         })
     }
 
-    /// The end at a place. It takes constant time.
+    /// The end at a place. It takes one addition for each layer.
+    #[cycle(get)]
     pub(crate) fn get(&self, index: usize) -> usize
         requires { index < length self.now }
         ensures { result ≡ slice_index self.now index }
@@ -97,6 +162,20 @@ impl Ends {
         self.within[index] = end.wrapping_sub(start);
     }
 
+    /// Adds a number to all from a place on. Sums wrap.
+    #[cycle(add)]
+    fn add(&mut self, from: usize, by: usize)
+        requires { from ≤ length self.old }
+        ensures len { length self.new ≡ length self.old }
+        ensures before { (k : ℕ) → k < from → slice_index self.new k ≡ slice_index self.old k }
+        ensures behind { (k : ℕ) → from ≤ k → k < length self.old → slice_index self.new k ≡ (slice_index self.old k + by) % 2 ^ 64 }
+    {
+        let block = from / BLOCK;
+        let stop = self.within.len().min((block + 1) * BLOCK);
+        raise(&mut self.within, from, stop, by);
+        raise_starts(&mut self.starts, block, by);
+    }
+
     /// Moves the ends from one on by the difference of two lengths.
     pub(crate) fn shift(&mut self, from: usize, gone: usize, added: usize)
         requires inside { from ≤ length self.old }
@@ -104,12 +183,45 @@ impl Ends {
         ensures before { take from self.new ≡ take from self.old }
         ensures behind { drop from self.new ≡ map (λ e. e - gone + added) (drop from self.old) }
     {
-        let by = added.wrapping_sub(gone);
-        let block = from / BLOCK;
-        let stop = self.within.len().min((block + 1) * BLOCK);
-        raise(&mut self.within, from, stop, by);
-        let blocks = self.starts.len();
-        raise(&mut self.starts, block, blocks, by);
+        self.add(from, added.wrapping_sub(gone));
+    }
+
+    /// Writes 0 at each place from one on.
+    fn clear(&mut self, from: usize)
+        requires { from ≤ length self.old }
+        ensures { self.new ≡ take from self.old ++ replicate (length self.old - from) 0 }
+    {
+        for place in from..self.within.len() {
+            self.set(place, 0);
+        }
+    }
+
+    /// Keeps the first ones, so many.
+    #[cycle(restart)]
+    fn truncate(&mut self, many: usize)
+        ensures { self.new ≡ take many self.old }
+    {
+        self.within.truncate(many);
+        let blocks = self.within.len() / BLOCK;
+        restart(&mut self.starts, blocks, blocks);
+    }
+
+    /// Adds zeros, until there are so many.
+    #[cycle(grow)]
+    fn extend(&mut self, many: usize) -> Result<(), AllocError>
+        ensures ok { OnOk result (self.new ≡ self.old ++ replicate (many - length self.old) 0) }
+        ensures err { OnErr result (self.new ≡ self.old) }
+        ensures succeeds { many ≤ length self.old → IsOk result }
+    {
+        let count = self.within.len();
+        if many <= count {
+            return Ok(());
+        }
+        self.within.reserve(many - count)?;
+        grow(&mut self.starts, *self.within.allocator(), many / BLOCK)?;
+        let _ = self.within.resize(many, 0);
+        self.clear(count);
+        Ok(())
     }
 
     /// Makes place for `many` ends where those from `from` up to `to` stand: those before and after stay. It takes memory
@@ -133,13 +245,11 @@ impl Ends {
         }
         self.within.reserve(many.saturating_sub(to - from))?;
         let blocks = (self.within.len() - (to - from) + many) / BLOCK;
-        self.starts
-            .reserve(blocks.saturating_sub(self.starts.len()))?;
+        grow(&mut self.starts, *self.within.allocator(), blocks)?;
         let first = (from / BLOCK).saturating_sub(1);
         join(&mut self.within, &self.starts, first);
         make_place(&mut self.within, from, to, many);
-        self.starts.truncate(first);
-        let _ = self.starts.resize(blocks, 0);
+        restart(&mut self.starts, first, blocks);
         Ok(())
     }
 
@@ -148,9 +258,11 @@ impl Ends {
     pub(crate) fn copy(&self) -> Result<Ends, AllocError>
         ensures { IfOk result (λ e. e ≡ self.now) }
     {
-        Ok(Ends {
-            within: self.within.clone()?,
-            starts: self.starts.clone()?,
-        })
+        let within = self.within.clone()?;
+        let starts = match &self.starts {
+            Some(starts) => Some(Box::new(*within.allocator(), starts.copy()?)?),
+            None => None,
+        };
+        Ok(Ends { within, starts })
     }
 }

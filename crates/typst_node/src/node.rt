@@ -320,7 +320,8 @@ impl SyntaxNode {
     }
 
     /// Where the text of a child ends, in bytes from the beginning of this node's text: the joined length of the
-    /// children up to and with that one. `index` is a child index. It takes constant time.
+    /// children up to and with that one. `index` is a child index. It takes one addition, two from 256 children on, and
+    /// three from 65,536 on.
     #[tactic(auto, using(crate::proofs::Trees::trees_of_forest, crate::proofs::Trees::length_of_ends, crate::proofs::Trees::child_end_is))]
     pub fn child_end(&self, index: usize) -> usize
         requires { index < length (trees self.now.children) }

@@ -285,8 +285,8 @@ impl SyntaxNode {
     /// number of children grows.
     ///
     /// It takes time in proportion to the children of the range, to the replacement, and to the trees of the window.
-    /// Where the number of children changes, those after the range are moved. Where only their length changes, one
-    /// number is written for each of the next 256 children at most, and one for each 256 of those after them. The
+    /// Where the number of children changes, those after the range are moved. Where only their length changes, at most
+    /// 256 numbers are written, and as many again each time that the number of children is 256 times as large. The
     /// children are searched for errors or warnings where the range held some and the replacement doesn't. Lists grow
     /// by their own allocator.
     pub fn replace_children(

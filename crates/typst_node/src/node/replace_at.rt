@@ -175,8 +175,9 @@ impl SyntaxNode {
     /// After an error nothing has changed, and the replacement is dropped.
     ///
     /// It takes as long as the replacement at the node itself, and at each node above it, where the length changes, as
-    /// long as 256 children and each 256th of those after the path are many, and as its children are many where an
-    /// error or a warning may have gone. Lists grow by their own allocator.
+    /// long as it takes to write at most 256 numbers, and as many again each time that its children are 256 times as
+    /// many, and time in proportion to its children where an error or a warning may have gone. Lists grow by their own
+    /// allocator.
     pub fn replace_at(
         &mut self,
         _alloc: Global,
