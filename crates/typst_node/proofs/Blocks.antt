@@ -66,22 +66,10 @@ pub seen_alike : (starts others : List ℕ) (place : ℕ) (es : List ℕ) → ((
 seen_alike starts others place [] same = refl
 seen_alike starts others place (e ∷ es) same = (λ i. ((same (place / 256) i + e) % 2 ^ 64) ∷ seen_alike starts others (suc place) es same i)
 
--- ends after all blocks that begin somewhere are counted alike from any place
-pub seen_far : (starts : List ℕ) (block : ℕ) → ((k : ℕ) → block ≤ k → get_or starts k 0 ≡ 0) → (p q : ℕ) (es : List ℕ) → block ≤ p / 256 → block ≤ q / 256 → ends_seen starts p es ≡ ends_seen starts q es
-seen_far starts block none p q [] a b = refl
-seen_far starts block none p q (e ∷ es) a b =
-    let same : get_or starts (p / 256) 0 ≡ get_or starts (q / 256) 0 = none (p / 256) a ∙ sym (none (q / 256) b) in
-    (λ i. ((same i + e) % 2 ^ 64) ∷ seen_far starts block none (suc p) (suc q) es (omega arith) (omega arith) i)
-
 take-seen : (starts : List ℕ) (place n : ℕ) (es : List ℕ) → take n (ends_seen starts place es) ≡ ends_seen starts place (take n es)
 take-seen starts place zero es = refl
 take-seen starts place (suc n) [] = refl
 take-seen starts place (suc n) (e ∷ es) = ap (λ ys. ((get_or starts (place / 256) 0 + e) % 2 ^ 64) ∷ ys) (take-seen starts (suc place) n es)
-
-drop-seen : (starts : List ℕ) (place n : ℕ) (es : List ℕ) → drop n (ends_seen starts place es) ≡ ends_seen starts (place + n) (drop n es)
-drop-seen starts place zero es = let same : place ≡ place + zero = omega arith in ap (λ p. ends_seen starts p es) same
-drop-seen starts place (suc n) [] = refl
-drop-seen starts place (suc n) (e ∷ es) = let same : suc place + n ≡ place + suc n = omega arith in drop-seen starts (suc place) n es ∙ ap (λ p. ends_seen starts p (drop n es)) same
 
 -- a list of beginnings with blocks after it that begin at 0
 pub with_zeros : (starts : List ℕ) (n k : ℕ) → get_or (starts ++ replicate n zero) k zero ≡ get_or starts k zero
@@ -122,21 +110,9 @@ raised_to e gone added a b c = omega arith
 pub joined_end : (s w : ℕ) → (zero + (w + s) % 2 ^ 64) % 2 ^ 64 ≡ (s + w) % 2 ^ 64
 joined_end s w = omega arith
 
--- the ends of some blocks are counted from the beginning of all
-pub seen_joined : (starts before after : List ℕ) (first : ℕ) → length after ≡ length before
-    → ((k : ℕ) → k / 256 ≤ first → get_or after k 0 ≡ get_or before k 0)
-    → ((k : ℕ) → first < k / 256 → k < length before → get_or after k 0 ≡ (get_or before k 0 + get_or (0 ∷ starts) (k / 256) 0) % 2 ^ 64)
-    → ends_seen (0 ∷ take first starts) 0 after ≡ ends_seen (0 ∷ starts) 0 before
-seen_joined starts before after first many kept joined =
-    let all : List ℕ = 0 ∷ starts in
-    let some : List ℕ = 0 ∷ take first starts in
-    same_number_lists (ends_seen some 0 after) (ends_seen all 0 before) (length-ends_seen some 0 after ∙ (many ∙ sym (length-ends_seen all 0 before)))
-    (λ k h. let inside : k < length after = omega (arith, length-ends_seen some 0 after) in
-    seen_at some after k inside ∙ (at k (omega arith) (cases_lt first (k / 256)) ∙ sym (seen_at all before k (omega arith))))
-  where
-    at : (k : ℕ) → k < length before → (first < k / 256) ⊎ (k / 256 ≤ first) → (get_or (0 ∷ take first starts) (k / 256) 0 + get_or after k 0) % 2 ^ 64 ≡ (get_or (0 ∷ starts) (k / 256) 0 + get_or before k 0) % 2 ^ 64
-    at k h (inr low) = (λ i. (within_taken starts first (k / 256) low i + kept k low i) % 2 ^ 64)
-    at k h (inl high) = (λ i. (past_taken starts first (k / 256) high i + joined k high h i) % 2 ^ 64) ∙ joined_end (get_or (0 ∷ starts) (k / 256) 0) (get_or before k 0)
+-- an end of a block that keeps its beginning, after it was counted from the beginning of all
+rejoined : (s t w : ℕ) → s < 2 ^ 64 → (s + ((w + t) % 2 ^ 64 + (0 + (2 ^ 64 - s)) % 2 ^ 64) % 2 ^ 64) % 2 ^ 64 ≡ (t + w) % 2 ^ 64
+rejoined s t w h = omega (arith, h)
 
 at_each : (P : ℕ → Type 0) (es : List ℕ) → AllByRecursion P es → (k : ℕ) → k < length es → P (get_or es k 0)
 at_each P [] all k h = absurd (omega arith)
@@ -170,32 +146,6 @@ module _ (starts others before after : List ℕ) (from stop by : ℕ) (many : le
           let e : k / 256 ≤ from / 256 = omega (arith, same_block k j here) in
           (λ i. (low (k / 256) e i + raised k j here i) % 2 ^ 64) ∙ raised_within (get_or (0 ∷ starts) (k / 256) 0) (get_or before k 0) by
       by_part (inr there) = (λ i. (high (k / 256) (later_block k there h) (omega arith) i + back k there i) % 2 ^ 64) ∙ raised_start (get_or (0 ∷ starts) (k / 256) 0) (get_or before k 0) by
-
--- Ends are moved to another place, where no block begins after the one before.
-module _ (starts before after : List ℕ) (from to many first n : ℕ) (order : from ≤ to) (begins : first ≡ from / 256 - 1) where
-  placed : List ℕ → List ℕ
-  placed es = ends_seen (0 ∷ take first starts) 0 es
-
-  with_room : (es : List ℕ) → ends_seen (0 ∷ (take first starts ++ replicate n zero)) 0 es ≡ placed es
-  unfolding placed
-  with_room es = seen_alike (0 ∷ (take first starts ++ replicate n zero)) (0 ∷ take first starts) 0 es (with_zeros (zero ∷ take first starts) n)
-
-  none : (k : ℕ) → from / 256 ≤ k → get_or (zero ∷ take first starts) k zero ≡ zero
-  none zero h = refl
-  none (suc k) h = past_taken starts first (suc k) (omega arith)
-
-  pub place_before : take from after ≡ take from before → take from (ends_seen (0 ∷ (take first starts ++ replicate n zero)) 0 after) ≡ take from (ends_seen (0 ∷ take first starts) 0 before)
-  unfolding placed
-  place_before same =
-      ap (take from) (with_room after) ∙ (take-seen (0 ∷ take first starts) 0 from after ∙ (ap (ends_seen (0 ∷ take first starts) 0) same ∙ sym (take-seen (0 ∷ take first starts) 0 from before)))
-
-  pub place_behind : drop (from + many) after ≡ drop to before → drop (from + many) (ends_seen (0 ∷ (take first starts ++ replicate n zero)) 0 after) ≡ drop to (ends_seen (0 ∷ take first starts) 0 before)
-  unfolding placed
-  place_behind same =
-      ap (drop (from + many)) (with_room after)
-      ∙ (drop-seen (0 ∷ take first starts) 0 (from + many) after
-      ∙ (ap (ends_seen (0 ∷ take first starts) (0 + (from + many))) same
-      ∙ (seen_far (0 ∷ take first starts) (from / 256) none (0 + (from + many)) (0 + to) (drop to before) (omega arith) (omega arith) ∙ sym (drop-seen (0 ∷ take first starts) 0 to before))))
 
 pub where_ok : {E : Type 0} {X : Type 0} (r : Result (Unit {0}) E) (a b : X) → IsOk r → (if is_ok r then a else b) ≡ a
 where_ok (Ok x) a b h = refl
@@ -251,7 +201,11 @@ seen_with_zeros starts n es = seen_alike (0 ∷ (starts ++ replicate n zero)) (0
 
 -- nor do blocks after the last end
 pub seen_trimmed : (starts : List ℕ) (first : ℕ) (es : List ℕ) → length es / 256 ≤ first → ends_seen (0 ∷ take first starts) 0 es ≡ ends_seen (0 ∷ starts) 0 es
-seen_trimmed starts first es enough = seen_joined starts es es first refl (λ k a. refl) (λ k a b. absurd (omega (arith, enough)))
+seen_trimmed starts first es enough =
+    same_number_lists (ends_seen (0 ∷ take first starts) 0 es) (ends_seen (0 ∷ starts) 0 es) (length-ends_seen (0 ∷ take first starts) 0 es ∙ sym (length-ends_seen (0 ∷ starts) 0 es))
+    (λ k h. let inside : k < length es = omega (arith, length-ends_seen (0 ∷ take first starts) 0 es) in
+    seen_at (0 ∷ take first starts) es k inside
+    ∙ (ap (λ s. (s + get_or es k 0) % 2 ^ 64) (within_taken starts first (k / 256) (omega (arith, enough))) ∙ sym (seen_at (0 ∷ starts) es k inside)))
 
 pub seen_cut : (starts within : List ℕ) (many first n : ℕ) → length (take many within) / 256 ≤ first
     → ends_seen (0 ∷ (take first starts ++ replicate n zero)) 0 (take many within) ≡ take many (ends_seen (0 ∷ starts) 0 within)
@@ -266,3 +220,65 @@ pub seen_before : (starts within more : List ℕ) (n : ℕ) → take (length wit
 seen_before starts within more n =
     ap (take (length within)) (seen_with_zeros starts n (within ++ more))
     ∙ (take-seen (0 ∷ starts) 0 (length within) (within ++ more) ∙ ap (ends_seen (0 ∷ starts) 0) (take-append_seam within more))
+
+-- Ends are moved to another place: those behind were counted from the beginning of all, and those that stand in the block of the
+-- place then are counted from where that begins.
+module _ (starts within joined placed after : List ℕ) (from to many n stop : ℕ) (order : from ≤ to) (inside : to ≤ length within)
+    (as_many : length joined ≡ length within) (moved : length placed + (to - from) ≡ length joined + many) (in_all : length after ≡ length placed)
+    (start_fits : get_or (0 ∷ starts) (from / 256) 0 < 2 ^ 64)
+    (kept : (k : ℕ) → k < to → get_or joined k 0 ≡ get_or within k 0)
+    (counted : (k : ℕ) → to ≤ k → k < length within → get_or joined k 0 ≡ (get_or within k 0 + get_or (0 ∷ starts) (k / 256) 0) % 2 ^ 64)
+    (before : take from placed ≡ take from joined) (behind : drop (from + many) placed ≡ drop to joined)
+    (front : (k : ℕ) → k < from + many → get_or after k 0 ≡ get_or placed k 0)
+    (here : (k : ℕ) → from + many ≤ k → k < stop → get_or after k 0 ≡ (get_or placed k 0 + (0 + (2 ^ 64 - get_or (0 ∷ starts) (from / 256) 0)) % 2 ^ 64) % 2 ^ 64)
+    (there : (k : ℕ) → stop ≤ k → get_or after k 0 ≡ get_or placed k 0)
+    (same_block : (k : ℕ) → from + many ≤ k → k < stop → k / 256 ≡ from / 256)
+    (later_block : (k : ℕ) → stop ≤ k → from + many ≤ k → k < length placed → from / 256 < k / 256) where
+  abbrev begins : List ℕ
+  begins = 0 ∷ (take (from / 256) starts ++ replicate n zero)
+
+  kept_start : (block : ℕ) → block ≤ from / 256 → get_or begins block 0 ≡ get_or (0 ∷ starts) block 0
+  kept_start block h = with_zeros (zero ∷ take (from / 256) starts) n block ∙ within_taken starts (from / 256) block h
+
+  new_start : (block : ℕ) → from / 256 < block → get_or begins block 0 ≡ 0
+  new_start block h = with_zeros (zero ∷ take (from / 256) starts) n block ∙ past_taken starts (from / 256) block (omega (arith, h))
+
+  pub place_before : take from (ends_seen (0 ∷ (take (from / 256) starts ++ replicate n zero)) 0 after) ≡ take from (ends_seen (0 ∷ starts) 0 within)
+  place_before =
+      let new : List ℕ = ends_seen begins 0 after in
+      let old : List ℕ = ends_seen (0 ∷ starts) 0 within in
+      same_number_lists (take from new) (take from old)
+      (omega (arith, length-take from new, length-take from old, length-ends_seen begins 0 after, length-ends_seen (0 ∷ starts) 0 within))
+      (λ k h. let near : k < from = omega (arith, length-take from new) in
+      let item : get_or placed k 0 ≡ get_or joined k 0 = sym (get_or-take from placed k 0 near) ∙ (ap (λ (xs : List ℕ). get_or xs k 0) before ∙ get_or-take from joined k 0 near) in
+      get_or-take from new k 0 near
+      ∙ (seen_at begins after k (omega arith)
+      ∙ ((λ i. (kept_start (k / 256) (omega arith) i + (front k (omega arith) ∙ (item ∙ kept k (omega arith))) i) % 2 ^ 64)
+      ∙ (sym (seen_at (0 ∷ starts) within k (omega arith)) ∙ sym (get_or-take from old k 0 near)))))
+
+  pub place_behind : drop (from + many) (ends_seen (0 ∷ (take (from / 256) starts ++ replicate n zero)) 0 after) ≡ drop to (ends_seen (0 ∷ starts) 0 within)
+  place_behind =
+      let new : List ℕ = ends_seen begins 0 after in
+      let old : List ℕ = ends_seen (0 ∷ starts) 0 within in
+      same_number_lists (drop (from + many) new) (drop to old)
+      (omega (arith, length-drop (from + many) new, length-drop to old, length-ends_seen begins 0 after, length-ends_seen (0 ∷ starts) 0 within))
+      (λ k h. let near : from + many + k < length after = omega (arith, length-drop (from + many) new, length-ends_seen begins 0 after) in
+      get_or-drop (from + many) new k 0 ∙ (seen_at begins after (from + many + k) near
+      ∙ (at k near (cases_lt (from + many + k) stop) ∙ (sym (seen_at (0 ∷ starts) within (to + k) (omega arith)) ∙ sym (get_or-drop to old k 0)))))
+    where
+      item : (k : ℕ) → from + many + k < length after → get_or placed (from + many + k) 0 ≡ (get_or within (to + k) 0 + get_or (0 ∷ starts) ((to + k) / 256) 0) % 2 ^ 64
+      item k h =
+          sym (get_or-drop (from + many) placed k 0)
+          ∙ (ap (λ (xs : List ℕ). get_or xs k 0) behind ∙ (get_or-drop to joined k 0 ∙ counted (to + k) (omega arith) (omega arith)))
+
+      at : (k : ℕ) → from + many + k < length after → (from + many + k < stop) ⊎ (stop ≤ from + many + k)
+          → (get_or begins ((from + many + k) / 256) 0 + get_or after (from + many + k) 0) % 2 ^ 64 ≡ (get_or (0 ∷ starts) ((to + k) / 256) 0 + get_or within (to + k) 0) % 2 ^ 64
+      at k h (inl a) =
+          let s : ℕ = get_or (0 ∷ starts) (from / 256) 0 in
+          let block : (from + many + k) / 256 ≡ from / 256 = same_block (from + many + k) (omega arith) a in
+          (λ i. (get_or begins (block i) 0 + (here (from + many + k) (omega arith) a ∙ ap (λ w. (w + (0 + (2 ^ 64 - s)) % 2 ^ 64) % 2 ^ 64) (item k h)) i) % 2 ^ 64)
+          ∙ (ap (λ b. (b + ((get_or within (to + k) 0 + get_or (0 ∷ starts) ((to + k) / 256) 0) % 2 ^ 64 + (0 + (2 ^ 64 - s)) % 2 ^ 64) % 2 ^ 64) % 2 ^ 64) (kept_start (from / 256) (omega arith))
+          ∙ rejoined s (get_or (0 ∷ starts) ((to + k) / 256) 0) (get_or within (to + k) 0) start_fits)
+      at k h (inr a) =
+          (λ i. (new_start ((from + many + k) / 256) (later_block (from + many + k) a (omega arith) (omega arith)) i + (there (from + many + k) a ∙ item k h) i) % 2 ^ 64)
+          ∙ joined_end (get_or (0 ∷ starts) ((to + k) / 256) 0) (get_or within (to + k) 0)

@@ -79,16 +79,19 @@ fn raise_starts(starts: &mut Option<Box<Ends>>, from: usize, by: usize)
     }
 }
 
-/// Counts the ends of all blocks after one from the beginning of all, so that these blocks need not begin anywhere.
-fn join(within: &mut [usize], starts: &Option<Box<Ends>>, first: usize)
-    requires { length within.old / 256 ≤ length (starts_in starts.now) }
-    ensures { ends_seen (0 ∷ take first (starts_in starts.now)) 0 within.new ≡ ends_seen (0 ∷ starts_in starts.now) 0 within.old }
+/// Counts the ends from one on from the beginning of all.
+fn join(within: &mut [usize], starts: &Option<Box<Ends>>, from: usize)
+    requires inside { from ≤ length within.old }
+    requires starts { length within.old / 256 ≤ length (starts_in starts.now) }
+    ensures before { (k : ℕ) → k < from → slice_index within.new k ≡ slice_index within.old k }
+    ensures behind { (k : ℕ) → from ≤ k → k < length within.old → slice_index within.new k
+        ≡ (slice_index within.old k + slice_index (0 ∷ starts_in starts.now) (k / 256)) % 2 ^ 64 }
 {
     let count = within.len();
-    for block in first..count / BLOCK {
-        let from = (block + 1) * BLOCK;
-        let to = count.min(from + BLOCK);
-        raise(within, from, to, start_of(starts, block + 1));
+    for block in from / BLOCK..count.div_ceil(BLOCK) {
+        let begin = from.max(block * BLOCK);
+        let end = count.min((block + 1) * BLOCK);
+        raise(within, begin, end, start_of(starts, block));
     }
 }
 
@@ -246,10 +249,16 @@ impl Ends {
         self.within.reserve(many.saturating_sub(to - from))?;
         let blocks = (self.within.len() - (to - from) + many) / BLOCK;
         grow(&mut self.starts, *self.within.allocator(), blocks)?;
-        let first = (from / BLOCK).saturating_sub(1);
-        join(&mut self.within, &self.starts, first);
+        join(&mut self.within, &self.starts, to);
         make_place(&mut self.within, from, to, many);
-        restart(&mut self.starts, first, blocks);
+        // The block of `from` begins where it did, and later ones at 0.
+        let block = from / BLOCK;
+        let behind = from + many;
+        let stop = self.within.len().min((block + 1) * BLOCK);
+        let start = start_of(&self.starts, block);
+        let back = 0usize.wrapping_sub(start);
+        raise(&mut self.within, behind, behind.max(stop), back);
+        restart(&mut self.starts, block, blocks);
         Ok(())
     }
 

@@ -4,7 +4,7 @@ use Rattle.typst_node.proofs.ends.join.Given as goal
 
 abbrev pub invariant-loop-block : goal.invariant-loop-block
 invariant-loop-block l = record {
-  kept : (k : ℕ) → k / 256 ≤ l.first → get_or l.within k 0 ≡ get_or l.initial.within k 0;
-  joined : (k : ℕ) → l.first < k / 256 → k / 256 ≤ l.block → k < length l.within → get_or l.within k 0 ≡ (get_or l.initial.within k 0 + get_or (0 ∷ starts_in l.starts) (k / 256) 0) % 2 ^ 64;
-  left : (k : ℕ) → l.block < k / 256 → get_or l.within k 0 ≡ get_or l.initial.within k 0;
+  kept : (k : ℕ) → k < l.from → get_or l.within k 0 ≡ get_or l.initial.within k 0;
+  joined : (k : ℕ) → l.from ≤ k → k / 256 < l.block → k < length l.within → get_or l.within k 0 ≡ (get_or l.initial.within k 0 + get_or (0 ∷ starts_in l.starts) (k / 256) 0) % 2 ^ 64;
+  left : (k : ℕ) → l.block ≤ k / 256 → get_or l.within k 0 ≡ get_or l.initial.within k 0;
 }
