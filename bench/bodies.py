@@ -508,7 +508,7 @@ def main():
     words.add_argument("crates", nargs="*")
     words.add_argument("--only", default="", help="the edits alone whose names hold this word, or one of these, parted by commas")
     words.add_argument("--beside", metavar="LOG", default="")
-    words.add_argument("--jobs", type=int, default=2)
+    words.add_argument("--jobs", type=int, default=1)
     words.add_argument("--lanes", type=int, default=1, help="how many crates are judged at a time")
     for flag in ("apply", "each", "goals", "test"):
         words.add_argument(f"--{flag}", action="store_true")
