@@ -23,6 +23,7 @@ which must be proved. What a batch doesn't decide is tried again, apart from all
 as they are, and at last alone, with every body; what isn't decided then is told as not judged, which fails.
 """
 import argparse
+import os
 import re
 import resource
 import shutil
@@ -160,12 +161,19 @@ class Room:
             text = (self.crate / file).read_text()
             (self.crate / file).write_text(placed(text, [it for it in hunks if it.file == file]))
         self.checks += 1
-        words = ["rt", "check", "--jobs", str(self.jobs), *(word for it in only for word in ("--only", it))]
+        jobs = max(1, min(self.jobs, idle_processors()))
+        words = ["rt", "check", "--jobs", str(jobs), *(word for it in only for word in ("--only", it))]
         ran = subprocess.run(words, cwd=self.crate, capture_output=True, text=True)
         self.text = ran.stdout + ran.stderr
         reached = REACHED.search(self.text)
         errors = [(file, text) for file, text in ERRORS.findall(self.text) if not text.startswith("`judged`")]
         return (said_in(self.text), errors) if reached else ({}, [])
+
+
+def idle_processors():
+    """How many processors have nothing to do just now, this one apart. Two jobs take a quarter more of them in all than one."""
+    running = int(Path("/proc/loadavg").read_text().split()[3].partition("/")[0])
+    return len(os.sched_getaffinity(0)) + 1 - running
 
 
 def said_in(text):
@@ -508,7 +516,7 @@ def main():
     words.add_argument("crates", nargs="*")
     words.add_argument("--only", default="", help="the edits alone whose names hold this word, or one of these, parted by commas")
     words.add_argument("--beside", metavar="LOG", default="")
-    words.add_argument("--jobs", type=int, default=1)
+    words.add_argument("--jobs", type=int, default=2, help="how many jobs a check gets at most: one where no processor is idle")
     words.add_argument("--lanes", type=int, default=1, help="how many crates are judged at a time")
     for flag in ("apply", "each", "goals", "test"):
         words.add_argument(f"--{flag}", action="store_true")
