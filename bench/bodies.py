@@ -161,6 +161,7 @@ class Room:
             text = (self.crate / file).read_text()
             (self.crate / file).write_text(placed(text, [it for it in hunks if it.file == file]))
         self.checks += 1
+        wait_for_memory()
         jobs = max(1, min(self.jobs, idle_processors()))
         words = ["rt", "check", "--jobs", str(jobs), *(word for it in only for word in ("--only", it))]
         ran = subprocess.run(words, cwd=self.crate, capture_output=True, text=True)
@@ -174,6 +175,15 @@ def idle_processors():
     """How many processors have nothing to do just now, this one apart. Two jobs take a quarter more of them in all than one."""
     running = int(Path("/proc/loadavg").read_text().split()[3].partition("/")[0])
     return len(os.sched_getaffinity(0)) + 1 - running
+
+
+def wait_for_memory():
+    """Waits until there is memory for a check, which takes 1 to 3 GB, or ten minutes."""
+    for _ in range(300):
+        available = re.search(r"MemAvailable:\s+(\d+) kB", Path("/proc/meminfo").read_text())
+        if int(available[1]) > 4_000_000:
+            break
+        time.sleep(2)
 
 
 def said_in(text):
