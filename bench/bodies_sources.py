@@ -11,6 +11,7 @@ IMPL = re.compile(
     re.M,
 )
 CONST = re.compile(r"\bconst (\w+):[^;=]*=(.*?);$", re.M | re.S)
+STOP = re.compile(r";(?![^][]*\])")  # the end of a bare signature, and not of the type in an array's `[T; N]`
 CLAUSE = re.compile(r"\b(requires|ensures|ghost|decreases)\b\*?[^{}]*$")
 TYPE = re.compile(r"^(?:pub(?:\([^)]*\))? )?(?:struct|enum) (\w+)", re.M)
 ITEM = re.compile(r"^(?:#\[[^\n]*\n)*pub (?:struct|enum) (\w+)[^;{]*?\{", re.M)
@@ -161,8 +162,8 @@ def closing(text, at):
 def body_of(text, at):
     """The offset of the `{` of the body of the function whose head goes on here, after its clauses; none for a bare signature."""
     while True:
-        brace, stop = text.find("{", at), text.find(";", at)
-        if brace < 0 or 0 <= stop < brace:
+        brace, stop = text.find("{", at), STOP.search(text, at)
+        if brace < 0 or stop and stop.start() < brace:
             return None
         if not CLAUSE.search(text[at:brace]):
             return brace

@@ -35,7 +35,9 @@ pub const CALLS: &[(&str, Call)] = &[
     ("leaf of 22 bytes", Call::Make(Making::LongLeaf)),
     ("error", Call::Make(Making::Error)),
     ("inner", Call::Make(Making::Inner)),
+    ("inner of 11 leaves", Call::Make(Making::InnerOfEleven)),
     ("clone", Call::Make(Making::Clone)),
+    ("clone of 11 leaves", Call::Make(Making::CloneOfEleven)),
     ("clone of a diagnostic", Call::CloneDiagnostic),
     ("warn", Call::Change(Change::Warn)),
     ("warn_at", Call::Change(Change::WarnAt)),
@@ -47,6 +49,14 @@ pub const CALLS: &[(&str, Call)] = &[
     ("expected", Call::Change(Change::Expected)),
     ("unexpected", Call::Change(Change::Unexpected)),
     ("replace_children", Call::Replace(Replacing::Children)),
+    (
+        "replace_children of 10 leaves",
+        Call::Replace(Replacing::ChildrenOfTen),
+    ),
+    (
+        "replace_children of 11 leaves",
+        Call::Replace(Replacing::ChildrenOfEleven),
+    ),
     ("replace_at", Call::Replace(Replacing::Below)),
     ("full_text", Call::Read(Reading::FullText)),
     (

@@ -1,7 +1,7 @@
 //! Calls that change a node.
 use crate::end::{End, Fault, Stop};
 use crate::requests::Requests;
-use crate::trees::{NESTED, Step, grow, grow_all, grow_numbered};
+use crate::trees::{ELEVEN, NESTED, Step, TEN, grow, grow_all, grow_numbered};
 use std::alloc::Global;
 use typst_base::SyntaxKind;
 use typst_node::{Renumbered, SyntaxNode};
@@ -103,6 +103,10 @@ pub fn hint_all(alloc: Global, requests: Requests) -> Result<End, Stop> {
 pub enum Replacing {
     /// `replace_children`
     Children,
+    /// `replace_children`, of a node of ten letters.
+    ChildrenOfTen,
+    /// `replace_children`, of a node of eleven letters.
+    ChildrenOfEleven,
     /// `replace_at`, of a node two levels below the root.
     Below,
 }
@@ -110,7 +114,7 @@ pub enum Replacing {
 impl Replacing {
     /// Makes the call, whose answer is to be that of the same call before.
     pub fn run(self, alloc: Global, requests: Requests) -> Result<End, Stop> {
-        let kept = grow_numbered(alloc, NESTED, 1 << 20)?;
+        let kept = grow_numbered(alloc, self.lent(), 1 << 20)?;
         let mut replaced = kept.clone()?;
         let told = self.make(alloc, &mut replaced, leaves(alloc)?)?;
         let mut tree = kept.clone()?;
@@ -122,6 +126,15 @@ impl Replacing {
         })
     }
 
+    /// What is lent.
+    fn lent(self) -> &'static [Step] {
+        match self {
+            Replacing::ChildrenOfTen => TEN,
+            Replacing::ChildrenOfEleven => ELEVEN,
+            Replacing::Children | Replacing::Below => NESTED,
+        }
+    }
+
     fn make(
         self,
         alloc: Global,
@@ -129,17 +142,16 @@ impl Replacing {
         leaves: Vec<SyntaxNode>,
     ) -> Result<Renumbered, Fault> {
         let path: &[usize] = match self {
-            Replacing::Children => &[],
             Replacing::Below => &[1, 1],
+            _ => &[],
         };
         if !tree.is_numbered() || !tree.edit_fits(path, 1..1) {
             return Err(Fault::Other);
         }
         match self {
-            Replacing::Children if tree.edit_fits(&[], 1..1) => {
-                Ok(tree.replace_children(alloc, 1..1, leaves)?)
-            }
-            _ => Ok(tree.replace_at(alloc, path, 1..1, leaves)?),
+            Replacing::Below => Ok(tree.replace_at(alloc, path, 1..1, leaves)?),
+            _ if tree.edit_fits(&[], 1..1) => Ok(tree.replace_children(alloc, 1..1, leaves)?),
+            _ => Err(Fault::Other),
         }
     }
 }

@@ -1,7 +1,7 @@
 //! Calls that make a value.
 use crate::end::{End, Fault, Stop};
 use crate::requests::Requests;
-use crate::trees::{ALL_FORMS, Step, grow, grow_all};
+use crate::trees::{ALL_FORMS, ELEVEN, Step, grow, grow_all};
 use std::alloc::Global;
 use typst_base::{RangeMapper, SyntaxKind};
 use typst_node::SyntaxNode;
@@ -17,22 +17,48 @@ pub enum Making {
     Error,
     /// `SyntaxNode::inner`
     Inner,
+    /// `SyntaxNode::inner` over eleven letters.
+    InnerOfEleven,
     /// The clone of a node.
     Clone,
+    /// The clone of a node of eleven letters.
+    CloneOfEleven,
 }
+
+/// Two leaves.
+const TWO: &[Step] = &[
+    Step::Leaf(SyntaxKind::Text, "ab"),
+    Step::Leaf(SyntaxKind::Text, "c"),
+];
 
 impl Making {
     /// Makes the call, whose answer is to be that of the same call before.
     pub fn run(self, alloc: Global, requests: Requests) -> Result<End, Stop> {
-        let lent = grow(alloc, ALL_FORMS)?;
+        let lent = grow(alloc, self.lent())?;
         let kept = lent.clone()?;
-        let made_before = self.make(alloc, &lent, parts(alloc)?)?;
-        let parts = parts(alloc)?;
+        let made_before = self.make(alloc, &lent, self.parts(alloc)?)?;
+        let parts = self.parts(alloc)?;
         requests.make(alloc)?;
         Ok(match self.make(alloc, &lent, parts) {
             Ok(made) => End::answered(made == made_before),
             Err(fault) => End::failed(fault, lent == kept),
         })
+    }
+
+    /// What is lent.
+    fn lent(self) -> &'static [Step] {
+        match self {
+            Making::CloneOfEleven => ELEVEN,
+            _ => ALL_FORMS,
+        }
+    }
+
+    /// The parts of an inner node: two leaves, or eleven letters.
+    fn parts(self, alloc: Global) -> Result<Vec<SyntaxNode>, Stop> {
+        match self {
+            Making::InnerOfEleven => grow_all(alloc, &ELEVEN[..11]),
+            _ => grow_all(alloc, TWO),
+        }
     }
 
     fn make(
@@ -49,19 +75,12 @@ impl Making {
                 "a text of 22 bytes....",
             )?),
             Making::Error => Ok(SyntaxNode::error(alloc, "m", "#")?),
-            Making::Inner => Ok(SyntaxNode::inner(alloc, SyntaxKind::Markup, parts)?),
-            Making::Clone => Ok(lent.clone()?),
+            Making::Inner | Making::InnerOfEleven => {
+                Ok(SyntaxNode::inner(alloc, SyntaxKind::Markup, parts)?)
+            }
+            Making::Clone | Making::CloneOfEleven => Ok(lent.clone()?),
         }
     }
-}
-
-/// Two leaves.
-fn parts(alloc: Global) -> Result<Vec<SyntaxNode>, Stop> {
-    let steps = [
-        Step::Leaf(SyntaxKind::Text, "ab"),
-        Step::Leaf(SyntaxKind::Text, "c"),
-    ];
-    grow_all(alloc, &steps)
 }
 
 /// `RangeMapper::new` over two segments.

@@ -63,6 +63,40 @@ pub const ALL_FORMS: &[Step] = &[
     Step::Inner(SyntaxKind::Markup, 3),
 ];
 
+/// A letter.
+const LETTER: Step = Step::Leaf(SyntaxKind::Text, "a");
+
+/// Ten letters in a node, which itself holds where their texts end.
+pub const TEN: &[Step] = &[
+    LETTER,
+    LETTER,
+    LETTER,
+    LETTER,
+    LETTER,
+    LETTER,
+    LETTER,
+    LETTER,
+    LETTER,
+    LETTER,
+    Step::Inner(SyntaxKind::Markup, 10),
+];
+
+/// Eleven letters in a node, for which it has a list.
+pub const ELEVEN: &[Step] = &[
+    LETTER,
+    LETTER,
+    LETTER,
+    LETTER,
+    LETTER,
+    LETTER,
+    LETTER,
+    LETTER,
+    LETTER,
+    LETTER,
+    LETTER,
+    Step::Inner(SyntaxKind::Markup, 11),
+];
+
 /// The trees that these steps leave on the stack, in order.
 pub fn grow_all(alloc: Global, steps: &[Step]) -> Result<Vec<SyntaxNode>, Stop> {
     let mut nodes = Vec::with_capacity(alloc, steps.len())?;

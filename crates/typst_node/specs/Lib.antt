@@ -41,4 +41,5 @@ pub mod Converted
 pub mod Mapped
 pub mod MappedForest
 pub mod Ends
+pub mod ChildEnds
 pub mod EndsLength

@@ -51,8 +51,8 @@ fn start_of(starts: &Option<Box<Ends>>, block: usize) -> usize
     }
 }
 
-/// Adds a number to those from `from` up to `to`.
-fn raise(numbers: &mut [usize], from: usize, to: usize, by: usize)
+/// Adds a number to those from `from` up to `to`. Sums wrap.
+pub(crate) fn raise(numbers: &mut [usize], from: usize, to: usize, by: usize)
     requires window { from ≤ to }
     requires inside { to ≤ length numbers.old }
     ensures raised { (k : ℕ) → from ≤ k → k < to → slice_index numbers.new k ≡ (slice_index numbers.old k + by) % 2 ^ 64 }

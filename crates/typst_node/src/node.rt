@@ -8,8 +8,8 @@ ghost use Rattle.typst_node.specs.Diagnosis.{has_error, has_warning, is_error};
 ghost use Rattle.typst_node.specs.Labels.{bound};
 ghost use Rattle.typst_node.specs.View.{warnings_in};
 
+use crate::child_ends::ChildEnds;
 use crate::diagnosis::Diagnosis;
-use crate::ends::Ends;
 use crate::short_text::ShortText;
 use std::alloc::{AllocError, Global};
 use std::marker::Model;
@@ -75,7 +75,7 @@ struct InnerNode {
     warnings: Vec<Warning>,
     // At each place the joined length of the children up to and with the one there. They stand last, since most calls
     // read all but them.
-    ends: Ends,
+    ends: ChildEnds,
 }
 
 /// A leaf whose text may be long, and which may have warnings. Its kind is never `Error`.
@@ -320,8 +320,8 @@ impl SyntaxNode {
     }
 
     /// Where the text of a child ends, in bytes from the beginning of this node's text: the joined length of the
-    /// children up to and with that one. `index` is a child index. It takes one addition, two from 256 children on, and
-    /// three from 65,536 on.
+    /// children up to and with that one. `index` is a child index. It is one read in a node of up to ten children, and
+    /// takes one addition beside it from eleven on, two from 256 on, and three from 65,536 on.
     #[tactic(auto, using(crate::proofs::Trees::trees_of_forest, crate::proofs::Trees::length_of_ends, crate::proofs::Trees::child_end_is))]
     pub fn child_end(&self, index: usize) -> usize
         requires { index < length (trees self.now.children) }

@@ -1,10 +1,11 @@
 // What an inner node keeps of its children.
-ghost use Rattle.std.specs.Prelude.{◌≡◌, ◌↔◌, MatchOption, IfOk, OnOk, IsErrOf};
+ghost use Rattle.std.specs.Prelude.{◌≡◌, ◌↔◌, length, MatchOption, IfSome, IfOk, OnOk, IsErrOf};
 ghost use Rattle.typst_node.specs.Count.{SumsFit};
 ghost use Rattle.typst_node.specs.Sums.{AreSums};
 ghost use Rattle.typst_node.specs.View.{ends_from};
 ghost use Rattle.typst_node.specs.declared.node.build.InnerError.TheVariants.{Overflow};
 
+use crate::child_ends::{ChildEnds, FEW};
 use crate::diagnosis::Diagnosis;
 use crate::ends::Ends;
 use crate::node::SyntaxNode;
@@ -42,43 +43,65 @@ pub(crate) fn sums_of(children: &[SyntaxNode]) -> Option<Sums>
     })
 }
 
-/// The sums of the children and where the text of each ends, in one walk. Where memory is refused, the sums alone tell which
-/// error it is.
-pub(crate) fn measured(alloc: Global, children: &[SyntaxNode]) -> Result<(Sums, Ends), InnerError>
-    ensures sums { IfOk result (λ both. AreSums both.0 children.now) }
-    ensures ends { IfOk result (λ both. both.1 ≡ ends_from 0 children.now) }
-    ensures fits { OnOk result (SumsFit children.now) }
-    ensures overflow { IsErrOf result Overflow ↔ ¬ (SumsFit children.now) }
+/// Adds up the children, and writes where the text of each ends, if the sums fit a usize.
+fn measure(children: &[SyntaxNode], ends: &mut [usize]) -> Option<Sums>
+    requires { length ends.old ≡ length children.now }
+    ensures sums { MatchOption result (¬ (SumsFit children.now))
+        (λ sums. SumsFit children.now × AreSums sums children.now) }
+    ensures ends { IfSome result (λ _. ends.new ≡ ends_from 0 children.now) }
 {
-    let Ok(mut ends) = Vec::with_capacity(alloc, children.len()) else {
-        return Err(match sums_of(children) {
-            Some(_) => InnerError::Memory,
-            None => InnerError::Overflow,
-        });
-    };
     let mut len = 0usize;
     let mut descendants = 1usize;
     let mut diagnosis = Diagnosis {
         errors: false,
         warnings: false,
     };
-    for child in children {
-        let (Some(end), Some(count)) = (
-            len.checked_add(child.len()),
-            descendants.checked_add(child.descendants()),
-        ) else {
-            return Err(InnerError::Overflow);
-        };
-        len = end;
-        descendants = count;
+    for i in 0..children.len() {
+        let child = &children[i];
+        len = len.checked_add(child.len())?;
+        descendants = descendants.checked_add(child.descendants())?;
         diagnosis = diagnosis.or(child.diagnosis());
-        // There is room for all.
-        let _ = ends.push(end);
+        ends[i] = len;
     }
-    let sums = Sums {
+    Some(Sums {
         len,
         descendants,
         diagnosis,
+    })
+}
+
+/// So many zeros.
+fn zeros(alloc: Global, count: usize) -> Result<Vec<usize>, AllocError>
+    ensures { IfOk result (λ v. length v.items ≡ count) }
+{
+    let mut zeros = Vec::with_capacity(alloc, count)?;
+    zeros.resize(count, 0)?;
+    Ok(zeros)
+}
+
+/// The sums of the children and where the text of each ends, in one walk. Where memory is refused, the sums alone tell which
+/// error it is.
+pub(crate) fn measured(
+    alloc: Global,
+    children: &[SyntaxNode],
+) -> Result<(Sums, ChildEnds), InnerError>
+    ensures sums { IfOk result (λ both. AreSums both.0 children.now) }
+    ensures ends { IfOk result (λ both. both.1 ≡ ends_from 0 children.now) }
+    ensures fits { OnOk result (SumsFit children.now) }
+    ensures overflow { IsErrOf result Overflow ↔ ¬ (SumsFit children.now) }
+{
+    let count = children.len();
+    if count <= FEW {
+        let mut ends = [0; FEW];
+        let sums = measure(children, &mut ends[..count]).ok_or(InnerError::Overflow)?;
+        return Ok((sums, ChildEnds::few(count, ends)));
+    }
+    let Ok(mut ends) = zeros(alloc, count) else {
+        return Err(match sums_of(children) {
+            Some(_) => InnerError::Memory,
+            None => InnerError::Overflow,
+        });
     };
-    Ok((sums, Ends::new(ends)?))
+    let sums = measure(children, &mut ends).ok_or(InnerError::Overflow)?;
+    Ok((sums, ChildEnds::many(Ends::new(ends)?)))
 }

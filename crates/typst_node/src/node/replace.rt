@@ -134,7 +134,8 @@ impl InnerNode {
     {
         let many = others.len();
         self.make_room(many.saturating_sub(to - from))?;
-        self.ends.make_place(from, to, many)?;
+        let alloc = *self.children.allocator();
+        self.ends.make_place(alloc, from, to, many)?;
         exchange(&mut self.children, from, to, others)?;
         self.settle(from, from + many, &change.gone, &change.added);
         Ok(())

@@ -10,8 +10,8 @@ ghost use Rattle.typst_node.specs.View.{IsMeasured, ends_from};
 ghost use Rattle.typst_node.specs.Sums.{AreSums};
 ghost use Rattle.typst_node.specs.Stale.{IsStale};
 
+use crate::child_ends::ChildEnds;
 use crate::diagnosis::Diagnosis;
-use crate::ends::Ends;
 use crate::node::inner::Sums;
 use crate::node::{InnerNode, SyntaxNode};
 
@@ -64,7 +64,7 @@ fn diagnosis_after(
 }
 
 /// Writes where the texts of the children from `from` up to `to` end, given where those before them do.
-fn write_ends(ends: &mut Ends, children: &[SyntaxNode], from: usize, to: usize)
+fn write_ends(ends: &mut ChildEnds, children: &[SyntaxNode], from: usize, to: usize)
     requires many { length ends.old ≡ length children.now }
     requires window { from ≤ to }
     requires inside { to ≤ length children.now }
@@ -83,7 +83,7 @@ fn write_ends(ends: &mut Ends, children: &[SyntaxNode], from: usize, to: usize)
 /// Writes where the texts of the children from `from` up to `to` end, and moves the ends after them by the
 /// difference of what stood there and what stands there now. After a change that keeps the length nothing is written.
 fn settle_ends(
-    ends: &mut Ends,
+    ends: &mut ChildEnds,
     children: &[SyntaxNode],
     from: usize,
     to: usize,

@@ -12,6 +12,11 @@ pub make_place-requires-clause-inside : goal.make_place-requires-clause-inside
 make_place-requires-clause-inside c =
     omega (arith, ap length c.make_room.ensures.measured.ends, length_of_ends 0 c.make_room.new.self.children.items, ap length c.make_room.ensures.children)
 
+pub make_place-requires-clause-fits : goal.make_place-requires-clause-fits
+make_place-requires-clause-fits c =
+    let list = c.make_room.new.self.children in
+    omega (arith, ap length c.make_room.ensures.measured.ends, length_of_ends 0 list.items, list.ok, list.small, c.args.others.ok, c.args.others.small)
+
 pub settle-requires-clause-stale : goal.settle-requires-clause-stale
 settle-requires-clause-stale c =
     let old = c.make_room.new.self in
