@@ -1,7 +1,8 @@
 // Replacements at any depth.
-ghost use Rattle.std.specs.Prelude.{[], ◌∷◌, ◌≡◌, ◌+◌, ◌-◌, ◌^◌, ◌<◌, ◌≤◌, ◌⊎◌, ◌↔◌, suc, length, set, get_or, Ok, OnErr, OnOk, IfOk, IsTrue, IsErrOf};
+ghost use Rattle.std.specs.Prelude.{[], ◌∷◌, ◌≡◌, ◌+◌, ◌-◌, ◌^◌, ◌<◌, ◌≤◌, ◌⊎◌, ◌↔◌, suc, length, set, get_or, false, Ok, OnErr, OnOk, IfOk, IsTrue, IsErrOf};
 ghost use Rattle.typst_node.specs.Tree.{IsInner, trees};
-ghost use Rattle.typst_node.specs.Count.{SumsFit, count};
+ghost use Rattle.typst_node.specs.Text.{text, text_of_all};
+ghost use Rattle.typst_node.specs.Count.{SumsFit, count, count_of_all};
 ghost use Rattle.typst_node.specs.Plain.{plain};
 ghost use Rattle.typst_node.specs.Numbered.{IsNumbered, IsNumberedFor};
 ghost use Rattle.typst_node.specs.View.{IsMeasured};
@@ -35,13 +36,22 @@ struct Errand {
 }
 
 impl Errand {
-    /// Makes the replacement of the node that it is for.
+    /// Makes the replacement of the node that it is for, if that is an inner node.
     #[inline(never)]
     fn arrive(&mut self, node: &mut SyntaxNode)
         requires { IsErrand [] self.old node.old }
+        ensures leaf { ¬ (IsInner node.old.label.content) → (node.new ≡ node.old) × (self.new.answer ≡ Ok no_window) }
         ensures err { OnErr self.new.answer (node.new ≡ node.old) }
-        ensures done { IsDone self.old self.new node.old node.new }
+        ensures label { node.new.label ≡ node.old.label }
+        ensures done { IsInner node.old.label.content → IsDone self.old self.new node.old node.new }
     {
+        if !node.is_inner() {
+            self.answer = Ok(Renumbered {
+                window: 0..0,
+                tried: 0,
+            });
+            return;
+        }
         let empty = Vec::new(*self.others.allocator());
         let others = mem::replace(&mut self.others, empty);
         self.answer = node.replace_range(self.range.start..self.range.end, others);
@@ -60,13 +70,15 @@ impl SyntaxNode {
         }
     }
 
-    /// Replaces the children of a range of the inner node that a path leads to, where the sums of this one fit then.
+    /// Replaces the children of a range of the node that a path leads to, where it is an inner node and the sums of this
+    /// one fit then.
     #[cycle(at)]
     fn replace_below(&mut self, path: &[usize], errand: &mut Errand)
         requires { IsErrand path.now errand.old self.old }
+        ensures leaf { ¬ (IsInnerAt path.now self.old) → (self.new ≡ self.old) × (errand.new.answer ≡ Ok no_window) }
         ensures err { OnErr errand.new.answer (self.new ≡ self.old) }
         ensures frame { StaysBeside path.now self.old self.new }
-        ensures at { IsDone errand.old errand.new (tree_at path.now self.old) (tree_at path.now self.new) }
+        ensures at { IsInnerAt path.now self.old → IsDone errand.old errand.new (tree_at path.now self.old) (tree_at path.now self.new) }
     {
         match path.split_first() {
             None => errand.arrive(self),
@@ -86,14 +98,17 @@ impl InnerNode {
         requires index { index < length self.old.children.items }
         requires edit { IsErrand path.now errand.old (child_of self.old.children.items index) }
         requires sums { let child = child_of self.old.children.items index in
-            SumsFit (set self.old.children.items index (edited_by path.now errand.old child)) }
+            IsInnerAt path.now child → SumsFit (set self.old.children.items index (edited_by path.now errand.old child)) }
         ensures measured { IsMeasured self.new }
         ensures upper { self.new.upper ≡ self.old.upper }
         ensures warnings { self.new.warnings ≡ self.old.warnings }
+        ensures leaf { ¬ (IsInnerAt path.now (child_of self.old.children.items index))
+            → (self.new.children.items ≡ self.old.children.items) × (errand.new.answer ≡ Ok no_window) }
         ensures err { OnErr errand.new.answer (self.new.children.items ≡ self.old.children.items) }
         ensures one { self.new.children.items ≡ set self.old.children.items index (child_of self.new.children.items index) }
         ensures frame { StaysBeside path.now (child_of self.old.children.items index) (child_of self.new.children.items index) }
-        ensures at { IsDone errand.old errand.new (tree_at path.now (child_of self.old.children.items index))
+        ensures at { IsInnerAt path.now (child_of self.old.children.items index)
+            → IsDone errand.old errand.new (tree_at path.now (child_of self.old.children.items index))
             (tree_at path.now (child_of self.new.children.items index)) }
     {
         // Read for the proof: both sums are usizes, so those of the child that changes are too.
@@ -118,6 +133,20 @@ fn sums_of_one(child: &SyntaxNode) -> Sums
 }
 
 impl SyntaxNode {
+    /// Whether the length and the node count of this node fit a usize together with those of others.
+    fn fits_with(&self, others: &[SyntaxNode]) -> bool
+        ensures { IsTrue result ↔ ((length (text self.now) + length (text_of_all others.now) < 2 ^ 64)
+            × (count self.now + suc (count_of_all others.now) < 2 ^ 64)) }
+    {
+        match sums_of(others) {
+            Some(added) => {
+                self.len().checked_add(added.len).is_some()
+                    && self.descendants().checked_add(added.descendants).is_some()
+            }
+            None => false,
+        }
+    }
+
     /// Whether the length and the node count of this node fit a usize after an edit at a path.
     #[tactic(auto, using(crate::proofs::PathsWhole::count_edited, crate::proofs::PathsWhole::text_edited, crate::proofs::Opens::part_count, crate::proofs::Opens::part_text, crate::proofs::PathsWhole::count_below, crate::proofs::PathsWhole::text_below))]
     fn sums_fit(&self, path: &[usize], range: Range<usize>, others: &[SyntaxNode]) -> bool
@@ -130,10 +159,6 @@ impl SyntaxNode {
         let Some(added) = sums_of(others) else {
             return false;
         };
-        // Mostly they fit together with what goes, so that the way down need not be gone for what that holds.
-        if len.checked_add(added.len).is_some() && count.checked_add(added.descendants).is_some() {
-            return true;
-        }
         let children = self.node_at(path).child_slice();
         let Some(gone) = sums_of(&children[range.start..range.end]) else {
             return false;
@@ -144,6 +169,22 @@ impl SyntaxNode {
         (count - (gone.descendants - 1))
             .checked_add(added.descendants - 1)
             .is_some()
+    }
+
+    /// Whether an inner node stands at a path, and the length or the node count of this node would pass a usize after an
+    /// edit there. Mostly they fit together with what comes, so that the way down need not be gone for what goes.
+    #[tactic(auto, using(crate::proofs::PathsWhole::count_edited, crate::proofs::PathsWhole::text_edited))]
+    fn overflows(&self, path: &[usize], range: Range<usize>, others: &[SyntaxNode]) -> bool
+        requires { EditFits path.now range.start range.end self.now }
+        ensures over { IsTrue result
+            → IsInnerAt path.now self.now × ¬ (TreeFits (edited_at path.now range.start range.end others.now self.now)) }
+        ensures fits { result ≡ false
+            → IsInnerAt path.now self.now → TreeFits (edited_at path.now range.start range.end others.now self.now) }
+    {
+        if self.fits_with(others) || !self.node_at(path).is_inner() {
+            return false;
+        }
+        !self.sums_fit(path, range, others)
     }
 }
 
@@ -212,13 +253,7 @@ impl SyntaxNode {
         ensures outside { IfOk result (λ r. IsInnerAt path.now self.old → KeepsOutside path.now r self.old self.new) }
         ensures beside { OnOk result (IsInnerAt path.now self.old → StaysBeside path.now self.old self.new) }
     {
-        if !self.node_at(path).is_inner() {
-            return Ok(Renumbered {
-                window: 0..0,
-                tried: 0,
-            });
-        }
-        if !self.sums_fit(path, range.start..range.end, &replacement) {
+        if self.overflows(path, range.start..range.end, &replacement) {
             return Err(ReplaceError::Overflow);
         }
         let mut errand = Errand {

@@ -8,4 +8,4 @@ returns-clause-done c =
     let from = c.args.self.now.range.start in
     let to = c.args.self.now.range.end in
     let others : c.replace-others.result.items ≡ c.args.self.now.others.items = ap (λ v. v.items) c.replace-others.ensures.value in
-    subst (λ (ys : List Tree). IsReplacement from to ys c.args.node.now c.replace_range-self.new.self c.replace_range-self.result) others c.replace_range-self.ensures.at
+    λ inner. subst (λ (ys : List Tree). IsReplacement from to ys c.args.node.now c.replace_range-self.new.self c.replace_range-self.result) others c.replace_range-self.ensures.at
