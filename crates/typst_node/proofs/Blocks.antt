@@ -66,7 +66,7 @@ pub seen_alike : (starts others : List ℕ) (place : ℕ) (es : List ℕ) → ((
 seen_alike starts others place [] same = refl
 seen_alike starts others place (e ∷ es) same = (λ i. ((same (place / 256) i + e) % 2 ^ 64) ∷ seen_alike starts others (suc place) es same i)
 
-take-seen : (starts : List ℕ) (place n : ℕ) (es : List ℕ) → take n (ends_seen starts place es) ≡ ends_seen starts place (take n es)
+pub take-seen : (starts : List ℕ) (place n : ℕ) (es : List ℕ) → take n (ends_seen starts place es) ≡ ends_seen starts place (take n es)
 take-seen starts place zero es = refl
 take-seen starts place (suc n) [] = refl
 take-seen starts place (suc n) (e ∷ es) = ap (λ ys. ((get_or starts (place / 256) 0 + e) % 2 ^ 64) ∷ ys) (take-seen starts (suc place) n es)

@@ -247,7 +247,13 @@ impl Ends {
             return Ok(());
         }
         self.within.reserve(many.saturating_sub(to - from))?;
-        let blocks = (self.within.len() - (to - from) + many) / BLOCK;
+        let count = self.within.len();
+        let blocks = (count - (to - from) + many) / BLOCK;
+        if to == count && blocks == count / BLOCK {
+            // None stands behind, and no block begins or goes.
+            let _ = self.within.resize(from + many, 0);
+            return Ok(());
+        }
         grow(&mut self.starts, *self.within.allocator(), blocks)?;
         join(&mut self.within, &self.starts, to);
         make_place(&mut self.within, from, to, many);

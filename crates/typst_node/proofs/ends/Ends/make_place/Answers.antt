@@ -1,10 +1,10 @@
 use Rattle.std.proofs.Common.{arith, ◌≡◌, ◌+◌, ◌-◌, ◌/◌, ◌%◌, ◌^◌, ◌∷◌, ◌<◌, ◌≤◌, ◌++◌, List, ℕ, length, take, drop, get_or, replicate, length-take, ap, sym, refl, ◌∙◌}
 use Rattle.std.proofs.lemmas.Bool.{false≢true}
-use Rattle.std.proofs.lemmas.List.{length-append, length-replicate, with_items_is}
+use Rattle.std.proofs.lemmas.List.{drop_all, length-append, length-replicate, take-append-le, take-take, with_items_is}
 use Rattle.std.specs.Vec.{with_items}
 use Rattle.typst_node.specs.Ends.{ends_seen, starts_in}
 use Rattle.typst_node.specs.EndsLength.{length-ends_seen}
-use Rattle.typst_node.proofs.Blocks.{place_before, place_behind, seen_with_zeros}
+use Rattle.typst_node.proofs.Blocks.{place_before, place_behind, seen_with_zeros, take-seen, where_ok}
 use Rattle.typst_node.proofs.ends.Ends.make_place.Goals as goal
 
 pub overflow_sub-blocks-2 : goal.overflow_sub-blocks-2
@@ -47,7 +47,7 @@ blocks_made starts first blocks a b = omega (arith, length-append (take first st
 pub invariant_of-self-2 : goal.invariant_of-self-2
 invariant_of-self-2 c =
     let starts = starts_in c.self.inside.starts in
-    let blocks : ℕ = (c.len.result - (c.args.to - c.args.from) + c.args.many) / 256 in
+    let blocks : ℕ = (c.len-count.result - (c.args.to - c.args.from) + c.args.many) / 256 in
     let block : ℕ = c.args.from / 256 in
     let ends = length-ends_seen (0 ∷ starts) 0 c.self.inside.within.items in
     let grown : length (starts_in c.grow.new.starts) ≡ length starts + (blocks - length starts) =
@@ -80,7 +80,7 @@ returns c =
     let after = c.raise.new.numbers in
     let start : ℕ = c.start_of-start.result in
     let block : ℕ = c.args.from / 256 in
-    let blocks : ℕ = (c.len.result - (c.args.to - c.args.from) + c.args.many) / 256 in
+    let blocks : ℕ = (c.len-count.result - (c.args.to - c.args.from) + c.args.many) / 256 in
     let ends = length-ends_seen (0 ∷ starts) 0 within in
     let many_ends : length within ≡ length c.args.self.now = sym ends ∙ ap length c.self.view_is in
     let was : c.deref_mut.result.now ≡ within = c.deref_mut.ensures.value ∙ c.in_ok-reserve.ensures.items in
@@ -118,3 +118,45 @@ returns c =
       err = tt;
       succeeds = λ fewer. refl;
     }
+
+pub returns-then-blocks-count-clause-len : goal.returns-then-blocks-count-clause-len
+returns-then-blocks-count-clause-len c =
+    let starts : List ℕ = 0 ∷ starts_in c.self.inside.starts in
+    let room : c.args.from + c.args.many ≤ c.reserve.new.self.cap = omega (arith, c.in_ok-reserve.ensures.len, c.in_ok-reserve.ensures.ok) in
+    let count = c.resize.ensures.len ∙ where_ok c.resize.result (c.args.from + c.args.many) c.reserve.new.self.len (c.resize.ensures.succeeds room) in
+    omega (
+      arith,
+      count,
+      length-ends_seen starts 0 c.resize.new.self.items,
+      length-ends_seen starts 0 c.self.inside.within.items,
+      ap length c.self.view_is,
+      c.self.inside.within.ok,
+      c.in_ok-reserve.ensures.len,
+      c.resize.new.self.ok,
+    )
+
+pub returns-then-blocks-count-clause-before : goal.returns-then-blocks-count-clause-before
+returns-then-blocks-count-clause-before c =
+    let starts : List ℕ = 0 ∷ starts_in c.self.inside.starts in
+    let within = c.self.inside.within.items in
+    let left = c.reserve.new.self in
+    let n : ℕ = c.args.from + c.args.many in
+    let more : List ℕ = replicate (n - left.len) 0 in
+    let room : n ≤ left.cap = omega (arith, c.in_ok-reserve.ensures.len, c.in_ok-reserve.ensures.ok) in
+    let made : c.resize.new.self.items ≡ take n within ++ more =
+    c.resize.ensures.items ∙ (where_ok c.resize.result (take n left.items ++ more) left.items (c.resize.ensures.succeeds room) ∙ ap (λ (xs : List ℕ). take n xs ++ more) c.in_ok-reserve.ensures.items) in
+    let inside : c.args.from ≤ length (take n within) =
+    omega (arith, length-take n within, length-ends_seen starts 0 within, ap length c.self.view_is) in
+    let kept : take c.args.from c.resize.new.self.items ≡ take c.args.from within =
+    ap (take c.args.from) made ∙ (take-append-le c.args.from (take n within) more inside ∙ take-take c.args.from n within (omega arith)) in
+    take-seen starts 0 c.args.from c.resize.new.self.items
+    ∙ (ap (ends_seen starts 0) kept ∙ (sym (take-seen starts 0 c.args.from within) ∙ ap (take c.args.from) c.self.view_is))
+
+pub returns-then-blocks-count-clause-behind : goal.returns-then-blocks-count-clause-behind
+returns-then-blocks-count-clause-behind c =
+    let starts : List ℕ = 0 ∷ starts_in c.self.inside.starts in
+    let room : c.args.from + c.args.many ≤ c.reserve.new.self.cap = omega (arith, c.in_ok-reserve.ensures.len, c.in_ok-reserve.ensures.ok) in
+    let count = c.resize.ensures.len ∙ where_ok c.resize.result (c.args.from + c.args.many) c.reserve.new.self.len (c.resize.ensures.succeeds room) in
+    let new : List ℕ = ends_seen starts 0 c.resize.new.self.items in
+    drop_all (c.args.from + c.args.many) new (omega (arith, count, length-ends_seen starts 0 c.resize.new.self.items, c.resize.new.self.ok))
+    ∙ sym (drop_all c.args.to c.args.self.now (omega (arith, length-ends_seen starts 0 c.self.inside.within.items, ap length c.self.view_is, c.self.inside.within.ok, c.in_ok-reserve.ensures.len)))
