@@ -20,9 +20,16 @@ fn is_shared(rt: &(impl Files + AllocGlobal)) -> bool {
     !told.is_ok_and(|mode| mode.as_str().trim() != "2")
 }
 
-/// A tree of two leaves.
-fn two(alloc: Global) -> Result<NumberedTree, DrawingError> {
-    let root = numbered(alloc, "Markup[ Text:ab Text:c ]", 2..1000)?;
+/// Forty leaves, whose list is larger than what a process has left of its memory here and there.
+const FORTY: &str =
+    "Markup[ Text:ab Text:c Text:c Text:c Text:c Text:c Text:c Text:c Text:c Text:c \
+    Text:c Text:c Text:c Text:c Text:c Text:c Text:c Text:c Text:c Text:c \
+    Text:c Text:c Text:c Text:c Text:c Text:c Text:c Text:c Text:c Text:c \
+    Text:c Text:c Text:c Text:c Text:c Text:c Text:c Text:c Text:c Text:c ]";
+
+/// A tree of forty leaves.
+fn forty(alloc: Global) -> Result<NumberedTree, DrawingError> {
+    let root = numbered(alloc, FORTY, 2..1000)?;
     NumberedTree::from_numbered(root).map_err(|_| DrawingError::Numbers)
 }
 
@@ -72,12 +79,12 @@ fn a_growth_that_is_refused_changes_nothing(rt: HostRuntime) -> Result<(), Fail>
         return Ok(());
     }
     let alloc = rt.alloc();
-    let mut tree = two(alloc)?;
+    let mut tree = forty(alloc)?;
     let before = tree.root().clone()?;
     let mut requests = growths(alloc)?;
     let mut scarce = Scarce::new(alloc, PASSES)?;
     let refused = refused_growths(alloc, &mut scarce, &mut requests, &mut tree, &before);
-    assert!(rt; refused.is_some_and(|passes| 1 <= passes) && tree.root().len() == 4);
+    assert!(rt; refused.is_some_and(|passes| 1 <= passes) && tree.root().len() == 42);
     Ok(())
 }
 
@@ -141,12 +148,12 @@ fn a_run_goes_on_after_what_is_refused(rt: HostRuntime) -> Result<(), Fail> {
         return Ok(());
     }
     let alloc = rt.alloc();
-    let mut tree = two(alloc)?;
+    let mut tree = forty(alloc)?;
     let last = tree.root().child_slice().last().ok_or("no child")?.span();
     let mut slots = asked(alloc, last)?;
     let mut scarce = Scarce::new(alloc, 1)?;
     let is_left = scarce.leave(0);
     tree.run(alloc, &mut slots);
-    assert!(rt; is_left && is_served_after_refusals(&slots) && tree.root().len() == 1);
+    assert!(rt; is_left && is_served_after_refusals(&slots) && tree.root().len() == 39);
     Ok(())
 }
