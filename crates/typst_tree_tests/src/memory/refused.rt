@@ -20,7 +20,7 @@ fn is_shared(rt: &(impl Files + AllocGlobal)) -> bool {
     !told.is_ok_and(|mode| mode.as_str().trim() != "2")
 }
 
-/// Forty leaves, whose list is larger than what a process has left of its memory here and there.
+/// Forty leaves: a node of more than ten has a list of where they end, which an insertion lets grow.
 const FORTY: &str =
     "Markup[ Text:ab Text:c Text:c Text:c Text:c Text:c Text:c Text:c Text:c Text:c \
     Text:c Text:c Text:c Text:c Text:c Text:c Text:c Text:c Text:c Text:c \
