@@ -77,16 +77,6 @@ with_zeros [] n k = zeros n k
 with_zeros (s ∷ starts) n zero = refl
 with_zeros (s ∷ starts) n (suc k) = with_zeros starts n k
 
-pub past_taken : (starts : List ℕ) (first k : ℕ) → suc first ≤ k → get_or (zero ∷ take first starts) k zero ≡ zero
-past_taken starts first zero h = absurd (omega arith)
-past_taken starts first (suc k) h = past starts first k (omega arith)
-  where
-    past : (xs : List ℕ) (n k : ℕ) → n ≤ k → get_or (take n xs) k zero ≡ zero
-    past xs zero k h = refl
-    past [] (suc n) k h = refl
-    past (x ∷ xs) (suc n) zero h = absurd (omega arith)
-    past (x ∷ xs) (suc n) (suc k) h = past xs n k (omega arith)
-
 pub within_taken : (starts : List ℕ) (first k : ℕ) → k ≤ first → get_or (zero ∷ take first starts) k zero ≡ get_or (zero ∷ starts) k zero
 within_taken starts first zero h = refl
 within_taken starts first (suc k) h = within starts first k (omega arith)
@@ -106,13 +96,6 @@ raised_start s w by = omega arith
 
 pub raised_to : (e gone added : ℕ) → gone < 2 ^ 64 → gone ≤ e → e - gone + added < 2 ^ 64 → (e + (added + (2 ^ 64 - gone)) % 2 ^ 64) % 2 ^ 64 ≡ e - gone + added
 raised_to e gone added a b c = omega arith
-
-pub joined_end : (s w : ℕ) → (zero + (w + s) % 2 ^ 64) % 2 ^ 64 ≡ (s + w) % 2 ^ 64
-joined_end s w = omega arith
-
--- an end of a block that keeps its beginning, after it was counted from the beginning of all
-rejoined : (s t w : ℕ) → s < 2 ^ 64 → (s + ((w + t) % 2 ^ 64 + (0 + (2 ^ 64 - s)) % 2 ^ 64) % 2 ^ 64) % 2 ^ 64 ≡ (t + w) % 2 ^ 64
-rejoined s t w h = omega (arith, h)
 
 at_each : (P : ℕ → Type 0) (es : List ℕ) → AllByRecursion P es → (k : ℕ) → k < length es → P (get_or es k 0)
 at_each P [] all k h = absurd (omega arith)
@@ -207,10 +190,10 @@ seen_trimmed starts first es enough =
     seen_at (0 ∷ take first starts) es k inside
     ∙ (ap (λ s. (s + get_or es k 0) % 2 ^ 64) (within_taken starts first (k / 256) (omega (arith, enough))) ∙ sym (seen_at (0 ∷ starts) es k inside)))
 
-pub seen_cut : (starts within : List ℕ) (many first n : ℕ) → length (take many within) / 256 ≤ first
-    → ends_seen (0 ∷ (take first starts ++ replicate n zero)) 0 (take many within) ≡ take many (ends_seen (0 ∷ starts) 0 within)
-seen_cut starts within many first n enough =
-    seen_with_zeros (take first starts) n (take many within) ∙ (seen_trimmed starts first (take many within) enough ∙ sym (take-seen (0 ∷ starts) 0 many within))
+pub seen_cut : (starts within : List ℕ) (many first : ℕ) → length (take many within) / 256 ≤ first
+    → ends_seen (0 ∷ take first starts) 0 (take many within) ≡ take many (ends_seen (0 ∷ starts) 0 within)
+seen_cut starts within many first enough =
+    seen_trimmed starts first (take many within) enough ∙ sym (take-seen (0 ∷ starts) 0 many within)
 
 pub with_none : (xs : List ℕ) (n : ℕ) → n ≡ 0 → xs ≡ xs ++ replicate n zero
 with_none xs n is = sym (append-nil xs) ∙ ap (λ k. xs ++ replicate k zero) (sym is)
@@ -221,64 +204,50 @@ seen_before starts within more n =
     ap (take (length within)) (seen_with_zeros starts n (within ++ more))
     ∙ (take-seen (0 ∷ starts) 0 (length within) (within ++ more) ∙ ap (ends_seen (0 ∷ starts) 0) (take-append_seam within more))
 
--- Ends are moved to another place: those behind were counted from the beginning of all, and those that stand in the block of the
--- place then are counted from where that begins.
-module _ (starts within joined placed after : List ℕ) (from to many n stop : ℕ) (order : from ≤ to) (inside : to ≤ length within)
-    (as_many : length joined ≡ length within) (moved : length placed + (to - from) ≡ length joined + many) (in_all : length after ≡ length placed)
-    (start_fits : get_or (0 ∷ starts) (from / 256) 0 < 2 ^ 64)
-    (kept : (k : ℕ) → k < to → get_or joined k 0 ≡ get_or within k 0)
-    (counted : (k : ℕ) → to ≤ k → k < length within → get_or joined k 0 ≡ (get_or within k 0 + get_or (0 ∷ starts) (k / 256) 0) % 2 ^ 64)
-    (before : take from placed ≡ take from joined) (behind : drop (from + many) placed ≡ drop to joined)
+-- Ends are moved to another place: each of those behind is counted from where the block begins in which it stands now.
+module _ (starts within placed after : List ℕ) (from to many n first : ℕ) (order : from ≤ to) (inside : to ≤ length within)
+    (moved : length placed + (to - from) ≡ length within + many) (in_all : length after ≡ length placed) (enough : length after / 256 ≤ first)
+    (before : take from placed ≡ take from within) (behind : drop (from + many) placed ≡ drop to within)
     (front : (k : ℕ) → k < from + many → get_or after k 0 ≡ get_or placed k 0)
-    (here : (k : ℕ) → from + many ≤ k → k < stop → get_or after k 0 ≡ (get_or placed k 0 + (0 + (2 ^ 64 - get_or (0 ∷ starts) (from / 256) 0)) % 2 ^ 64) % 2 ^ 64)
-    (there : (k : ℕ) → stop ≤ k → get_or after k 0 ≡ get_or placed k 0)
-    (same_block : (k : ℕ) → from + many ≤ k → k < stop → k / 256 ≡ from / 256)
-    (later_block : (k : ℕ) → stop ≤ k → from + many ≤ k → k < length placed → from / 256 < k / 256) where
-  abbrev begins : List ℕ
-  begins = 0 ∷ (take (from / 256) starts ++ replicate n zero)
+    (recounted : (k : ℕ) → from + many ≤ k → k < length placed
+    → (get_or (0 ∷ (starts ++ replicate n zero)) (k / 256) 0 + get_or after k 0) % 2 ^ 64
+    ≡ (get_or (0 ∷ (starts ++ replicate n zero)) ((k - (from + many) + to) / 256) 0 + get_or placed k 0) % 2 ^ 64) where
+  abbrev grown : List ℕ
+  grown = 0 ∷ (starts ++ replicate n zero)
 
-  kept_start : (block : ℕ) → block ≤ from / 256 → get_or begins block 0 ≡ get_or (0 ∷ starts) block 0
-  kept_start block h = with_zeros (zero ∷ take (from / 256) starts) n block ∙ within_taken starts (from / 256) block h
+  uncut : ends_seen (0 ∷ take first (starts ++ replicate n zero)) 0 after ≡ ends_seen grown 0 after
+  uncut = seen_trimmed (starts ++ replicate n zero) first after enough
 
-  new_start : (block : ℕ) → from / 256 < block → get_or begins block 0 ≡ 0
-  new_start block h = with_zeros (zero ∷ take (from / 256) starts) n block ∙ past_taken starts (from / 256) block (omega (arith, h))
+  first_ones : take from after ≡ take from within
+  first_ones =
+      same_number_lists (take from after) (take from placed) (omega (arith, in_all, length-take from after, length-take from placed))
+      (λ k h. let near : k < from = omega (arith, length-take from after) in
+      get_or-take from after k 0 near ∙ (front k (omega arith) ∙ sym (get_or-take from placed k 0 near)))
+      ∙ before
 
-  pub place_before : take from (ends_seen (0 ∷ (take (from / 256) starts ++ replicate n zero)) 0 after) ≡ take from (ends_seen (0 ∷ starts) 0 within)
+  pub place_before : take from (ends_seen (0 ∷ take first (starts ++ replicate n zero)) 0 after) ≡ take from (ends_seen (0 ∷ starts) 0 within)
   place_before =
-      let new : List ℕ = ends_seen begins 0 after in
-      let old : List ℕ = ends_seen (0 ∷ starts) 0 within in
-      same_number_lists (take from new) (take from old)
-      (omega (arith, length-take from new, length-take from old, length-ends_seen begins 0 after, length-ends_seen (0 ∷ starts) 0 within))
-      (λ k h. let near : k < from = omega (arith, length-take from new) in
-      let item : get_or placed k 0 ≡ get_or joined k 0 = sym (get_or-take from placed k 0 near) ∙ (ap (λ (xs : List ℕ). get_or xs k 0) before ∙ get_or-take from joined k 0 near) in
-      get_or-take from new k 0 near
-      ∙ (seen_at begins after k (omega arith)
-      ∙ ((λ i. (kept_start (k / 256) (omega arith) i + (front k (omega arith) ∙ (item ∙ kept k (omega arith))) i) % 2 ^ 64)
-      ∙ (sym (seen_at (0 ∷ starts) within k (omega arith)) ∙ sym (get_or-take from old k 0 near)))))
+      ap (take from) uncut
+      ∙ (take-seen grown 0 from after
+      ∙ (ap (ends_seen grown 0) first_ones ∙ (sym (take-seen grown 0 from within) ∙ ap (take from) (seen_with_zeros starts n within))))
 
-  pub place_behind : drop (from + many) (ends_seen (0 ∷ (take (from / 256) starts ++ replicate n zero)) 0 after) ≡ drop to (ends_seen (0 ∷ starts) 0 within)
+  stood : (k : ℕ) → from + many + k - (from + many) + to ≡ to + k
+  stood k = omega arith
+
+  item : (k : ℕ) → get_or placed (from + many + k) 0 ≡ get_or within (to + k) 0
+  item k = sym (get_or-drop (from + many) placed k 0) ∙ (ap (λ (xs : List ℕ). get_or xs k 0) behind ∙ get_or-drop to within k 0)
+
+  pub place_behind : drop (from + many) (ends_seen (0 ∷ take first (starts ++ replicate n zero)) 0 after) ≡ drop to (ends_seen (0 ∷ starts) 0 within)
   place_behind =
-      let new : List ℕ = ends_seen begins 0 after in
-      let old : List ℕ = ends_seen (0 ∷ starts) 0 within in
-      same_number_lists (drop (from + many) new) (drop to old)
-      (omega (arith, length-drop (from + many) new, length-drop to old, length-ends_seen begins 0 after, length-ends_seen (0 ∷ starts) 0 within))
-      (λ k h. let near : from + many + k < length after = omega (arith, length-drop (from + many) new, length-ends_seen begins 0 after) in
-      get_or-drop (from + many) new k 0 ∙ (seen_at begins after (from + many + k) near
-      ∙ (at k near (cases_lt (from + many + k) stop) ∙ (sym (seen_at (0 ∷ starts) within (to + k) (omega arith)) ∙ sym (get_or-drop to old k 0)))))
-    where
-      item : (k : ℕ) → from + many + k < length after → get_or placed (from + many + k) 0 ≡ (get_or within (to + k) 0 + get_or (0 ∷ starts) ((to + k) / 256) 0) % 2 ^ 64
-      item k h =
-          sym (get_or-drop (from + many) placed k 0)
-          ∙ (ap (λ (xs : List ℕ). get_or xs k 0) behind ∙ (get_or-drop to joined k 0 ∙ counted (to + k) (omega arith) (omega arith)))
-
-      at : (k : ℕ) → from + many + k < length after → (from + many + k < stop) ⊎ (stop ≤ from + many + k)
-          → (get_or begins ((from + many + k) / 256) 0 + get_or after (from + many + k) 0) % 2 ^ 64 ≡ (get_or (0 ∷ starts) ((to + k) / 256) 0 + get_or within (to + k) 0) % 2 ^ 64
-      at k h (inl a) =
-          let s : ℕ = get_or (0 ∷ starts) (from / 256) 0 in
-          let block : (from + many + k) / 256 ≡ from / 256 = same_block (from + many + k) (omega arith) a in
-          (λ i. (get_or begins (block i) 0 + (here (from + many + k) (omega arith) a ∙ ap (λ w. (w + (0 + (2 ^ 64 - s)) % 2 ^ 64) % 2 ^ 64) (item k h)) i) % 2 ^ 64)
-          ∙ (ap (λ b. (b + ((get_or within (to + k) 0 + get_or (0 ∷ starts) ((to + k) / 256) 0) % 2 ^ 64 + (0 + (2 ^ 64 - s)) % 2 ^ 64) % 2 ^ 64) % 2 ^ 64) (kept_start (from / 256) (omega arith))
-          ∙ rejoined s (get_or (0 ∷ starts) ((to + k) / 256) 0) (get_or within (to + k) 0) start_fits)
-      at k h (inr a) =
-          (λ i. (new_start ((from + many + k) / 256) (later_block (from + many + k) a (omega arith) (omega arith)) i + (there (from + many + k) a ∙ item k h) i) % 2 ^ 64)
-          ∙ joined_end (get_or (0 ∷ starts) ((to + k) / 256) 0) (get_or within (to + k) 0)
+      let new : List ℕ = ends_seen grown 0 after in
+      let old : List ℕ = ends_seen grown 0 within in
+      ap (drop (from + many)) uncut
+      ∙ (same_number_lists (drop (from + many) new) (drop to old)
+      (omega (arith, length-drop (from + many) new, length-drop to old, length-ends_seen grown 0 after, length-ends_seen grown 0 within))
+      (λ k h. let near : from + many + k < length after = omega (arith, length-drop (from + many) new, length-ends_seen grown 0 after) in
+      get_or-drop (from + many) new k 0
+      ∙ (seen_at grown after (from + many + k) near
+      ∙ (recounted (from + many + k) (omega arith) (omega arith)
+      ∙ ((λ i. (get_or grown (stood k i / 256) 0 + item k i) % 2 ^ 64)
+      ∙ (sym (seen_at grown within (to + k) (omega arith)) ∙ sym (get_or-drop to old k 0))))))
+      ∙ ap (drop to) (seen_with_zeros starts n within))

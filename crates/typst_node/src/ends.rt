@@ -79,19 +79,33 @@ fn raise_starts(starts: &mut Option<Box<Ends>>, from: usize, by: usize)
     }
 }
 
-/// Counts the ends from one on from the beginning of all.
-fn join(within: &mut [usize], starts: &Option<Box<Ends>>, from: usize)
-    requires inside { from ≤ length within.old }
-    requires starts { length within.old / 256 ≤ length (starts_in starts.now) }
-    ensures before { (k : ℕ) → k < from → slice_index within.new k ≡ slice_index within.old k }
-    ensures behind { (k : ℕ) → from ≤ k → k < length within.old → slice_index within.new k
-        ≡ (slice_index within.old k + slice_index (0 ∷ starts_in starts.now) (k / 256)) % 2 ^ 64 }
+/// Counts the ends from `to` on, which stood from `from` on before they moved, from where the blocks begin in which they
+/// stand now. It writes only those that passed into another block.
+fn recount(within: &mut [usize], starts: &Option<Box<Ends>>, to: usize, from: usize)
+    requires inside { to ≤ length within.old }
+    requires now { length within.old / 256 ≤ length (starts_in starts.now) }
+    requires then { (length within.old - to + from) / 256 ≤ length (starts_in starts.now) }
+    requires fits { length within.old - to + from < 2 ^ 64 }
+    ensures before { (k : ℕ) → k < to → slice_index within.new k ≡ slice_index within.old k }
+    ensures behind { (k : ℕ) → to ≤ k → k < length within.old
+        → (slice_index (0 ∷ starts_in starts.now) (k / 256) + slice_index within.new k) % 2 ^ 64
+        ≡ (slice_index (0 ∷ starts_in starts.now) ((k - to + from) / 256) + slice_index within.old k) % 2 ^ 64 }
 {
     let count = within.len();
-    for block in from / BLOCK..count.div_ceil(BLOCK) {
-        let begin = from.max(block * BLOCK);
-        let end = count.min((block + 1) * BLOCK);
-        raise(within, begin, end, start_of(starts, block));
+    let mut place = to;
+    while place < count {
+        let old = place - to + from;
+        let stop = count.min(place + (BLOCK - place % BLOCK).min(BLOCK - old % BLOCK));
+        if old / BLOCK != place / BLOCK {
+            let start = start_of(starts, place / BLOCK);
+            raise(
+                within,
+                place,
+                stop,
+                start_of(starts, old / BLOCK).wrapping_sub(start),
+            );
+        }
+        place = stop;
     }
 }
 
@@ -118,19 +132,17 @@ fn grow(starts: &mut Option<Box<Ends>>, alloc: Global, many: usize) -> Result<()
     Ok(())
 }
 
-/// Keeps where the first blocks after the very first begin. The others begin at 0, so many in all.
-#[cycle(restart)]
-fn restart(starts: &mut Option<Box<Ends>>, first: usize, many: usize)
-    requires window { first ≤ many }
-    requires inside { many ≤ length (starts_in starts.old) }
+/// Keeps where the first blocks after the very first begin, so many.
+#[cycle(keep)]
+fn keep(starts: &mut Option<Box<Ends>>, many: usize)
+    requires { many ≤ length (starts_in starts.old) }
     ensures tight { IsTight starts.new }
-    ensures is { starts_in starts.new ≡ take first (starts_in starts.old) ++ replicate (many - first) 0 }
+    ensures is { starts_in starts.new ≡ take many (starts_in starts.old) }
 {
     if many == 0 {
         *starts = None;
     } else if let Some(starts) = starts {
         starts.truncate(many);
-        starts.clear(first);
     }
 }
 
@@ -200,13 +212,13 @@ impl Ends {
     }
 
     /// Keeps the first ones, so many.
-    #[cycle(restart)]
+    #[cycle(keep)]
     fn truncate(&mut self, many: usize)
         ensures { self.new ≡ take many self.old }
     {
         self.within.truncate(many);
         let blocks = self.within.len() / BLOCK;
-        restart(&mut self.starts, blocks, blocks);
+        keep(&mut self.starts, blocks);
     }
 
     /// Adds zeros, until there are so many.
@@ -255,16 +267,9 @@ impl Ends {
             return Ok(());
         }
         grow(&mut self.starts, *self.within.allocator(), blocks)?;
-        join(&mut self.within, &self.starts, to);
         make_place(&mut self.within, from, to, many);
-        // The block of `from` begins where it did, and later ones at 0.
-        let block = from / BLOCK;
-        let behind = from + many;
-        let stop = self.within.len().min((block + 1) * BLOCK);
-        let start = start_of(&self.starts, block);
-        let back = 0usize.wrapping_sub(start);
-        raise(&mut self.within, behind, behind.max(stop), back);
-        restart(&mut self.starts, block, blocks);
+        recount(&mut self.within, &self.starts, from + many, to);
+        keep(&mut self.starts, blocks);
         Ok(())
     }
 
