@@ -1,5 +1,5 @@
 // Walks from leaf to leaf.
-ghost use Rattle.std.specs.Prelude.{◌≡◌, ◌≤◌, ◌↔◌, true, [], length, IfOk, IsTrue};
+ghost use Rattle.std.specs.Prelude.{◌≡◌, ◌≤◌, ◌↔◌, true, false, [], length, IfOk, IsTrue};
 ghost use Rattle.std.specs.Option.{ForSome};
 ghost use Rattle.typst_linked.specs.Place.{subtree};
 ghost use Rattle.typst_node.specs.Tree.{trees};
@@ -22,12 +22,25 @@ impl<'a> LinkedNode<'a> {
         self.clone()?.into_leftmost(alloc)
     }
 
+    // The same of a node that is handed on. Small, so that callers answer a good leaf without a call.
+    #[cycle(into_leftmost)]
     fn into_leftmost(self, alloc: Global) -> Result<Option<Self>, AllocError>
         ensures { IfOk result (λ r. r ≡ found_below (first_path is_good) self.entry) }
     {
         if is_good_leaf(self.get()) {
-            return Ok(Some(self));
+            Ok(Some(self))
+        } else {
+            self.leftmost_below(alloc)
         }
+    }
+
+    // The first good leaf below this node, which is none itself.
+    #[cycle(into_leftmost)]
+    #[inline(never)]
+    fn leftmost_below(self, alloc: Global) -> Result<Option<Self>, AllocError>
+        requires { ForSome (subtree self) (λ t. is_good t ≡ false) }
+        ensures { IfOk result (λ r. r ≡ found_below (first_path is_good) self.entry) }
+    {
         let count = self.get().child_slice().len();
         if count == 0 {
             return Ok(None);
@@ -49,12 +62,25 @@ impl<'a> LinkedNode<'a> {
         self.clone()?.into_rightmost(alloc)
     }
 
+    // The same of a node that is handed on. Small, so that callers answer a good leaf without a call.
+    #[cycle(into_rightmost)]
     fn into_rightmost(self, alloc: Global) -> Result<Option<Self>, AllocError>
         ensures { IfOk result (λ r. r ≡ found_below (last_path is_good) self.entry) }
     {
         if is_good_leaf(self.get()) {
-            return Ok(Some(self));
+            Ok(Some(self))
+        } else {
+            self.rightmost_below(alloc)
         }
+    }
+
+    // The last good leaf below this node, which is none itself.
+    #[cycle(into_rightmost)]
+    #[inline(never)]
+    fn rightmost_below(self, alloc: Global) -> Result<Option<Self>, AllocError>
+        requires { ForSome (subtree self) (λ t. is_good t ≡ false) }
+        ensures { IfOk result (λ r. r ≡ found_below (last_path is_good) self.entry) }
+    {
         let count = self.get().child_slice().len();
         if count == 0 {
             return Ok(None);
