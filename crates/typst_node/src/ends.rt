@@ -97,13 +97,9 @@ fn recount(within: &mut [usize], starts: &Option<Box<Ends>>, to: usize, from: us
         let old = place - to + from;
         let stop = count.min(place + (BLOCK - place % BLOCK).min(BLOCK - old % BLOCK));
         if old / BLOCK != place / BLOCK {
-            let start = start_of(starts, place / BLOCK);
-            raise(
-                within,
-                place,
-                stop,
-                start_of(starts, old / BLOCK).wrapping_sub(start),
-            );
+            let began = start_of(starts, old / BLOCK);
+            let by = began.wrapping_sub(start_of(starts, place / BLOCK));
+            raise(within, place, stop, by);
         }
         place = stop;
     }
