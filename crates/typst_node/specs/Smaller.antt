@@ -17,6 +17,6 @@ most_le-count (t ∷ ts) = omega (arith, most_le-count ts, length-append (preord
 
 pub children_are_smaller : (n : Node) → max (deep-Node n) 0 ≤ suc (count_of_all (below n))
 children_are_smaller (Short kind text) = omega arith
-children_are_smaller (Leaf b) = omega arith
+children_are_smaller (Leaf kind b) = omega arith
 children_are_smaller (Inner kind b) = omega (arith, most_le-count b.value.children.items)
 children_are_smaller (Error b) = omega arith

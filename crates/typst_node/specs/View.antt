@@ -26,21 +26,21 @@ shown_warnings ws = reverse (map warning_text ws)
 
 abbrev pub content : Node → Content
 content (Short kind text) = AsLeaf kind text
-content (Leaf b) = AsLeaf b.value.kind (string_bytes b.value.text)
+content (Leaf kind b) = AsLeaf kind (string_bytes b.value.text)
 content (Inner kind b) = AsInner kind b.value.upper
 content (Error b) = AsError (string_bytes b.value.text) (string_bytes b.value.message) (map hint_text b.value.hints.items)
 
 -- the warnings as they are kept, innermost first
 abbrev pub warnings_in : Node → List Warning
 warnings_in (Short kind text) = []
-warnings_in (Leaf b) = b.value.warnings.items
+warnings_in (Leaf kind b) = b.value.warnings.items
 warnings_in (Inner kind b) = b.value.warnings.items
 warnings_in (Error b) = b.value.warnings.items
 
 -- the node's children
 abbrev pub below : Node → List Tree
 below (Short kind text) = []
-below (Leaf b) = []
+below (Leaf kind b) = []
 below (Inner kind b) = b.value.children.items
 below (Error b) = []
 
@@ -65,6 +65,6 @@ pub record IsMeasured (inner : InnerNode) : Type 0 where
 
 abbrev pub IsKept : Node → Type 0
 IsKept (Short kind text) = kind ≢ kinds.Error
-IsKept (Leaf b) = b.value.kind ≢ kinds.Error
+IsKept (Leaf kind b) = kind ≢ kinds.Error
 IsKept (Inner kind b) = (kind ≢ kinds.Error) × IsMeasured b.value
 IsKept (Error b) = Unit {0}

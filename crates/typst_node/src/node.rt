@@ -52,9 +52,8 @@ pub struct SyntaxNode {
 enum Node {
     // A leaf without warnings that holds its text itself.
     Short(SyntaxKind, ShortText),
-    // Any other leaf.
-    Leaf(Box<LeafNode>),
-    // Its kind stands here, so that it is read without the box.
+    // Any other leaf. All kinds stand here, at one place, so that they are read without a box.
+    Leaf(SyntaxKind, Box<LeafNode>),
     Inner(SyntaxKind, Box<InnerNode>),
     Error(Box<ErrorNode>),
 }
@@ -78,10 +77,9 @@ struct InnerNode {
     ends: ChildEnds,
 }
 
-/// A leaf whose text may be long, and which may have warnings. Its kind is never `Error`.
+/// A leaf without its kind. Its text may be long, and it may have warnings.
 #[derive(Drop)]
 struct LeafNode {
-    kind: SyntaxKind,
     text: String,
     // From the innermost to the outermost.
     warnings: Vec<Warning>,
@@ -149,7 +147,7 @@ impl Node {
     {
         match self {
             Node::Short(..) => &[],
-            Node::Leaf(leaf) => &leaf.warnings,
+            Node::Leaf(_, leaf) => &leaf.warnings,
             Node::Inner(_, inner) => &inner.warnings,
             Node::Error(error) => &error.warnings,
         }
@@ -165,7 +163,7 @@ impl SyntaxNode {
     {
         match &self.node {
             Node::Short(kind, _) => *kind,
-            Node::Leaf(leaf) => leaf.kind,
+            Node::Leaf(kind, _) => *kind,
             Node::Inner(kind, _) => *kind,
             Node::Error(_) => SyntaxKind::Error,
         }
@@ -176,7 +174,7 @@ impl SyntaxNode {
         ensures { IsTrue result ↔ IsLeaf self.now.label.content }
     {
         match &self.node {
-            Node::Short(..) | Node::Leaf(_) => true,
+            Node::Short(..) | Node::Leaf(..) => true,
             Node::Inner(..) => false,
             Node::Error(error) => !error.text.is_empty(),
         }
@@ -203,7 +201,7 @@ impl SyntaxNode {
     {
         match &self.node {
             Node::Inner(_, inner) => inner.upper,
-            Node::Short(..) | Node::Leaf(_) | Node::Error(_) => self.span.number() + 1,
+            Node::Short(..) | Node::Leaf(..) | Node::Error(_) => self.span.number() + 1,
         }
     }
 }
@@ -216,7 +214,7 @@ impl SyntaxNode {
     {
         match &self.node {
             Node::Short(_, text) => text.len(),
-            Node::Leaf(leaf) => leaf.text.len(),
+            Node::Leaf(_, leaf) => leaf.text.len(),
             Node::Inner(_, inner) => inner.len,
             Node::Error(error) => error.text.len(),
         }
@@ -235,7 +233,7 @@ impl SyntaxNode {
     {
         match &self.node {
             Node::Inner(_, inner) => inner.descendants,
-            Node::Short(..) | Node::Leaf(_) | Node::Error(_) => 1,
+            Node::Short(..) | Node::Leaf(..) | Node::Error(_) => 1,
         }
     }
 
@@ -245,7 +243,7 @@ impl SyntaxNode {
         ensures warnings { result.warnings ≡ has_warning self.now }
     {
         let below = match &self.node {
-            Node::Short(..) | Node::Leaf(_) => Diagnosis {
+            Node::Short(..) | Node::Leaf(..) => Diagnosis {
                 errors: false,
                 warnings: false,
             },
@@ -267,7 +265,7 @@ impl SyntaxNode {
     {
         match &self.node {
             Node::Short(_, text) => text.as_str(),
-            Node::Leaf(leaf) => leaf.text.as_str(),
+            Node::Leaf(_, leaf) => leaf.text.as_str(),
             Node::Inner(..) => "",
             Node::Error(error) => error.text.as_str(),
         }
@@ -288,7 +286,7 @@ impl SyntaxNode {
     {
         match &self.node {
             Node::Short(_, text) => out.push_str(text.as_str()),
-            Node::Leaf(leaf) => out.push_str(leaf.text.as_str()),
+            Node::Leaf(_, leaf) => out.push_str(leaf.text.as_str()),
             Node::Inner(_, inner) => {
                 for child in &inner.children {
                     child.push_text(out)?;
@@ -315,7 +313,7 @@ impl SyntaxNode {
     {
         match &self.node {
             Node::Inner(_, inner) => &inner.children,
-            Node::Short(..) | Node::Leaf(_) | Node::Error(_) => &[],
+            Node::Short(..) | Node::Leaf(..) | Node::Error(_) => &[],
         }
     }
 
@@ -329,7 +327,7 @@ impl SyntaxNode {
     {
         match &self.node {
             Node::Inner(_, inner) => inner.ends.get(index),
-            Node::Short(..) | Node::Leaf(_) | Node::Error(_) => unreachable!(),
+            Node::Short(..) | Node::Leaf(..) | Node::Error(_) => unreachable!(),
         }
     }
 }

@@ -52,11 +52,10 @@ impl SyntaxNode {
         } else {
             let text = String::from_str(alloc, text)?;
             let leaf = LeafNode {
-                kind,
                 text,
                 warnings: Vec::new(alloc),
             };
-            Node::Leaf(Box::new(alloc, leaf)?)
+            Node::Leaf(kind, Box::new(alloc, leaf)?)
         };
         Ok(SyntaxNode {
             node,

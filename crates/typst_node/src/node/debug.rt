@@ -29,7 +29,7 @@ impl SyntaxNode {
         }
         match &self.node {
             Node::Short(kind, text) => write!(f, "{kind:?}: {:?}", text.as_str())?,
-            Node::Leaf(leaf) => write!(f, "{:?}: {:?}", leaf.kind, leaf.text)?,
+            Node::Leaf(kind, leaf) => write!(f, "{kind:?}: {:?}", leaf.text)?,
             Node::Error(error) => self.write_error(f, error)?,
             Node::Inner(kind, inner) => {
                 write!(f, "{kind:?}: {}", inner.len)?;
@@ -115,7 +115,7 @@ impl SyntaxNode {
     fn is_boundary(&self, at: usize) -> bool {
         match &self.node {
             Node::Short(_, text) => text.as_str().is_char_boundary(at),
-            Node::Leaf(leaf) => leaf.text.as_str().is_char_boundary(at),
+            Node::Leaf(_, leaf) => leaf.text.as_str().is_char_boundary(at),
             Node::Error(error) => error.text.as_str().is_char_boundary(at),
             Node::Inner(_, inner) => {
                 let mut rest = at;
@@ -139,7 +139,7 @@ impl SyntaxNode {
     ) -> fmt::Result {
         match &self.node {
             Node::Short(_, text) => write_escaped(f, text.as_str(), start, end),
-            Node::Leaf(leaf) => write_escaped(f, leaf.text.as_str(), start, end),
+            Node::Leaf(_, leaf) => write_escaped(f, leaf.text.as_str(), start, end),
             Node::Error(error) => write_escaped(f, error.text.as_str(), start, end),
             Node::Inner(_, inner) => {
                 let mut start = start;

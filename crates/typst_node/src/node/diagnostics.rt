@@ -62,7 +62,7 @@ impl SyntaxNode {
         }
         push_warnings(alloc, self.span, self.node.warnings(), warnings)?;
         match &self.node {
-            Node::Short(..) | Node::Leaf(_) => Ok(()),
+            Node::Short(..) | Node::Leaf(..) => Ok(()),
             Node::Inner(_, inner) => {
                 for child in &inner.children {
                     child.push_reports(alloc, errors, warnings)?;

@@ -32,14 +32,14 @@ impl Node {
     {
         match self {
             Node::Short(kind, text) => other.is_leaf_of(*kind, text.as_str()),
-            Node::Leaf(leaf) => other.is_leaf_of(leaf.kind, leaf.text.as_str()),
+            Node::Leaf(kind, leaf) => other.is_leaf_of(*kind, leaf.text.as_str()),
             Node::Inner(kind, inner) => match other {
                 Node::Inner(other_kind, other_inner) => {
                     same_kind(*kind, *other_kind)
                         && inner.upper == other_inner.upper
                         && all_same(&inner.children, &other_inner.children)
                 }
-                Node::Short(..) | Node::Leaf(_) | Node::Error(_) => false,
+                Node::Short(..) | Node::Leaf(..) | Node::Error(_) => false,
             },
             Node::Error(error) => match other {
                 Node::Error(other_error) => {
@@ -47,7 +47,7 @@ impl Node {
                         && error.message.as_str() == other_error.message.as_str()
                         && same_hints(&error.hints, &other_error.hints)
                 }
-                Node::Short(..) | Node::Leaf(_) | Node::Inner(..) => false,
+                Node::Short(..) | Node::Leaf(..) | Node::Inner(..) => false,
             },
         }
     }

@@ -76,7 +76,7 @@ impl Node {
     {
         match self {
             Node::Short(kind, text) => feed_leaf(*kind, text.as_str(), state),
-            Node::Leaf(leaf) => feed_leaf(leaf.kind, leaf.text.as_str(), state),
+            Node::Leaf(kind, leaf) => feed_leaf(*kind, leaf.text.as_str(), state),
             Node::Error(error) => {
                 state.write_u8(1);
                 error.text.as_str().hash(state);

@@ -68,7 +68,7 @@ impl SyntaxNode {
         let span = Span::from_range(id, mapper.map(at..end));
         match &mut self.node {
             Node::Short(..) => self.span = span,
-            Node::Leaf(leaf) => {
+            Node::Leaf(_, leaf) => {
                 self.span = span;
                 map_parts(&mut leaf.warnings, mapper, at, end);
             }

@@ -84,7 +84,7 @@ impl SyntaxNode {
             None => errand.arrive(self),
             Some((index, rest)) => match &mut self.node {
                 Node::Inner(_, inner) => inner.replace_in(*index, rest, errand),
-                Node::Short(..) | Node::Leaf(_) | Node::Error(_) => unreachable!(),
+                Node::Short(..) | Node::Leaf(..) | Node::Error(_) => unreachable!(),
             },
         }
     }

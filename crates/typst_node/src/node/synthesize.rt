@@ -18,7 +18,7 @@ impl SyntaxNode {
     {
         match &mut self.node {
             Node::Short(..) => self.span = span,
-            Node::Leaf(leaf) => {
+            Node::Leaf(_, leaf) => {
                 self.span = span;
                 make_whole(&mut leaf.warnings);
             }

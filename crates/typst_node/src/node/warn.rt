@@ -184,7 +184,7 @@ impl SyntaxNode {
         }
         match &mut self.node {
             Node::Error(error) => error.push_hint(hint),
-            Node::Short(..) | Node::Leaf(_) | Node::Inner(..) => unreachable!(),
+            Node::Short(..) | Node::Leaf(..) | Node::Inner(..) => unreachable!(),
         }
     }
 }
@@ -203,11 +203,11 @@ impl Node {
     {
         match self {
             Node::Short(kind, text) => {
-                let leaf = LeafNode::warned(alloc, *kind, text.as_str(), warning)?;
-                *self = Node::Leaf(Box::new(alloc, leaf)?);
+                let leaf = LeafNode::warned(alloc, text.as_str(), warning)?;
+                *self = Node::Leaf(*kind, Box::new(alloc, leaf)?);
                 Ok(())
             }
-            Node::Leaf(leaf) => warn_last(&mut leaf.warnings, warning),
+            Node::Leaf(_, leaf) => warn_last(&mut leaf.warnings, warning),
             Node::Inner(_, inner) => warn_last(&mut inner.warnings, warning),
             Node::Error(error) => warn_last(&mut error.warnings, warning),
         }
@@ -227,7 +227,7 @@ impl Node {
     {
         match self {
             Node::Short(..) => unreachable!(),
-            Node::Leaf(leaf) => hint_last(&mut leaf.warnings, hint),
+            Node::Leaf(_, leaf) => hint_last(&mut leaf.warnings, hint),
             Node::Inner(_, inner) => hint_last(&mut inner.warnings, hint),
             Node::Error(error) => hint_last(&mut error.warnings, hint),
         }
@@ -236,24 +236,14 @@ impl Node {
 
 impl LeafNode {
     /// A leaf under one warning, with a copy of the text.
-    fn warned(
-        alloc: Global,
-        kind: SyntaxKind,
-        text: &str,
-        warning: Warning,
-    ) -> Result<LeafNode, AllocError>
-        ensures kind { IfOk result (λ n. n.kind ≡ kind) }
+    fn warned(alloc: Global, text: &str, warning: Warning) -> Result<LeafNode, AllocError>
         ensures text { IfOk result (λ n. string_bytes n.text ≡ text.now) }
         ensures warnings { IfOk result (λ n. n.warnings.items ≡ warning ∷ []) }
     {
         let text = String::from_str(alloc, text)?;
         let mut warnings = Vec::with_capacity(alloc, 1)?;
         warnings.push(warning)?;
-        Ok(LeafNode {
-            kind,
-            text,
-            warnings,
-        })
+        Ok(LeafNode { text, warnings })
     }
 }
 
