@@ -82,8 +82,9 @@ def below(name, needs):
 class Room:
     """A copy of a crate and of what it stands on, in which batches are checked."""
 
-    def __init__(self, top, name, place, jobs, proved=None):
+    def __init__(self, top, name, place, jobs, proved=None, nice=0):
         self.source, self.crate, self.jobs, self.checks = top / "crates" / name, Path(place) / "crates" / name, jobs, 0
+        self.nice = nice
         needs = needs_of(top)
         kept = below(name, needs)
         for it in kept:
@@ -163,7 +164,8 @@ class Room:
         self.checks += 1
         wait_for_memory()
         jobs = max(1, min(self.jobs, idle_processors()))
-        words = ["rt", "check", "--jobs", str(jobs), *(word for it in only for word in ("--only", it))]
+        words = ["nice", "-n", str(self.nice), "rt", "check", "--jobs", str(jobs)]
+        words += [word for it in only for word in ("--only", it)]
         ran = subprocess.run(words, cwd=self.crate, capture_output=True, text=True)
         self.text = ran.stdout + ran.stderr
         reached = REACHED.search(self.text)
@@ -468,11 +470,11 @@ class Proved:
         return names <= self.names
 
 
-def judged(top, name, given, say, proved=None):
+def judged(top, name, given, say, proved=None, nice=0):
     """Judges a crate's edits, and returns the verdicts, what is wrong, and the number of checks."""
     bad = []
     with tempfile.TemporaryDirectory(prefix="bodies-") as place:
-        room = Room(top, name, place, given.jobs, proved)
+        room = Room(top, name, place, given.jobs, proved, nice)
         judge = Judge(room, say, given.only, bad)
         judge.judge(given.each)
         bad += [f"{name}/{it}: NOT REFUSED" for it, way in judge.verdicts.items() if way == "not refused"]
@@ -482,13 +484,13 @@ def judged(top, name, given, say, proved=None):
         return judge.verdicts, bad, room.checks
 
 
-def report(name, given, proved):
+def report(name, given, proved, nice):
     """Judges a crate, says what came out, and returns whether all is well."""
     if proved and not proved.has(below(name, needs_of(TOP))):
         print(f"{name}: not judged: what it stands on isn't proved", flush=True)
         return False
     began = time.monotonic()
-    verdicts, bad, checks = judged(TOP, name, given, lambda text: print(text, flush=True), proved)
+    verdicts, bad, checks = judged(TOP, name, given, lambda text: print(text, flush=True), proved, nice)
     ways = [*verdicts.values()]
     counts = f"{ways.count('goal')} at a goal, {ways.count('proof file')} in a proof file"
     bad.append(
@@ -500,11 +502,13 @@ def report(name, given, proved):
 
 
 def judge_all(given):
-    """Judges the crates, those with the most edits first; returns whether all is well."""
+    """Judges the crates, those with the most edits first; returns whether all is well.
+
+    The first takes longest, and the others give way to it, so that it doesn't stand alone in the end."""
     names = sorted(given.crates, key=lambda it: -len([*(TOP / "crates" / it).glob("wrong-bodies/*.edit")]))
     with tempfile.TemporaryDirectory(prefix="proved-") as place, ThreadPoolExecutor(given.lanes) as pool:
         proved = Proved(given.beside, place) if given.beside else None
-        well = [*pool.map(lambda name: report(name, given, proved), names)]
+        well = [*pool.map(lambda name: report(name, given, proved, 0 if name == names[0] else 9), names)]
         if proved:
             proved.is_over = True
     used = resource.getrusage(resource.RUSAGE_CHILDREN)
