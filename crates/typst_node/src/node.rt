@@ -52,7 +52,7 @@ pub struct SyntaxNode {
 enum Node {
     // A leaf without warnings that holds its text itself.
     Short(SyntaxKind, ShortText),
-    // Any other leaf. All kinds stand here, at one place, so that they are read without a box.
+    // Any other leaf. The kinds of leaves and inner nodes stand here, at one place, so that they are read without a box.
     Leaf(SyntaxKind, Box<LeafNode>),
     Inner(SyntaxKind, Box<InnerNode>),
     Error(Box<ErrorNode>),

@@ -45,7 +45,8 @@ impl SyntaxNode {
         Ok((errors, warnings))
     }
 
-    /// Adds the errors and the warnings of the tree.
+    /// Adds the errors and the warnings of the tree, if it has any.
+    #[cycle(reports)]
     fn push_reports(
         &self,
         alloc: Global,
@@ -60,6 +61,23 @@ impl SyntaxNode {
         if !self.diagnosis().either() {
             return Ok(());
         }
+        self.push_some_reports(alloc, errors, warnings)
+    }
+
+    /// Adds the errors and the warnings of the tree, at the node first.
+    #[inline(never)]
+    #[cycle(reports)]
+    fn push_some_reports(
+        &self,
+        alloc: Global,
+        errors: &mut Vec<SyntaxDiagnostic>,
+        warnings: &mut Vec<SyntaxDiagnostic>,
+    ) -> Result<(), AllocError>
+        ensures errors { OnOk result
+            (map report errors.new.items ≡ map report errors.old.items ++ errors_of self.now) }
+        ensures warnings { OnOk result
+            (map report warnings.new.items ≡ map report warnings.old.items ++ warnings_of self.now) }
+    {
         push_warnings(alloc, self.span, self.node.warnings(), warnings)?;
         match &self.node {
             Node::Short(..) | Node::Leaf(..) => Ok(()),
