@@ -105,15 +105,10 @@ pub IfOk_both : {T E : Type 0} (r : Result T E) {P Q : T → Type 0} {O : Type 0
 IfOk_both (Ok x) h o f = f x h o
 IfOk_both (Err e) h o f = tt
 
--- what holds of an Ok under a premise
-pub IfOk_under : {T E : Type 0} (r : Result T E) {A : Type 0} {P Q : T → Type 0} → (A → IfOk r P) → ((x : T) → A → P x → Q x) → IfOk r (λ x. A → Q x)
-IfOk_under (Ok x) h f = λ a. f x a (h a)
-IfOk_under (Err e) h f = tt
+-- what follows from a fact of an Ok
+pub IfOk_map : {T E : Type 0} (r : Result T E) {P Q : T → Type 0} → IfOk r P → ((x : T) → P x → Q x) → IfOk r Q
+IfOk_map (Ok x) h f = f x h
+IfOk_map (Err e) h f = tt
 
-pub IfOk_both_under : {T E : Type 0} (r : Result T E) {A O : Type 0} {P Q : T → Type 0} → (A → IfOk r P) → (A → OnOk r O) → ((x : T) → A → P x → O → Q x) → IfOk r (λ x. A → Q x)
-IfOk_both_under (Ok x) h o f = λ a. f x a (h a) (o a)
-IfOk_both_under (Err e) h o f = tt
-
--- a tree is an older one with other children, where their labels are the same
 pub whole_frame : (t u : Tree) → u.label ≡ t.label → u ≡ record { label = t.label; children = forest (trees u.children) }
 whole_frame t u e = λ i. record { label = e i; children = sym (forest-trees u.children) i }

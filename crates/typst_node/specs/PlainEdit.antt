@@ -26,6 +26,11 @@ RangeFits from to t = IsInner t.label.content → (from ≤ to) × (to ≤ lengt
 abbrev pub EditFits : List ℕ → ℕ → ℕ → Tree → Type 0
 EditFits path from to t = IsPath path t × RangeFits from to (tree_at path t)
 
+-- the path leads to an inner node, and the range lies within its children
+abbrev pub FitsInner : List ℕ → ℕ → ℕ → Tree → Type 0
+FitsInner path from to t =
+    IsPath path t × IsInner (tree_at path t).label.content × (from ≤ to) × (to ≤ length (trees (tree_at path t).children))
+
 -- the text length and the node count of the tree fit a usize
 abbrev pub TreeFits : Tree → Type 0
 TreeFits t = (length (text t) < 2 ^ 64) × (count t < 2 ^ 64)

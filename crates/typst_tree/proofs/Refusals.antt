@@ -7,14 +7,14 @@ use Rattle.typst_node.specs.Text.{text}
 use Rattle.typst_node.specs.Count.{count}
 use Rattle.typst_node.specs.Numbered.{IsNumbered}
 use Rattle.typst_node.specs.Paths.{IsPath, tree_at, no_tree}
-use Rattle.typst_node.specs.PlainEdit.{edited_at, TreeFits}
+use Rattle.typst_node.specs.PlainEdit.{edited_at, FitsInner, TreeFits}
 use Rattle.typst_node.specs.Window.{site_of}
 use Rattle.typst_node.specs.FirstWindow.{HasNoFirst, IsCrowded}
 use Rattle.typst_node.specs.declared.node.replace.Renumbered.{Renumbered}
 use Rattle.typst_node.specs.declared.node.replace.ReplaceError.{ReplaceError}
 use Rattle.typst_node.specs.declared.node.replace.ReplaceError.TheVariants.{Unnumberable, Overflow, Memory}
 use Rattle.typst_node.proofs.PathsIn.{child_numbered}
-use Rattle.typst_tree.specs.Step.{FitsInner, IsRefusedBy}
+use Rattle.typst_tree.specs.Step.{IsRefusedBy}
 
 -- below a path of a numbered tree there is a numbered tree
 pub numbered_at : (path : List ℕ) (t : Tree) → IsPath path t → IsNumbered t → IsNumbered (tree_at path t)

@@ -7,7 +7,7 @@ use Rattle.typst_node.specs.Text.{offset}
 use Rattle.typst_node.specs.Plain.{plain}
 use Rattle.typst_node.specs.Numbered.{IsNumberedFor}
 use Rattle.typst_node.specs.Paths.{IsPath, tree_at}
-use Rattle.typst_node.specs.PlainEdit.{edited_at, TreeFits}
+use Rattle.typst_node.specs.PlainEdit.{edited_at, FitsInner, TreeFits}
 use Rattle.typst_node.specs.Window.{site_of}
 use Rattle.typst_node.specs.FirstWindow.{HasNoFirst, IsFoundSoon, IsCrowded}
 use Rattle.typst_node.specs.Renumbering.{IsRenumbering}
@@ -21,11 +21,6 @@ use Rattle.typst_tree.specs.declared.session.Request.{Request}
 use Rattle.typst_tree.specs.declared.session.Request.TheVariants.{Replace, Find}
 use Rattle.typst_tree.specs.declared.session.Reply.{Reply}
 use Rattle.typst_tree.specs.declared.session.Reply.TheVariants.{Renumbered, Misfit, Refused, Found, NotFound, NoMemory}
-
--- the path leads to an inner node, and the range lies within its children
-abbrev pub FitsInner : List ℕ → ℕ → ℕ → Tree → Type 0
-FitsInner path from to t =
-    IsPath path t × IsInner (tree_at path t).label.content × (from ≤ to) × (to ≤ length (trees (tree_at path t).children))
 
 -- An accepted replacement: the tree is the plainly edited one, numbered for the file of the old one. The first window was
 -- numbered anew, and all nodes outside it keep their labels.

@@ -5,7 +5,7 @@ ghost use Rattle.typst_node.specs.Labels.{number};
 ghost use Rattle.typst_node.specs.Numbered.{IsNumbered, IsNumberedFor};
 ghost use Rattle.typst_node.specs.Paths.{IsPath, tree_at};
 ghost use Rattle.typst_node.specs.Plain.{plain};
-ghost use Rattle.typst_tree.specs.Step.{Step, FitsInner};
+ghost use Rattle.typst_tree.specs.Step.{Step};
 ghost use Rattle.typst_tree.specs.Found.{TellsPlace};
 ghost use Rattle.typst_tree.specs.Kept.{IsKept, KeepsLabel};
 ghost use Rattle.typst_tree.specs.Reads.{ReadsAs};
@@ -145,25 +145,10 @@ fn replace(
     requires { IsNumbered root.old }
     ensures { Step root.old (Replace path range replacement) result root.new }
 {
-    if !fits(root, &path, range.start, range.end) {
-        return Reply::Misfit;
-    }
-    match root.replace_at(alloc, &path, range, replacement) {
-        Ok(renumbered) => Reply::Renumbered(renumbered),
-        Err(error) => Reply::Refused(error),
-    }
-}
-
-/// Whether the path leads to an inner node, and the range lies within its children.
-fn fits(root: &SyntaxNode, path: &[usize], start: usize, end: usize) -> bool
-    ensures { IsTrue result ↔ FitsInner path.now start end root.now }
-{
-    match path.split_first() {
-        None => root.is_inner() && start <= end && end <= root.child_slice().len(),
-        Some((index, rest)) => match root.child_slice().get(*index) {
-            Some(child) => fits(child, rest, start, end),
-            None => false,
-        },
+    match root.try_replace_at(alloc, &path, range, replacement) {
+        Some(Ok(renumbered)) => Reply::Renumbered(renumbered),
+        Some(Err(error)) => Reply::Refused(error),
+        None => Reply::Misfit,
     }
 }
 

@@ -1,5 +1,5 @@
 // Replacements at any depth.
-ghost use Rattle.std.specs.Prelude.{[], ◌∷◌, ◌≡◌, ◌+◌, ◌-◌, ◌^◌, ◌<◌, ◌≤◌, ◌⊎◌, ◌↔◌, suc, length, set, get_or, false, Ok, OnErr, OnOk, IfOk, IsTrue, IsErrOf};
+ghost use Rattle.std.specs.Prelude.{[], ◌∷◌, ◌≡◌, ◌+◌, ◌-◌, ◌^◌, ◌<◌, ◌≤◌, ◌⊎◌, ◌↔◌, suc, length, set, get_or, false, Ok, OnErr, OnOk, IfOk, IfSome, IfNone, IsSome, IsTrue, IsErrOf};
 ghost use Rattle.typst_node.specs.Tree.{IsInner, trees};
 ghost use Rattle.typst_node.specs.Text.{text, text_of_all};
 ghost use Rattle.typst_node.specs.Count.{SumsFit, count, count_of_all};
@@ -8,7 +8,7 @@ ghost use Rattle.typst_node.specs.Numbered.{IsNumbered, IsNumberedFor};
 ghost use Rattle.typst_node.specs.View.{IsMeasured};
 ghost use Rattle.typst_node.specs.Sums.{AreSums};
 ghost use Rattle.typst_node.specs.Paths.{IsInnerAt, IsPath, StaysBeside, tree_at, trees_at};
-ghost use Rattle.typst_node.specs.PlainEdit.{edited_at, EditFits, TreeFits};
+ghost use Rattle.typst_node.specs.PlainEdit.{edited_at, EditFits, FitsInner, TreeFits};
 ghost use Rattle.typst_node.specs.Window.{site_of};
 ghost use Rattle.typst_node.specs.FirstWindow.{HasNoFirst, IsFoundSoon, IsCrowded};
 ghost use Rattle.typst_node.specs.Renumbering.{IsRenumberingAt, no_window};
@@ -16,7 +16,7 @@ ghost use Rattle.typst_node.specs.Outside.{KeepsOutside};
 ghost use Rattle.typst_node.specs.Tells.{TellsAs};
 ghost use Rattle.typst_node.specs.Refusals.{LacksNumbersAt};
 ghost use Rattle.typst_node.specs.EditBelow.{child_of};
-ghost use Rattle.typst_node.specs.Errand.{IsDone, IsErrand, edited_by};
+ghost use Rattle.typst_node.specs.Errand.{FitsAt, IsDone, IsErrand, edited_by};
 ghost use Rattle.typst_node.specs.declared.node.replace.ReplaceError.TheVariants.{Unnumberable, Overflow, Memory};
 
 use crate::node::inner::{Sums, sums_of};
@@ -32,29 +32,30 @@ use std::ops::Range;
 struct Errand {
     range: Range<usize>,
     others: Vec<SyntaxNode>,
+    // Whether it came to an inner node whose children hold the range.
+    fits: bool,
     answer: Result<Renumbered, ReplaceError>,
 }
 
 impl Errand {
-    /// Makes the replacement of the node that it is for, if that is an inner node.
+    /// Makes the replacement of the node that it is for, if that is an inner node whose children hold the range.
     #[inline(never)]
     fn arrive(&mut self, node: &mut SyntaxNode)
         requires { IsErrand [] self.old node.old }
-        ensures leaf { ¬ (IsInner node.old.label.content) → (node.new ≡ node.old) × (self.new.answer ≡ Ok no_window) }
+        ensures fits { IsTrue self.new.fits ↔ FitsAt [] self.old node.old }
+        ensures misfit { self.new.fits ≡ false → node.new ≡ node.old }
         ensures err { OnErr self.new.answer (node.new ≡ node.old) }
         ensures label { node.new.label ≡ node.old.label }
-        ensures done { IsInner node.old.label.content → IsDone self.old self.new node.old node.new }
+        ensures done { IsTrue self.new.fits → IsDone self.old self.new node.old node.new }
     {
-        if !node.is_inner() {
-            self.answer = Ok(Renumbered {
-                window: 0..0,
-                tried: 0,
-            });
+        let (from, to) = (self.range.start, self.range.end);
+        if !node.is_inner() || from > to || to > node.child_slice().len() {
             return;
         }
+        self.fits = true;
         let empty = Vec::new(*self.others.allocator());
         let others = mem::replace(&mut self.others, empty);
-        self.answer = node.replace_range(self.range.start..self.range.end, others);
+        self.answer = node.replace_range(from..to, others);
     }
 }
 
@@ -70,21 +71,27 @@ impl SyntaxNode {
         }
     }
 
-    /// Replaces the children of a range of the node that a path leads to, where it is an inner node and the sums of this
-    /// one fit then.
+    /// Replaces the children of a range of the node that a path leads to, where it is an inner node whose children hold
+    /// the range and the sums of this one fit then.
     #[cycle(at)]
     fn replace_below(&mut self, path: &[usize], errand: &mut Errand)
         requires { IsErrand path.now errand.old self.old }
-        ensures leaf { ¬ (IsInnerAt path.now self.old) → (self.new ≡ self.old) × (errand.new.answer ≡ Ok no_window) }
+        ensures fits { IsTrue errand.new.fits ↔ FitsAt path.now errand.old self.old }
+        ensures misfit { errand.new.fits ≡ false → self.new ≡ self.old }
         ensures err { OnErr errand.new.answer (self.new ≡ self.old) }
         ensures frame { StaysBeside path.now self.old self.new }
-        ensures at { IsInnerAt path.now self.old → IsDone errand.old errand.new (tree_at path.now self.old) (tree_at path.now self.new) }
+        ensures at { IsTrue errand.new.fits → IsDone errand.old errand.new (tree_at path.now self.old) (tree_at path.now self.new) }
     {
         match path.split_first() {
             None => errand.arrive(self),
             Some((index, rest)) => match &mut self.node {
-                Node::Inner(_, inner) => inner.replace_in(*index, rest, errand),
-                Node::Short(..) | Node::Leaf(..) | Node::Error(_) => unreachable!(),
+                Node::Inner(_, inner) => {
+                    if *index >= inner.children.len() {
+                        return;
+                    }
+                    inner.replace_in(*index, rest, errand)
+                }
+                Node::Short(..) | Node::Leaf(..) | Node::Error(_) => {}
             },
         }
     }
@@ -98,16 +105,16 @@ impl InnerNode {
         requires index { index < length self.old.children.items }
         requires edit { IsErrand path.now errand.old (child_of self.old.children.items index) }
         requires sums { let child = child_of self.old.children.items index in
-            IsInnerAt path.now child → SumsFit (set self.old.children.items index (edited_by path.now errand.old child)) }
+            FitsAt path.now errand.old child → SumsFit (set self.old.children.items index (edited_by path.now errand.old child)) }
         ensures measured { IsMeasured self.new }
         ensures upper { self.new.upper ≡ self.old.upper }
         ensures warnings { self.new.warnings ≡ self.old.warnings }
-        ensures leaf { ¬ (IsInnerAt path.now (child_of self.old.children.items index))
-            → (self.new.children.items ≡ self.old.children.items) × (errand.new.answer ≡ Ok no_window) }
+        ensures fits { IsTrue errand.new.fits ↔ FitsAt path.now errand.old (child_of self.old.children.items index) }
+        ensures misfit { errand.new.fits ≡ false → self.new.children.items ≡ self.old.children.items }
         ensures err { OnErr errand.new.answer (self.new.children.items ≡ self.old.children.items) }
         ensures one { self.new.children.items ≡ set self.old.children.items index (child_of self.new.children.items index) }
         ensures frame { StaysBeside path.now (child_of self.old.children.items index) (child_of self.new.children.items index) }
-        ensures at { IsInnerAt path.now (child_of self.old.children.items index)
+        ensures at { IsTrue errand.new.fits
             → IsDone errand.old errand.new (tree_at path.now (child_of self.old.children.items index))
             (tree_at path.now (child_of self.new.children.items index)) }
     {
@@ -171,17 +178,21 @@ impl SyntaxNode {
             .is_some()
     }
 
-    /// Whether an inner node stands at a path, and the length or the node count of this node would pass a usize after an
-    /// edit there. Mostly they fit together with what comes, so that the way down need not be gone for what goes.
+    /// Whether an edit at a path fits, and the length or the node count of this node would pass a usize after it. Mostly
+    /// they fit together with what comes, so that the way down need not be gone for what goes.
     #[tactic(auto, using(crate::proofs::PathsWhole::count_edited, crate::proofs::PathsWhole::text_edited))]
     fn overflows(&self, path: &[usize], range: Range<usize>, others: &[SyntaxNode]) -> bool
-        requires { EditFits path.now range.start range.end self.now }
         ensures over { IsTrue result
-            → IsInnerAt path.now self.now × ¬ (TreeFits (edited_at path.now range.start range.end others.now self.now)) }
+            → FitsInner path.now range.start range.end self.now
+            × ¬ (TreeFits (edited_at path.now range.start range.end others.now self.now)) }
         ensures fits { result ≡ false
-            → IsInnerAt path.now self.now → TreeFits (edited_at path.now range.start range.end others.now self.now) }
+            → FitsInner path.now range.start range.end self.now
+            → TreeFits (edited_at path.now range.start range.end others.now self.now) }
     {
-        if self.fits_with(others) || !self.node_at(path).is_inner() {
+        if self.fits_with(others)
+            || !self.edit_fits(path, range.start..range.end)
+            || !self.node_at(path).is_inner()
+        {
             return false;
         }
         !self.sums_fit(path, range, others)
@@ -207,6 +218,66 @@ impl SyntaxNode {
         }
     }
 
+    /// Replaces the children of a range of the inner node that a path of child indices leads to, as
+    /// [`SyntaxNode::replace_at`] does, and tests on the way whether there is such a node and its children hold the range:
+    /// `None` where not. It goes down the path once, where [`SyntaxNode::edit_fits`] and [`SyntaxNode::replace_at`] go
+    /// down twice.
+    ///
+    /// The test of the condition is [`SyntaxNode::is_numbered`]. `Overflow` is given exactly where the length or the node
+    /// count of the node that is called, the whole tree's, would pass a usize. After `None` and after an error nothing has
+    /// changed, and the replacement is dropped. It takes as long as [`SyntaxNode::replace_at`].
+    pub fn try_replace_at(
+        &mut self,
+        _alloc: Global,
+        path: &[usize],
+        range: Range<usize>,
+        replacement: Vec<SyntaxNode>,
+    ) -> Option<Result<Renumbered, ReplaceError>>
+        requires { ((tree_at path.now self.old).label.span.file ≡ 0) ⊎ IsNumbered self.old }
+
+        // What doesn't fit, and each refusal, changes nothing.
+        ensures fits { IsSome result ↔ FitsInner path.now range.start range.end self.old }
+        ensures misfit { IfNone result (self.new ≡ self.old) }
+        ensures err { IfSome result (λ answer. OnErr answer (self.new ≡ self.old)) }
+        ensures overflow { IfSome result (λ answer. IsErrOf answer Overflow
+            ↔ ¬ (TreeFits (edited_at path.now range.start range.end replacement.items self.old))) }
+        ensures unnumberable { IfSome result (λ answer. IsErrOf answer Unnumberable
+            ↔ LacksNumbersAt path.now range.start range.end replacement.items self.old) }
+        ensures crowded { let at = tree_at path.now self.old in IfSome result (λ answer. IsErrOf answer Unnumberable
+            → (at.label.span.file ≡ 0) ⊎ IsCrowded (site_of range.start range.end replacement.items at)) }
+        ensures memory { length replacement.items ≤ range.end - range.start
+            → IfSome result (λ answer. ¬ (IsErrOf answer Memory)) }
+
+        // What an accepted replacement makes.
+        ensures plain { IfSome result (λ answer. OnOk answer
+            (plain self.new ≡ plain (edited_at path.now range.start range.end replacement.items self.old))) }
+        ensures reads { IfSome result (λ answer. OnOk answer
+            (TellsAs self.new (edited_at path.now range.start range.end replacement.items self.old))) }
+        ensures numbered { IfSome result (λ answer. OnOk answer (IsNumberedFor self.old.label.span.file self.new)) }
+        ensures window { IfSome result (λ answer. IfOk answer (λ r.
+            IsRenumberingAt path.now range.start range.end replacement.items r self.old self.new)) }
+        ensures tried { let at = tree_at path.now self.old in IfSome result (λ answer. IfOk answer (λ r.
+            IsFoundSoon (site_of range.start range.end replacement.items at) r.tried)) }
+        ensures outside { IfSome result (λ answer. IfOk answer (λ r. KeepsOutside path.now r self.old self.new)) }
+        ensures beside { IfSome result (λ answer. OnOk answer (StaysBeside path.now self.old self.new)) }
+    {
+        if self.overflows(path, range.start..range.end, &replacement) {
+            return Some(Err(ReplaceError::Overflow));
+        }
+        let mut errand = Errand {
+            range,
+            others: replacement,
+            fits: false,
+            answer: Err(ReplaceError::Overflow),
+        };
+        self.replace_below(path, &mut errand);
+        if errand.fits {
+            Some(errand.answer)
+        } else {
+            None
+        }
+    }
+
     /// Replaces the children of a range of the node that a path of child indices leads to, as
     /// [`SyntaxNode::replace_children`] does of that node, with the window among its children. All lengths, node
     /// counts, diagnoses and child ends on the way are corrected. The other nodes keep their numbers.
@@ -221,7 +292,7 @@ impl SyntaxNode {
     /// allocator.
     pub fn replace_at(
         &mut self,
-        _alloc: Global,
+        alloc: Global,
         path: &[usize],
         range: Range<usize>,
         replacement: Vec<SyntaxNode>,
@@ -253,15 +324,12 @@ impl SyntaxNode {
         ensures outside { IfOk result (λ r. IsInnerAt path.now self.old → KeepsOutside path.now r self.old self.new) }
         ensures beside { OnOk result (IsInnerAt path.now self.old → StaysBeside path.now self.old self.new) }
     {
-        if self.overflows(path, range.start..range.end, &replacement) {
-            return Err(ReplaceError::Overflow);
+        match self.try_replace_at(alloc, path, range, replacement) {
+            Some(answer) => answer,
+            None => Ok(Renumbered {
+                window: 0..0,
+                tried: 0,
+            }),
         }
-        let mut errand = Errand {
-            range,
-            others: replacement,
-            answer: Err(ReplaceError::Overflow),
-        };
-        self.replace_below(path, &mut errand);
-        errand.answer
     }
 }
