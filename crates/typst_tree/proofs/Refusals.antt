@@ -1,5 +1,5 @@
 -- Why a replacement in a numbered tree is refused.
-use Rattle.std.proofs.Common.{◌≡◌, ℕ, ◌-◌, ◌<◌, ◌≤◌, ◌^◌, ◌⊎◌, inl, inr, List, [], ◌∷◌, length, get_or, refl, arith}
+use Rattle.std.proofs.Common.{◌≡◌, ℕ, ◌-◌, ◌<◌, ◌≤◌, ◌^◌, ◌⊎◌, inl, inr, List, [], ◌∷◌, length, get_or, sym, ◌∙◌, arith}
 use Rattle.std.specs.Prelude.{◌↔◌, Result, Err}
 use Rattle.std.proofs.lemmas.Bool.{cases_lt}
 use Rattle.typst_node.specs.Tree.{Tree, trees, IsInner}
@@ -40,23 +40,23 @@ abbrev failed : ReplaceError → Answer
 failed e = Err e
 
 module _ (path : List ℕ) (from to : ℕ) (others : List Tree) (old : Tree) where
-  pub refused : (e : ReplaceError) → IsNumbered old → FitsInner path from to old
-      → ((failed e ≡ failed Overflow) ↔ (IsInner (tree_at path old).label.content × ¬ (TreeFits (edited_at path from to others old))))
-      → ((failed e ≡ failed Unnumberable) ↔ (IsInner (tree_at path old).label.content × TreeFits (edited_at path from to others old) × (((tree_at path old).label.span.file ≡ 0) ⊎ HasNoFirst (site_of from to others (tree_at path old)))))
-      → (failed e ≡ failed Unnumberable → ((tree_at path old).label.span.file ≡ 0) ⊎ IsCrowded (site_of from to others (tree_at path old)))
-      → (length others ≤ to - from → ¬ (failed e ≡ failed Memory))
+  pub refused : (r : Answer) (e : ReplaceError) → r ≡ failed e → IsNumbered old → FitsInner path from to old
+      → ((r ≡ failed Overflow) ↔ ¬ (TreeFits (edited_at path from to others old)))
+      → ((r ≡ failed Unnumberable) ↔ (IsInner (tree_at path old).label.content × TreeFits (edited_at path from to others old) × (((tree_at path old).label.span.file ≡ 0) ⊎ HasNoFirst (site_of from to others (tree_at path old)))))
+      → (r ≡ failed Unnumberable → ((tree_at path old).label.span.file ≡ 0) ⊎ IsCrowded (site_of from to others (tree_at path old)))
+      → (length others ≤ to - from → ¬ (r ≡ failed Memory))
       → IsRefusedBy e path from to others old
-  refused Overflow numbered fit overflow unnumberable crowded memory = (overflow.0 refl).1
-  refused Unnumberable numbered fit overflow unnumberable crowded memory =
-      let why = unnumberable.0 refl in
+  refused r Overflow is numbered fit overflow unnumberable crowded memory = overflow.0 is
+  refused r Unnumberable is numbered fit overflow unnumberable crowded memory =
+      let why = unnumberable.0 is in
       let filed = of_a_file (tree_at path old) (numbered_at path old fit.0 numbered) in (
         why.1,
         elim why.2 [ inl none ↦ absurd (filed none) | inr h ↦ h ],
-        elim (crowded refl) [ inl none ↦ absurd (filed none) | inr h ↦ h ],
+        elim (crowded is) [ inl none ↦ absurd (filed none) | inr h ↦ h ],
       )
-  refused Memory numbered fit overflow unnumberable crowded memory =
-      let fits = below_unless_not (length (text (edited_at path from to others old))) (count (edited_at path from to others old)) (2 ^ 64) (λ h. let e = overflow.1 (fit.1, h) in cc) in (
+  refused r Memory is numbered fit overflow unnumberable crowded memory =
+      let fits = below_unless_not (length (text (edited_at path from to others old))) (count (edited_at path from to others old)) (2 ^ 64) (λ h. let e = sym is ∙ overflow.1 h in cc) in (
         fits,
-        λ h. let e = unnumberable.1 (fit.1, fits, inr h) in cc,
-        elim (cases_lt (to - from) (length others)) [ inl less ↦ less | inr not_less ↦ absurd (memory not_less refl) ],
+        λ h. let e = sym is ∙ unnumberable.1 (fit.1, fits, inr h) in cc,
+        elim (cases_lt (to - from) (length others)) [ inl less ↦ less | inr not_less ↦ absurd (memory not_less is) ],
       )

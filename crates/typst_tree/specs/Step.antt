@@ -1,12 +1,12 @@
 -- What a request does to a tree, and which reply it gets.
-use Rattle.std.specs.Prelude.{ℕ, ◌≡◌, ◌-◌, ◌<◌, ◌≤◌, List, [], length, Some, None}
+use Rattle.std.specs.Prelude.{ℕ, ◌≡◌, ◌-◌, ◌<◌, List, [], length, Some, None}
 use Rattle.typst_base.specs.Span.{SpanParts}
 use Rattle.typst_base.specs.SpanKind.{span_kind_of}
-use Rattle.typst_node.specs.Tree.{Tree, trees, IsInner}
+use Rattle.typst_node.specs.Tree.{Tree, trees}
 use Rattle.typst_node.specs.Text.{offset}
 use Rattle.typst_node.specs.Plain.{plain}
 use Rattle.typst_node.specs.Numbered.{IsNumberedFor}
-use Rattle.typst_node.specs.Paths.{IsPath, tree_at}
+use Rattle.typst_node.specs.Paths.{tree_at}
 use Rattle.typst_node.specs.PlainEdit.{edited_at, FitsInner, TreeFits}
 use Rattle.typst_node.specs.Window.{site_of}
 use Rattle.typst_node.specs.FirstWindow.{HasNoFirst, IsFoundSoon, IsCrowded}

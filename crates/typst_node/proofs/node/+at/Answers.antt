@@ -83,8 +83,11 @@ SyntaxNode::replace_below-replace_in-requires t c =
         (
           subst (λ (ts : List Tree). n < length ts) kids there,
           (
-            (c.requires.0, subst (λ (ts : List Tree). FitsInner rest from to (get_or ts n no_tree) → IsEdit rest from to others (get_or ts n no_tree)) kids
-                (λ h. edit_below n rest from to others c.args.self.now (errand (fits h)))),
+            (
+              c.requires.0,
+              subst (λ (ts : List Tree). FitsInner rest from to (get_or ts n no_tree) → IsEdit rest from to others (get_or ts n no_tree)) kids
+                  (λ h. edit_below n rest from to others c.args.self.now (errand (fits h))),
+            ),
             subst (λ (ts : List Tree). FitsInner rest from to (get_or ts n no_tree) → SumsFit (set ts n (edited_at rest from to others (get_or ts n no_tree)))) kids
                 (λ h. edit_sums n rest from to others c.args.self.now (errand (fits h)).sums),
           ),
@@ -105,7 +108,6 @@ SyntaxNode::replace_below-returns-else-index-len-clause-at t c =
     let kids : trees c.args.self.now.children ≡ c.deref_mut.result.now.children.items = inner_kids c.self.inside _ c.in-Inner.inner c.args.self.now c.in-Inner.is c.self.view_is ∙ sym (ap (λ b. b.children.items) c.deref_mut.ensures.value) in
     at_cons c.args.path.now c.in-Some.index.now c.in-Some.rest.now c.args.errand.now.range.start c.args.errand.now.range.end c.args.errand.now.others.items c.args.self.now (tree_of record { node = Inner _ (with_value c.in-Inner.inner c.replace_in.new.self); span = c.self.inside.span })
     c.deref_mut.result.now.children.items c.replace_in.new.self.children.items c.replace_in.new.errand.answer (IsTrue c.replace_in.new.errand.fits) c.in-Some.ensures.cases.0 kids refl c.replace_in.ensures.at
-
 
 pub SyntaxNode::replace_below-returns-then-index-len-clause-fits : goal.SyntaxNode::replace_below-returns-then-index-len-clause-fits
 SyntaxNode::replace_below-returns-then-index-len-clause-fits t c =
