@@ -5,6 +5,7 @@ pub mod HexRuns
 pub mod ItemLists
 pub mod KeptLists
 pub mod Lasts
+pub mod Lengths
 pub mod NoMore
 pub mod Trims
 pub mod Unescaping

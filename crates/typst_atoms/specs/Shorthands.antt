@@ -8,12 +8,7 @@ abbrev pub char_for : List (List ℕ × ℕ) → List ℕ → ℕ
 char_for [] bs = 0
 char_for (p ∷ ps) bs = cond (pointwise ◌==◌ p.0 bs) p.1 (char_for ps bs)
 
--- the same of a list of references, as private functions read it
-abbrev pub char_in : List (Bor (List ℕ) × ℕ) → List ℕ → ℕ
-char_in [] bs = 0
-char_in (p ∷ ps) bs = cond (pointwise ◌==◌ p.0.now bs) p.1 (char_in ps bs)
-
--- the texts of such a list of references, with their characters
+-- the texts of a list of references, with their characters
 abbrev pub texts_and_chars : List (Bor (List ℕ) × ℕ) → List (List ℕ × ℕ)
 texts_and_chars ps = map (λ p. (p.0.now, p.1)) ps
 

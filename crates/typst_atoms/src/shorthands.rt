@@ -1,24 +1,116 @@
 //! The characters that shorthands stand for.
-ghost use Rattle.std.specs.Prelude.{◌≡◌};
-ghost use Rattle.typst_atoms.specs.Shorthands.{char_for, char_in, markup_shorthands, math_shorthands, texts_and_chars};
+ghost use Rattle.std.specs.Prelude.{◌≡◌, [], ◌∷◌};
+ghost use Rattle.typst_atoms.specs.Shorthands.{char_for, markup_shorthands, math_shorthands, texts_and_chars};
 ghost use Rattle.typst_atoms.specs.Texts.{text_in};
 ghost use Rattle.typst_atoms.specs.View.{node_of};
 
 use crate::views::{MathShorthand, Shorthand};
 
-// The character that stands beside the text, or U+0000.
-fn char_in(list: &[(&str, char)], text: &str) -> char
-    ensures { result ≡ char_in list.now text.now }
+// The character that stands beside the text in `Shorthand::LIST`, or U+0000.
+//
+// A match tells by the length and a byte or two which row it can be, where a search of the list reads all rows before it.
+fn markup_char(text: &[u8]) -> char
+    ensures { result ≡ char_for markup_shorthands text.now }
 {
-    let mut rest = list;
-    while let [(written, stands_for), more @ ..] = rest {
-        // Most texts of a list differ in length, and a length is read faster than a text.
-        if written.len() == text.len() && *written == text {
-            return *stands_for;
-        }
-        rest = more;
+    match text {
+        [b'.', b'.', b'.'] => '…',
+        [b'~'] => '\u{00A0}',
+        [b'-'] => '\u{2212}',
+        [b'-', b'-'] => '\u{2013}',
+        [b'-', b'-', b'-'] => '\u{2014}',
+        [b'-', b'?'] => '\u{00AD}',
+        _ => '\0',
     }
-    '\0'
+}
+
+// The character that stands beside the text of this byte in `MathShorthand::LIST`, or U+0000.
+fn math_char_of_one(first: u8) -> char
+    ensures { result ≡ char_for math_shorthands (first ∷ []) }
+{
+    match first {
+        b'-' => '−',
+        b'*' => '∗',
+        b'~' => '∼',
+        _ => '\0',
+    }
+}
+
+// The same of two bytes.
+fn math_char_of_two(first: u8, second: u8) -> char
+    ensures { result ≡ char_for math_shorthands (first ∷ second ∷ []) }
+{
+    match (first, second) {
+        (b'!', b'=') => '≠',
+        (b':', b'=') => '≔',
+        (b'=', b':') => '≕',
+        (b'<', b'<') => '≪',
+        (b'>', b'>') => '≫',
+        (b'<', b'=') => '≤',
+        (b'>', b'=') => '≥',
+        (b'-', b'>') => '→',
+        (b'<', b'-') => '←',
+        (b'~', b'>') => '⇝',
+        (b'<', b'~') => '⇜',
+        (b'=', b'>') => '⇒',
+        (b'[', b'|') => '⟦',
+        (b'|', b']') => '⟧',
+        (b'|', b'|') => '‖',
+        _ => '\0',
+    }
+}
+
+// The same of three bytes.
+fn math_char_of_three(first: u8, second: u8, third: u8) -> char
+    ensures { result ≡ char_for math_shorthands (first ∷ second ∷ third ∷ []) }
+{
+    match (first, second, third) {
+        (b'.', b'.', b'.') => '…',
+        (b':', b':', b'=') => '⩴',
+        (b'<', b'<', b'<') => '⋘',
+        (b'>', b'>', b'>') => '⋙',
+        (b'-', b'-', b'>') => '⟶',
+        (b'|', b'-', b'>') => '↦',
+        (b'>', b'-', b'>') => '↣',
+        (b'-', b'>', b'>') => '↠',
+        (b'<', b'-', b'-') => '⟵',
+        (b'<', b'-', b'<') => '↢',
+        (b'<', b'<', b'-') => '↞',
+        (b'<', b'-', b'>') => '↔',
+        (b'~', b'~', b'>') => '⟿',
+        (b'<', b'~', b'~') => '⬳',
+        (b'|', b'=', b'>') => '⤇',
+        (b'=', b'=', b'>') => '⟹',
+        (b'<', b'=', b'=') => '⟸',
+        (b'<', b'=', b'>') => '⇔',
+        _ => '\0',
+    }
+}
+
+// The same of four bytes.
+fn math_char_of_four(first: u8, second: u8, third: u8, fourth: u8) -> char
+    ensures { result ≡ char_for math_shorthands (first ∷ second ∷ third ∷ fourth ∷ []) }
+{
+    match (first, second, third, fourth) {
+        (b'<', b'-', b'-', b'>') => '⟷',
+        (b'<', b'=', b'=', b'>') => '⟺',
+        _ => '\0',
+    }
+}
+
+// The character that stands beside the text in `MathShorthand::LIST`, or U+0000.
+#[tactic(auto, using(crate::proofs::Lengths::and_false))]
+fn math_char(text: &[u8]) -> char
+    ensures { result ≡ char_for math_shorthands text.now }
+{
+    match text {
+        [first] => math_char_of_one(*first),
+        [first, second] => math_char_of_two(*first, *second),
+        [first, second, third] => math_char_of_three(*first, *second, *third),
+        [first, second, third, fourth] => math_char_of_four(*first, *second, *third, *fourth),
+        // Apart from the longer texts, so that each of the two is proved by itself.
+        [] => '\0',
+        _ => '\0',
+    }
 }
 
 impl<'a> Shorthand<'a> {
@@ -43,7 +135,7 @@ impl<'a> Shorthand<'a> {
     pub fn get(self) -> char
         ensures { result ≡ char_for markup_shorthands (text_in (node_of self.entry)) }
     {
-        char_in(Self::LIST, self.leaf_text())
+        markup_char(self.leaf_text().as_bytes())
     }
 }
 
@@ -101,6 +193,6 @@ impl<'a> MathShorthand<'a> {
     pub fn get(self) -> char
         ensures { result ≡ char_for math_shorthands (text_in (node_of self.entry)) }
     {
-        char_in(Self::LIST, self.leaf_text())
+        math_char(self.leaf_text().as_bytes())
     }
 }
