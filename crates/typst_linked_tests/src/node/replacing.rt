@@ -214,7 +214,7 @@ fn answered(
 }
 
 /// Replaces children of the node at a path, once the conditions have been tested. A replacement at the tree itself is
-/// also done by `replace_children`, which does the same.
+/// also done by `replace_children`, and one below it by `try_replace_at`, which do the same.
 fn edit(
     alloc: Global,
     tree: &mut SyntaxNode,
@@ -234,13 +234,33 @@ fn edit(
         range.start..range.end,
         drawn_all(alloc, others)?,
     );
-    if path.is_empty() && same.edit_fits(&[], range.start..range.end) && same.is_numbered() {
-        let again = same.replace_children(alloc, range.start..range.end, others_again);
-        if again != answer || same != *tree {
-            return Err(DrawingError::Nodes);
-        }
+    // What isn't made at a leaf is told as an empty window.
+    let not_made = Ok(Renumbered {
+        window: 0..0,
+        tried: 0,
+    });
+    let answer_again = again(alloc, &mut same, path, range, others_again).unwrap_or(not_made);
+    if answer_again != answer || same != *tree {
+        return Err(DrawingError::Nodes);
     }
     answered(alloc, &answer, tree, &before)
+}
+
+/// The same replacement by another call.
+fn again(
+    alloc: Global,
+    tree: &mut SyntaxNode,
+    path: &[usize],
+    range: &Range<usize>,
+    others: Vec<SyntaxNode>,
+) -> Option<Result<Renumbered, ReplaceError>> {
+    if !tree.is_numbered() {
+        return None;
+    }
+    if path.is_empty() && tree.edit_fits(&[], range.start..range.end) {
+        return Some(tree.replace_children(alloc, range.start..range.end, others));
+    }
+    tree.try_replace_at(alloc, path, range.start..range.end, others)
 }
 
 /// The words for a tree's labels and sizes, and for whether it is numbered, and all of two levels for file 1.
@@ -332,21 +352,41 @@ fn a_replacement_is_numbered_for_the_trees_file(rt: HostRuntime) -> Result<(), F
     Ok(())
 }
 
+/// Whether trying a replacement by a text answers that it fits. Where not, the tree must stay as it is.
+fn is_tried(
+    alloc: Global,
+    tree: &SyntaxNode,
+    path: &[usize],
+    range: &Range<usize>,
+) -> Result<bool, DrawingError> {
+    let mut copy = tree.clone()?;
+    let others = drawn_all(alloc, "Text:z")?;
+    let answer = again(alloc, &mut copy, path, range, others);
+    if answer.is_none() && copy != *tree {
+        return Err(DrawingError::Nodes);
+    }
+    Ok(answer.is_some())
+}
+
+// A leaf takes any range, and there is nothing in it to replace.
 #[test]
 fn edits_fit_where_their_path_leads_and_their_range_ends(rt: HostRuntime) -> Result<(), Fail> {
     let tree = numbered(rt.alloc(), STRONG, 2..30)?;
-    let rows: [(&[usize], Range<usize>, bool); 6] = [
-        (&[0, 1], 0..1, true),
-        (&[0, 1], 0..2, false),
-        (&[0, 1], 1..0, false),
-        (&[5], 0..0, false),
-        (&[1], 7..3, true),
-        (&[1, 0], 0..0, false),
+    let rows: [(&[usize], Range<usize>, bool, bool); 6] = [
+        (&[0, 1], 0..1, true, true),
+        (&[0, 1], 0..2, false, false),
+        (&[0, 1], 1..0, false, false),
+        (&[5], 0..0, false, false),
+        (&[1], 7..3, true, false),
+        (&[1, 0], 0..0, false, false),
     ];
-    for (path, range, wanted) in &rows {
+    for (path, range, fits, is_made) in &rows {
         assert_eq!(rt;
-            tree.edit_fits(path, range.start..range.end),
-            *wanted,
+            (
+                tree.edit_fits(path, range.start..range.end),
+                is_tried(rt.alloc(), &tree, path, range)?
+            ),
+            (*fits, *is_made),
             "{path:?}"
         );
     }
