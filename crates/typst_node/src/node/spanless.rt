@@ -78,9 +78,14 @@ impl SyntaxNode {
     {
         match &self.node {
             // It has no warnings, so what equals it has none.
-            Node::Short(kind, text) => {
-                other.node.is_leaf_of(*kind, text.as_str()) && other.node.warnings().is_empty()
-            }
+            Node::Short(kind, text) => match &other.node {
+                Node::Short(other_kind, other_text) => {
+                    same_kind(*kind, *other_kind) && text.as_str() == other_text.as_str()
+                }
+                Node::Leaf(..) | Node::Inner(..) | Node::Error(_) => {
+                    other.node.is_leaf_of(*kind, text.as_str()) && other.node.warnings().is_empty()
+                }
+            },
             Node::Leaf(..) | Node::Inner(..) | Node::Error(_) => {
                 same_warnings(self.node.warnings(), other.node.warnings())
                     && self.node.spanless_eq(&other.node)
