@@ -12,15 +12,20 @@
 An edit has lines `file: src/x.rt`, `old: TEXT` and `new: TEXT`, each text one line. The old text stands once in the file, or
 once in the function that a line `in: Type::method` before it names (`in: function`, `in: Trait for Type::method`).
 
-A body is refused only by a failure of its own: a goal of that very function that `search` did not prove, or an error in its
-own proof files that isn't a name which the edit took away. What a function owes rests on the contracts of those that it
-calls, and not on their bodies, so edits of many functions stand in one check: that a function calls one that isn't proved
-says nothing of it, and takes nothing from its own failure. So the functions that no edit of a batch changes stand there with
-`unreachable!()` for a body and a proof that is refused at once. Further edits of one function stand in copies of it under other
-names, which have copies of its proof: then a right copy stands beside them, which may not fail. Where a copy may not mean the
-same, as of a trait's method or of one in a cycle, no batch has two edits of a function. Each batch has a control, a right body,
-which must be proved. What a batch doesn't decide is tried again, apart from all that the function may call, whose bodies are then
-as they are, and at last alone, with every body; what isn't decided then is told as not judged, which fails.
+A body is refused only by a failure of its own: a goal of that very function that `search` did not prove, or an error in its own
+proof files that isn't a name which the edit took away. What a function owes rests on the contracts of those that it calls, and
+not on their bodies, so edits of many functions stand in one check: that a function calls one that isn't proved says nothing of
+it, and takes nothing from its own failure. So the functions that no edit of a batch changes stand there with `unreachable!()`
+for a body and a proof that is refused at once. Of functions of one cycle of calls, which have one proof, each has those goals
+for its own that are named after it.
+
+Further edits of one function stand in copies of it under other names, which have copies of its proof: then a right copy stands
+beside them, which may not fail. A copy of a trait's method stands among the type's own, and owes the clauses alone that are
+written at the method, or what the impl block says that a step of an iterator gives: it too has a right one beside it. Where a
+copy may not mean the same, as of another method of a trait or of a function in a cycle, no batch has two edits of a function.
+Each batch has a control, a right body, which must be proved: that of a function with no edit, or of a copy of one. What a batch
+doesn't decide is tried again, apart from all that the function may call, whose bodies are then as they are, and at last alone,
+with every body; what isn't decided then is told as not judged, which fails.
 """
 import argparse
 import os
@@ -32,6 +37,7 @@ import sys
 import tempfile
 import threading
 import time
+from collections import Counter
 from concurrent.futures import ThreadPoolExecutor
 from pathlib import Path
 
@@ -49,6 +55,7 @@ OF_CLAUSE = re.compile(r"\breturns\b|loop-.*-(?:preserved|init)|invariant_of|-bi
 UNSEEN = re.compile(r"[=!<>]=|[?+*/<>-]|\bfor\b")  # what may call a method of a trait that the body doesn't name
 CALL = re.compile(r"\b[a-z]\w*(?:::<[^;]*?>)?\(")
 NOTE = re.compile(r"note: src/\S+?:\d+:\d+: .*?\(`([^`]+)`\)(.*gave up at one of its limits)?")  # a goal that is left
+GOES = re.compile(r"^pub \S+-clause-goes :.*?\n(?=\n|\Z)", re.M | re.S)  # an answer for what a copy of a trait's method doesn't owe
 # What an emptied function has for a proof: it is refused at once, so that the prover doesn't search for its goal.
 EMPTIED = """use {module}.Goals as goal
 
@@ -123,21 +130,27 @@ class Room:
                 module = path.replace("::", ".proofs.", 1).replace("::", ".")
                 (folder / "Answers.antt").write_text(EMPTIED.format(module=f"Rattle.{module}"))
 
-    def mark(self, function, paths):
-        """Adds to the proof of a function something that is refused."""
-        for folder in [*function.proof_folders(self.crate / "proofs")] or [self.folder(path) for path in paths]:
+    def mark(self, function, paths, recurs):
+        """Adds to the proof of a function, or to that of its cycle, something that is refused. Where the function calls itself, its
+        proof stands in a folder whose name begins with `+`: a file beside that stops a check, and one there too many does not."""
+        name, proofs = f"{'+' * recurs}{function.name}", self.crate / "proofs"
+        folders = [it for it in function.proof_folders(proofs) if it.name == name]
+        folders = folders or [self.folder(path).with_name(name) for path in paths]
+        for folder in proofs.glob(f"**/+{function.cycle}") if function.cycle else folders:
             if not (folder / "Proof.antt").exists():
                 folder.mkdir(parents=True, exist_ok=True)
                 with (folder / "Answers.antt").open("a") as file:
                     file.write(MARK)
 
     def prove_copies(self, copies):
-        """Gives copies of functions the proofs of these."""
+        """Gives copies of functions the proofs of these. That of a trait's method is a method of the type's own."""
         for made, original in copies.items():
             for folder in original.proof_folders(self.crate / "proofs"):
-                module = ".".join(folder.relative_to(self.crate).parent.parts)
-                for file in shutil.copytree(folder, folder.with_name(made.name)).glob("*.antt"):
-                    file.write_text(file.read_text().replace(f".{module}.{original.name}.", f".{module}.{made.name}."))
+                home = folder.parent.with_name(made.subject.replace("::", "+")) if original.trait else folder.parent
+                old, new = (".".join(it.relative_to(self.crate).parts) for it in (folder, home / made.name))
+                for file in shutil.copytree(folder, home / made.name).glob("*.antt"):
+                    text = GOES.sub("", file.read_text()) if original.trait else file.read_text()
+                    file.write_text(text.replace(f".{old}.", f".{new}."))
 
     def checked(self, hunks, copies, emptied, marked, only=()):
         """What the check says of each function, and the errors in the files below proofs/; nothing where the prover wasn't reached.
@@ -155,8 +168,8 @@ class Room:
         self.prove_copies(copies)
         for function, paths in emptied.items():
             self.prove_nothing(function, paths)
-        for function, paths in marked.items():
-            self.mark(function, paths)
+        for function, (paths, recurs) in marked.items():
+            self.mark(function, paths, recurs)
         hunks = [*hunks, *(Hunk(it.file, it.body, it.end - 1, " unreachable!() ") for it in emptied)]
         for file in {it.file for it in hunks}:
             text = (self.crate / file).read_text()
@@ -206,6 +219,24 @@ def is_part(it, path):
     return it == path or words[: len(parts)] == parts and len(words) > len(parts)
 
 
+def is_of(goal, path):
+    """Whether a goal or a declaration in a cycle's proof, as `Ends::add-returns`, is that of the member with this path."""
+    head = goal.partition("-")[0].split("::")
+    return path.split("::")[-len(head) :] == head
+
+
+def of_member(path, cycle, said, errors):
+    """What is said and the errors, without the goals and the declarations of the cycle's other members; nothing where what all of
+    them have in common is refused."""
+    if any(f"/{file}".endswith(f"/+{cycle}/Invariants.antt") for file, _ in errors):
+        return {}, []
+    line = said.get(path, "")
+    if GOAL in line:
+        left = [goal for goal, _ in NAMED.findall(line) if is_of(goal, path)]
+        said = said | {path: line.partition(GOAL)[0] + "; ".join(f"{GOAL}{goal}`" for goal in left)}
+    return said, [(file, text) for file, text in errors if f"/+{cycle}/" not in f"/{file}" or is_of(text.lstrip("`"), path)]
+
+
 def outcome(path, cycle, said, errors):
     """'goal' or 'proof file', as the function fails of its own; 'names' where its proof only misses a name; 'proved'; or None."""
     seen = []
@@ -233,13 +264,13 @@ class Judge:
         self.functions, self.types = functions(room.source), types(room.source)
         self.edits = edits_of(room.source, self.functions, bad, only)
         self.reached = reach(room.source, self.functions)
-        self.verdicts, self.spoiled, self.goals, self.known = {}, set(), {}, {}
+        self.verdicts, self.spoiled, self.goals, self.known, self.made = {}, set(), {}, {}, {}
 
     def clash(self, one, two, is_strict):
         """Whether two edits may not stand in one check."""
         if one.copied or two.copied:
             return False
-        cycles = {it.cycle for it in one.functions} & {it.cycle for it in two.functions} - {""}
+        cycles = is_strict and {it.cycle for it in one.functions} & {it.cycle for it in two.functions} - {""}
         lines = any(a.file == b.file and a.start <= b.end and b.start <= a.end for a in one.hunks for b in two.hunks)
         calls = is_strict and any(
             a in self.reached.get(b, ()) or b in self.reached.get(a, ()) for a in one.functions for b in two.functions
@@ -250,7 +281,9 @@ class Judge:
         """The edits in few batches in which none bears on another; at first a further one of a function stands in a copy of it."""
         made = []
         for edit in edits:
-            for batch in made:
+            # What a type derives has a path that is known only when the prover has spoken of it.
+            is_unknown = not is_strict and not all(it.name for it in edit.functions)
+            for batch in made[is_unknown:]:
                 against = [it for it in batch if self.clash(edit, it, is_strict)]
                 copy = None if is_strict or not against else self.copy(edit, against, batch)
                 if copy or not against:
@@ -261,20 +294,39 @@ class Judge:
         return made
 
     def copy(self, edit, against, batch):
-        """The edit in a copy of its function, if it can't stand in the batch only since another one changes that function."""
-        if any(it.functions != edit.functions for it in against):
+        """The edit in a copy of its function, if it can't stand in the batch only since others change that function, and nothing but
+        functions."""
+        within = [it for it in against if all(any(function.holds(h) for function in it.functions) for h in it.hunks)]
+        if len(within) < len(against) or not all(edit.functions <= it.functions for it in within):
             return None
         count = sum(it.original in edit.functions for it in batch)
         return in_copy(self.room.source, edit, f"{next(iter(edit.functions)).name}_copy{count}")
 
     def control(self, batch):
-        """A function that no edit of the batch changes, and that calls none that one changes, with a body that means the same."""
+        """A function that no edit of the batch changes, and that calls none that one changes, with a body that means the same; where
+        there is none, a right copy of one that is changed."""
         changed = set().union(*(it.functions for it in batch))
-        fits = [it for it in self.functions if it not in changed | self.spoiled and not self.reached.get(it, set()) & changed]
+        fits = [it for it in self.functions if it not in self.spoiled and not (self.reached.get(it, set()) - {it}) & changed]
         fits = [it for it in fits if it.name and not it.cycle and not it.name.isupper()]
         fits = [it for it in fits if "tests" not in it.modules]  # a check doesn't prove them
-        apart = [it for it in fits if not any(it.holds(h) for edit in batch for h in edit.hunks)]
-        return min(apart, key=lambda it: (self.hides_calls(it), bool(self.reached.get(it)), it.end - it.body), default=None)
+        apart = [it for it in fits if it not in changed and not any(it.holds(h) for edit in batch for h in edit.hunks)]
+        return min(apart, key=self.depth, default=None) or self.copy_of(sorted(set(fits) & changed, key=self.depth))
+
+    def copy_of(self, functions):
+        """A right copy of the first of these that can be copied and has no proof of its own, for a control."""
+        source = self.room.source
+        for it in functions:
+            if it.can_be_copied and not it.trait and not calls_itself(source, it) and not any(it.proof_folders(source / "proofs")):
+                made, hunk = copied(source, it, f"{it.name}_control")
+                self.reached[made] = self.reached.get(it, set())
+                if made not in self.spoiled:
+                    self.made[made] = hunk
+                    return made
+        return None
+
+    def depth(self, function):
+        """How far a function is from being a control that rests on nothing: the less the better."""
+        return self.hides_calls(function), bool(self.reached.get(function)), function.end - function.body
 
     def hides_calls(self, function):
         """How many signs of calls that the sources don't tell its body has: operators, and calls by which a trait's method may run."""
@@ -306,15 +358,13 @@ class Judge:
         return {it: self.ways_to(it) for it in self.functions if it.can_be_emptied and it not in asked | inner}
 
     def marked(self, batch, right, control, tries):
-        """The functions of the batch and the right copies that a mark can be put on, with the paths that they may have; none in
-        the last try, which may end in a proof."""
-        asked = set(right).union(*(it.functions for it in batch)) if tries < 2 else ()
-        fits = {it: self.ways_to(it) for it in asked if it.name and not it.cycle and not it.name.isupper()}
+        """The functions of the batch and the right copies that a mark can be put on, each with the paths that it may have and whether
+        it seems to call itself there; none in later tries, which may end in a proof."""
+        changed = {it: () if edit.copied else edit.hunks for edit in batch for it in edit.functions} | dict.fromkeys(right, ())
+        fits = {it: hunks for it, hunks in changed.items() if it.name and not tries}
         kept = {*self.ways_to(control)} if control else set()
-        # The files of a function that calls itself stand elsewhere, and are found where there are some. A file in a wrong place
-        # stops a check, whose batch is halved then.
-        elsewhere = {it for it in fits if calls_itself(self.room.source, it)}
-        return {it: [] if it in elsewhere else paths for it, paths in fits.items() if not kept & {*paths}}
+        ways = {it: (self.ways_to(it), calls_itself(self.room.source, it, hunks)) for it, hunks in fits.items()}
+        return {it: way for it, way in ways.items() if not kept & {*way[0]}}
 
     def ways_to(self, function):
         """The paths of this function, as the prover spoke of it or else as it may."""
@@ -329,13 +379,14 @@ class Judge:
     def checked(self, batch, right, control, tries):
         """What the check of a batch says, with the right copies beside it, and which functions are emptied there or copies."""
         hunks = [*(it for edit in batch for it in edit.hunks), *(hunk for _, hunk in right.values())]
-        hunks += [Hunk(control.file, control.body, control.body, " let _ = 0u8;")] if control else []
+        if control:
+            hunks.append(self.made.get(control) or Hunk(control.file, control.body, control.body, " let _ = 0u8;"))
         made_right = {made: original for original, (made, _) in right.items()}
         copies = made_right | {made: edit.original for edit in batch if edit.copied for made in edit.functions}
         emptied, marked = self.emptied(batch, control, tries), self.marked(batch, made_right, control, tries)
         only = self.named({control, *made_right}.union(*(it.functions for it in batch)))
         said, errors = self.room.checked(hunks, copies, emptied, marked, only)
-        if not said and only:  # a guessed path may be none
+        if not said and only and "has no function" in self.room.text:  # a guessed path may be none
             said, errors = self.room.checked(hunks, copies, emptied, marked)
         self.known |= said
         return said, errors, {*emptied, *copies}
@@ -351,8 +402,10 @@ class Judge:
         if said and control and not sound:
             self.spoiled.add(control)
         doubtful = {it for it, (made, _) in right.items() if self.fails(made, said, errors)}
-        ways = {edit: self.way(edit, said, errors) for edit in batch if sound and edit.original not in doubtful}
-        self.goals |= {it.name: self.fallen(it, said, errors) for it in ways if ways[it] in REFUSED}
+        cycles = Counter(cycle for edit in batch for cycle in {it.cycle for it in edit.functions} - {""})
+        shared = {cycle for cycle, count in cycles.items() if count > 1}
+        ways = {edit: self.way(edit, said, errors, shared) for edit in batch if sound and edit.original not in doubtful}
+        self.goals |= {it.name: self.fallen(it, said, errors, shared) for it in ways if ways[it] in REFUSED}
         if sound:
             self.unowned(batch, others, said, errors)
         decides = {it: REFUSED if it.copied else (*REFUSED, "proved") for it in batch}
@@ -364,10 +417,11 @@ class Judge:
         return open_ones, ways, sound
 
     def right_copies(self, batch):
-        """A right copy, and the hunk that places it, of each function that has a proof of its own and stands in copies: it may not
-        fail, lest the proofs of the others fail since they are copied."""
+        """A right copy, and the hunk that places it, of each function that stands in copies and has a proof of its own or is a trait's
+        method: it may not fail, lest the others fail since they are copied."""
         source = self.room.source
-        originals = {it.original for it in batch if it.copied and any(it.original.proof_folders(source / "proofs"))}
+        originals = {it.original for it in batch if it.copied}
+        originals = {it for it in originals if it.trait or any(it.proof_folders(source / "proofs"))}
         return {it: copied(source, it, f"{it.name}_copy") for it in originals}
 
     def fails(self, function, said, errors):
@@ -375,21 +429,27 @@ class Judge:
         path = function.path(self.room.crate.name, said)
         return not path or outcome(path, function.cycle, said, errors) in (*REFUSED, "names")
 
-    def way(self, edit, said, errors):
-        """How the functions that the edit changes came out, the strongest first."""
-        paths = {it: it.paths(self.room.crate.name, said) or [""] for it in edit.functions}
-        seen = {outcome(path, it.cycle, said, errors) for it, found in paths.items() for path in found}
+    def way(self, edit, said, errors, shared):
+        """How the functions that the edit changes came out, the strongest first. Of a cycle in which further edits of the batch
+        stand a function has those goals and declarations alone that are named after it."""
+        seen = set()
+        for it in edit.functions:
+            for path in it.paths(self.room.crate.name, said) or [""]:
+                own = of_member(path, it.cycle, said, errors) if it.cycle in shared else (said, errors)
+                seen.add(outcome(path, it.cycle, *own))
         return next((it for it in (*REFUSED, "names", None) if it in seen), "proved")
 
-    def fallen(self, edit, said, errors):
+    def fallen(self, edit, said, errors, shared):
         """The goals of the edit's functions that weren't proved, and the declarations of their proofs that were refused."""
-        paths = {path for it in edit.functions for path in it.paths(self.room.crate.name, said)}
-        lines = [line for it, line in said.items() if any(is_part(it, path) for path in paths)]
-        own = {"/".join(path.split("::")[1:]).replace("/+", "/") for path in paths}
-        cycles = [f"/+{it.cycle}/" for it in edit.functions if it.cycle]
-        for file, text in errors:
-            if file.rpartition("/")[0].replace("/+", "/") in own or any(cycle in f"/{file}" for cycle in cycles):
-                lines.append(f"error: {text}")
+        lines = []
+        for it in edit.functions:
+            for path in it.paths(self.room.crate.name, said):
+                own_said, own_errors = of_member(path, it.cycle, said, errors) if it.cycle in shared else (said, errors)
+                lines += [line for other, line in own_said.items() if is_part(other, path)]
+                own = "/".join(path.split("::")[1:]).replace("/+", "/")
+                for file, text in own_errors:
+                    if file.rpartition("/")[0].replace("/+", "/") == own or it.cycle and f"/+{it.cycle}/" in f"/{file}":
+                        lines.append(f"error: {text}")
         return sorted({goal or declaration for line in lines for goal, declaration in NAMED.findall(line)})
 
     def tell_conditions(self):

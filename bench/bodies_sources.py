@@ -1,6 +1,7 @@
 """What the judge of wrong bodies reads in a crate's sources: its functions, its edits, and a guess of who calls whom."""
 import re
 from dataclasses import dataclass, replace
+from functools import cache
 from pathlib import Path
 
 HIDDEN = re.compile(r"//[^\n]*|/\*.*?\*/|\"(?:\\.|[^\"\\])*\"|'(?:\\.[^']*|[^'\\\n])'", re.S)
@@ -49,8 +50,8 @@ class Function:
 
     @property
     def can_be_copied(self):
-        """Whether a copy of it under another name means the same: it is a function or a method of its own, and not of a trait's."""
-        return self.can_be_emptied and not self.trait and self.name != "drop"
+        """Whether a copy of it under another name may mean the same."""
+        return self.can_be_emptied and self.name != "drop"
 
     @property
     def can_be_emptied(self):
@@ -123,14 +124,44 @@ class Edit:
 
 
 def copied(crate, function, name, hunks=()):
-    """The function under another name, with these changes, and the hunk that puts it right behind the original."""
+    """The function under another name, with these changes, and the hunk that puts it right behind the original: that of a trait's
+    method behind the impl block, in one of the type's own."""
     text = (crate / function.file).read_text()
     start = function.start
     while not text[:start].endswith("\n") or re.search(r"[^\s{};]\n$", text[:start]):  # with its attributes
         start = text.rindex("\n", 0, start - 1) + 1
+    hunks = [*hunks, Hunk(function.file, function.body - 1, function.body - 1, owed(crate, function) or "")]
     copy = placed(text[start : function.end], [Hunk(it.file, it.start - start, it.end - start, it.new) for it in hunks])
     copy = copy.replace(f"fn {function.name}", f"fn {name}", 1)
-    return replace(function, name=name), Hunk(function.file, function.end, function.end, f"\n\n{copy}")
+    if not function.trait:
+        return replace(function, name=name), Hunk(function.file, function.end, function.end, f"\n\n{copy}")
+    block, end = block_of(text, function)
+    item = re.search(r"\btype Item = (.*?);", text[block.end() : end], re.S)
+    copy = copy.replace("Self::Item", item[1]) if item else copy
+    head = text[block.start() : block.start("trait")] + re.sub(r"^.*?\bfor\s+", "", text[block.start("trait") : block.end()], flags=re.S)
+    return replace(function, name=name, trait=""), Hunk(function.file, end, end, f"\n\n{head}\n{copy}\n}}")
+
+
+def block_of(text, function):
+    """The impl block of a method, and the offset of its end."""
+    block = [it for it in IMPL.finditer(blanked(text)) if it.start() < function.start][-1]
+    return block, closing(blanked(text), block.end() - 1)
+
+
+def owed(crate, function):
+    """The clauses that a copy of a function owes besides those that are written at it: of `next` and `next_back`, what the impl block
+    says that a step gives, and in the place of the trait's other clause, without which the goals would have other names, nothing.
+    None of another method of a trait with no clause, whose copy would owe nothing."""
+    text = (crate / function.file).read_text()
+    if not function.trait or re.search(r"\bensures\b", blanked(text)[function.start : function.body]):
+        return ""
+    block, end = block_of(text, function)
+    gives = re.search(rf"\bghost {function.name}_gives = (?={{)", text[block.end() : end])
+    if function.name not in ("next", "next_back") or not gives or re.search(r"\bghost (use|can_next)\b", text[block.end() : end]):
+        return None
+    start = block.end() + gives.end()
+    gives = text[start + 1 : closing(text, start) - 1].strip()
+    return f"\n        ensures steps {{ ({gives}) self.old result self.new }}\n        ensures goes {{ self.new ≡ self.new }}\n    "
 
 
 def in_copy(crate, edit, name):
@@ -138,12 +169,14 @@ def in_copy(crate, edit, name):
     function = next(iter(edit.functions))
     is_inside = all(it.file == function.file and function.start <= it.start and it.end < function.end for it in edit.hunks)
     has_measure = any(crate.joinpath("proofs").glob(f"**/+{function.name}"))  # it calls itself
-    if len(edit.functions) > 1 or not is_inside or not function.can_be_copied or has_measure:
+    if len(edit.functions) > 1 or not is_inside or not function.can_be_copied or has_measure or owed(crate, function) is None:
         return None
     made, hunk = copied(crate, function, name, edit.hunks)
-    return Edit(edit.name, (hunk,), frozenset({made}), edit, function)
+    is_of_trait = function.trait and re.search(r"\bSelf::[A-Z]", hunk.new)  # a type of the trait's
+    return None if is_of_trait else Edit(edit.name, (hunk,), frozenset({made}), edit, function)
 
 
+@cache
 def blanked(text):
     """The text without comments, strings and characters, each other letter where it was."""
     return HIDDEN.sub(lambda it: re.sub(r"[^\n]", " ", it[0]), text)
@@ -274,15 +307,43 @@ def hunks_of(crate, all_functions, changes):
     return tuple(it for group in made.values() for it in group)
 
 
+@cache
+def constants(crate):
+    """The crate's constants, but those of its traits' impl blocks, each with its value for a body: of a type's own with the type."""
+    found = []
+    for path in sorted((crate / "src").rglob("*.rt")):
+        text, file = blanked(path.read_text()), str(path.relative_to(crate))
+        impls = [(it.start(), closing(text, it.end() - 1), it) for it in IMPL.finditer(text)]
+        for it in CONST.finditer(text):
+            block = next((block for low, high, block in impls if low < it.start() < high), None)
+            if not block or not block["trait"] and not block["own"]:
+                subject = block["type"].split("::")[-1] if block else ""
+                found.append(Function(file, (), "", subject, it[1], it.start(), it.start(2), it.end(), ""))
+    return found
+
+
+def names(crate, one, constant):
+    """Whether the text of a function or a constant names this constant: one of a type's own stands behind the type or `Self`."""
+    owner = constant.subject
+    if owner and owner == one.subject.split("::")[-1]:
+        owner = f"(?:{owner}|Self)"
+    word = rf"\b{owner}(?:::<[^;]*?>)?::{constant.name}\b" if owner else rf"\b{constant.name}\b"
+    return bool(re.search(word, blanked((crate / one.file).read_text())[one.body : one.end]))
+
+
 def touched(crate, hunk, all_functions):
-    """The functions that hold the change; of one in a plain constant those that name the constant."""
+    """The functions that hold the change; of one in a plain constant those that name the constant, or another that names it."""
     inside = [it for it in all_functions if it.holds(hunk)]
-    constants = CONST.finditer(blanked((crate / hunk.file).read_text()))
-    constant = next((it for it in constants if it.start() <= hunk.start < it.end()), None)
-    if inside or not constant:
+    plain = constants(crate)
+    todo = [it for it in plain if it.file == hunk.file and it.start <= hunk.start < it.end]
+    if inside or not todo:
         return inside
-    word = re.compile(rf"\b{constant[1]}\b")
-    return [it for it in all_functions if word.search(blanked((crate / it.file).read_text()), it.body, it.end)]
+    changed = set()
+    while todo:
+        constant = todo.pop()
+        changed.add(constant)
+        todo += [it for it in plain if it not in changed and names(crate, it, constant)]
+    return [it for it in all_functions if any(names(crate, it, constant) for constant in changed)]
 
 
 def edits_of(crate, all_functions, bad, only=""):
@@ -305,15 +366,21 @@ def edits_of(crate, all_functions, bad, only=""):
     return found
 
 
-def calls_itself(crate, function):
-    """Whether the function's own body seems to call it again: as a method on itself, its parent, a child, or a field of its
-    own type, or by its path."""
-    text = blanked((crate / function.file).read_text())
+def calls_itself(crate, function, hunks=()):
+    """Whether the function's own body, with these changes, seems to call it again: by its name, where it has a proof as of one that
+    does; else as a method on itself, its parent, a child, or a field of its own type, or by its path. A clone of what is shared
+    calls none of what is in it."""
+    whole = (crate / function.file).read_text()
+    body = blanked(placed(whole[: function.end], [it for it in hunks if function.holds(it)])[function.body :])
+    does = any(it.name == f"+{function.name}" for it in function.proof_folders(crate / "proofs"))
+    if does or not function.subject:
+        return bool(re.search(rf"{'' if does else '(?<![.:])'}\b{function.name}(?:::<[^;]*?>)?\(", body))
     own = function.subject.split("::")[-1]
-    fields = re.findall(rf"^    (?:pub(?:\(\w+\))? )?(\w+): [^\n]*\b{own}\b", text, re.M) if own else []
-    owner = "|".join(["self", "Self", "parent", "child", own or "self", *fields])
-    head = rf"\b(?:{owner})(?:\.|::)" if function.subject else r"(?<![.:\w])"
-    return bool(re.search(rf"{head}{function.name}(?:::<[^;]*?>)?\(", text[function.body : function.end]))
+    fields = dict(re.findall(r"^    (?:pub(?:\(\w+\))? )?(\w+): ([^\n]*)", blanked(whole), re.M))
+    like_own = {it for it, kind in fields.items() if re.search(rf"\b{own}\b", kind) and not (function.name == "clone" and "Rc<" in kind)}
+    owner = "|".join(["self", "Self", "parent", "child", own, *like_own])
+    calls = re.finditer(rf"\b({owner})(?:\.|::){function.name}(?:::<[^;]*?>)?\(", body)
+    return any(it[1] in like_own or it[1] not in fields for it in calls)
 
 
 def reach(crate, all_functions):

@@ -6,7 +6,7 @@ from bodies import TOP, judged
 
 LIB = """#![tactic(auto)]
 
-ghost use Rattle.std.specs.Prelude.{◌≡◌, ◌↔◌, ◌%◌, IsTrue};
+ghost use Rattle.std.specs.Prelude.{◌≡◌, ◌↔◌, ◌%◌, IsTrue, Some};
 
 pub struct Dot;
 
@@ -27,6 +27,33 @@ impl OtherDot {
     {
         let other = 6;
         other
+    }
+}
+
+pub trait Counted {
+    fn count(&self) -> u8;
+}
+
+impl Counted for Dot {
+    fn count(&self) -> u8
+        ensures seven { result ≡ 7 }
+    {
+        let seven = 7;
+        seven
+    }
+}
+
+#[derive(Drop)]
+pub struct Fives;
+
+impl Iterator for Fives {
+    type Item = u8;
+
+    ghost next_gives = { λ _ given _. given ≡ Some 5 };
+
+    fn next(&mut self) -> Option<Self::Item> {
+        let five = 5;
+        Some(five)
     }
 }
 
@@ -108,6 +135,20 @@ pub fn is_odd(n: u8) -> bool
 {
     if n == 0 { false } else { is_even(n - 1) }
 }
+
+#[cycle(turns)]
+pub fn ping(n: u8) -> u8
+    ensures { result ≡ 1 }
+{
+    if n == 0 { 1 } else { pong(n - 1) }
+}
+
+#[cycle(turns)]
+pub fn pong(n: u8) -> u8
+    ensures { result ≡ 1 }
+{
+    if n == 0 { 1 } else { ping(n - 1) }
+}
 """
 
 ANSWER = """use Rattle.std.proofs.Common.{refl}
@@ -126,6 +167,22 @@ abbrev pub decreases-is_odd : goal.decreases-is_odd
 decreases-is_odd l = l.n
 """
 
+TURNS = """use Rattle.made_up.proofs.+turns.Given as goal
+
+abbrev pub decreases-ping : goal.decreases-ping
+decreases-ping l = l.n
+
+abbrev pub decreases-pong : goal.decreases-pong
+decreases-pong l = l.n
+"""
+
+TURN = """use Rattle.std.proofs.Common.{refl}
+use Rattle.made_up.proofs.+turns.Goals as goal
+
+pub pong-returns : goal.pong-returns
+pong-returns t c = refl
+"""
+
 MEASURE = """use Rattle.made_up.proofs.+down.Given as goal
 
 abbrev pub decreases-down : goal.decreases-down
@@ -139,6 +196,7 @@ FILES = {
     "proofs/kept/Answers.antt": ANSWER.replace("NAME", "kept"),
     "proofs/renamed/Answers.antt": ANSWER.replace("NAME", "renamed"),
     "proofs/+parity/Invariants.antt": MEASURES,
+    "proofs/+turns/Invariants.antt": TURNS,
     "proofs/+down/Invariants.antt": MEASURE,
 }
 
@@ -152,27 +210,39 @@ EDITS = {
     "a_right_body_of_a_like_name": ("", "let dot = 5;", "let dot = 2 + 3;", "not refused"),
     "a_wrong_body_of_a_like_name": ("", "let other = 6;", "let other = 5;", "goal"),
     "what_no_contract_forbids": ("", "let any = 7;", "let any = 8;", "not refused"),
-    "what_does_not_compile": ("", "let any = 7;", "let any = nothing;", "not judged"),
     "a_wrong_answer_by_a_proof_file": ("", "let nine = 9;", "let nine = 8;", "proof file"),
     "another_wrong_answer_by_a_proof_file": ("", "nine + 0", "nine - 1", "proof file"),
     "a_right_answer_by_a_proof_file": ("", "let ten = 10;", "let ten = 5 + 5;", "not refused"),
     "another_right_answer_by_a_proof_file": ("", "let ten = 10;", "let ten = 2 + 8;", "not refused"),
     "a_wrong_body_that_calls_itself": ("down", "{ 0 }", "{ 1 }", "goal"),
     "a_right_body_without_the_goal_of_a_proof": ("renamed", "8 + 0", "if is_high { 8 } else { 8 }", "not judged"),
+    "a_right_method_of_a_trait": ("Counted for Dot::count", "let seven = 7;", "let seven = 3 + 4;", "not refused"),
+    "a_wrong_method_of_a_trait": ("Counted for Dot::count", "let seven = 7;", "let seven = 6;", "goal"),
+    "a_right_step": ("Iterator for Fives::next", "let five = 5;", "let five = 2 + 3;", "not refused"),
+    "a_step_that_gives_another_item": ("Iterator for Fives::next", "let five = 5;", "let five = 6;", "goal"),
+    "a_step_that_gives_none": ("Iterator for Fives::next", "Some(five)", "None", "goal"),
     "a_wrong_member_of_a_cycle": ("is_even", "{ true }", "{ false }", "goal"),
     "a_right_member_of_a_cycle": ("is_odd", "{ false }", "{ n != 0 }", "not refused"),
+    "a_wrong_member_beside_another": ("ping", "{ 1 }", "{ 2 }", "goal"),
+    "another_wrong_member": ("pong", "{ 1 }", "{ 3 }", "goal"),
     "two_of_like_names_told_apart": ("OtherDot::size", "let other = 6;", "let other = 5 + 2;", "goal"),
 }
 
+# Of two bodies one stops the check of both.
+STOPPING = {
+    "what_compiles": ("", "let it = 3;", "let it = 4;", "goal"),
+    "what_does_not_compile": ("", "let any = 7;", "let any = nothing;", "not judged"),
+}
 
-def written(top):
-    """The made-up repository below this folder."""
+
+def written(top, edits):
+    """The made-up repository below this folder, with these edits."""
     crate = top / "crates" / "made_up"
     for name, text in FILES.items():
         (crate / name).parent.mkdir(parents=True, exist_ok=True)
         (crate / name).write_text(text)
     (crate / "wrong-bodies").mkdir()
-    for name, (function, old, new, _) in EDITS.items():
+    for name, (function, old, new, _) in edits.items():
         inside = f"in: {function}\n" * bool(function)
         (crate / "wrong-bodies" / f"{name}.edit").write_text(f"file: src/lib.rt\n{inside}old: {old}\nnew: {new}\n")
     (top / "crates.txt").write_text("made_up:\n")
@@ -181,11 +251,14 @@ def written(top):
 
 def tested(given):
     """Judges the made-up crate, and returns whether each verdict is the known one."""
-    with tempfile.TemporaryDirectory(prefix="made-up-") as place:
-        written(Path(place))
-        verdicts, bad, checks = judged(Path(place), "made_up", given, lambda text: print(text, flush=True))
-    known = {name: verdict for name, (_, _, _, verdict) in EDITS.items()}
-    wrong = [f"{it}: {verdicts.get(it)}, and not {known.get(it)}" for it in known | verdicts if verdicts.get(it) != known.get(it)]
-    wrong += [f"told against the crate: {it}" for it in bad if "NOT REFUSED" not in it and "NOT JUDGED" not in it]
-    print("\n".join([*wrong, f"the judge: {len(wrong)} wrong of {len(known)} known verdicts, {checks} checks"]))
+    count, all_checks, wrong = 0, 0, []
+    for edits in (EDITS, STOPPING):
+        with tempfile.TemporaryDirectory(prefix="made-up-") as place:
+            written(Path(place), edits)
+            verdicts, bad, checks = judged(Path(place), "made_up", given, lambda text: print(text, flush=True))
+        known = {name: verdict for name, (_, _, _, verdict) in edits.items()}
+        wrong += [f"{it}: {verdicts.get(it)}, and not {known.get(it)}" for it in known | verdicts if verdicts.get(it) != known.get(it)]
+        wrong += [f"told against the crate: {it}" for it in bad if "NOT REFUSED" not in it and "NOT JUDGED" not in it]
+        count, all_checks = count + len(known), all_checks + checks
+    print("\n".join([*wrong, f"the judge: {len(wrong)} wrong of {count} known verdicts, {all_checks} checks"]))
     return not wrong
