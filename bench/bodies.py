@@ -280,10 +280,10 @@ class Judge:
     def batches(self, edits, is_strict):
         """The edits in few batches in which none bears on another; at first a further one of a function stands in a copy of it."""
         made = []
-        for edit in edits:
-            # What a type derives has a path that is known only when the prover has spoken of it.
-            is_unknown = not is_strict and not all(it.name for it in edit.functions)
-            for batch in made[is_unknown:]:
+        # What a type derives has a path that is known only when the prover has spoken of it: it waits for a later batch.
+        known = [it for it in edits if is_strict or all(function.name for function in it.functions)]
+        for edit in [*known, *(it for it in edits if it not in known)]:
+            for batch in made if edit in known else made[1:]:
                 against = [it for it in batch if self.clash(edit, it, is_strict)]
                 copy = None if is_strict or not against else self.copy(edit, against, batch)
                 if copy or not against:
