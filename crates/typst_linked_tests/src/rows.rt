@@ -1,9 +1,19 @@
-// Assertions of rows.
+// Assertions of rows. A message that is made costs the proof of a test some seconds, so it is made here alone.
 use std::process::Abort;
+
+/// Asserts that a row holds, and says what it shows.
+pub(crate) fn assert_row(rt: &impl Abort, shows: &str, holds: bool) {
+    assert!(rt; holds, "{shows}");
+}
 
 /// Asserts that each row holds: what it shows, and whether it does.
 pub(crate) fn assert_all(rt: &impl Abort, rows: &[(&str, bool)]) {
     for (shows, holds) in rows {
-        assert!(rt; *holds, "{shows}");
+        assert_row(rt, shows, *holds);
     }
+}
+
+/// Asserts that a row's text is the wanted one, and says what it shows.
+pub(crate) fn assert_text(rt: &impl Abort, shows: &str, text: &str, wanted: &str) {
+    assert_eq!(rt; text, wanted, "{shows}");
 }

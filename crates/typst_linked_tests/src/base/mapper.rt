@@ -11,6 +11,17 @@ fn map(mapper: &RangeMapper, range: Range<usize>) -> Option<Range<usize>> {
     }
 }
 
+/// Whether each range maps to the original one beside it.
+fn maps(mapper: &RangeMapper, rows: &[(Range<usize>, Range<usize>)]) -> bool {
+    for (range, original) in rows {
+        match map(mapper, range.start..range.end) {
+            Some(mapped) if mapped == *original => {}
+            _ => return false,
+        }
+    }
+    true
+}
+
 /// The original part, where the part lies in the text.
 fn map_part(mapper: &RangeMapper, offset: usize, part: SubRange) -> Option<Range<usize>> {
     if !part.fits_at(offset) {
@@ -37,15 +48,11 @@ fn ranges_map_across_gaps(rt: HostRuntime) {
         (6..6, 9..9),
         (12..12, 18..18),
     ];
-    for (range, original) in rows {
-        assert!(rt; map(&two, range) == Some(original));
-    }
+    assert!(rt; maps(&two, &rows));
     let other = RangeMapper::new(rt.alloc(), &[2..5, 8..10]).expect(&rt, "a mapper");
     assert_eq!(rt; other.total_len(), 5);
     let rows = [(2..4, 4..9), (3..3, 5..5), (0..0, 2..2)];
-    for (range, original) in rows {
-        assert!(rt; map(&other, range) == Some(original));
-    }
+    assert!(rt; maps(&other, &rows));
     let part = SubRange::new(0, 3).expect(&rt, "a part");
     assert!(rt; map_part(&other, 1, part) == Some(0..6));
 }
@@ -55,9 +62,7 @@ fn few_and_empty_segments_map(rt: HostRuntime) {
     let none = RangeMapper::new(rt.alloc(), &[]).expect(&rt, "a mapper");
     assert!(rt; map(&none, 0..0) == Some(0..0));
     let one = RangeMapper::new(rt.alloc(), &[10..11]).expect(&rt, "a mapper");
-    for (range, original) in [(0..0, 10..10), (0..1, 10..11), (1..1, 11..11)] {
-        assert!(rt; map(&one, range) == Some(original));
-    }
+    assert!(rt; maps(&one, &[(0..0, 10..10), (0..1, 10..11), (1..1, 11..11)]));
     let apart = RangeMapper::new(rt.alloc(), &[10..11, 21..22]).expect(&rt, "a mapper");
     let padded = RangeMapper::new(
         rt.alloc(),
@@ -72,12 +77,7 @@ fn few_and_empty_segments_map(rt: HostRuntime) {
         (1..2, 21..22),
         (2..2, 22..22),
     ];
-    for (range, original) in rows {
-        let again = range.start..range.end;
-        let same = original.start..original.end;
-        assert!(rt; map(&apart, range) == Some(original));
-        assert!(rt; map(&padded, again) == Some(same));
-    }
+    assert!(rt; maps(&apart, &rows) && maps(&padded, &rows));
 }
 
 #[test]
@@ -113,16 +113,12 @@ fn the_first_invalid_segment_is_told(rt: HostRuntime) {
         ([0..5, 5..7, 9..8], (9, 8)),
     ];
     for (segments, (start, end)) in rows {
-        match RangeMapper::new(rt.alloc(), &segments) {
-            Err(error) => {
-                assert!(rt; error == MapperError::InvalidSegment { start, end });
-            }
-            Ok(_) => panic!(rt; "an invalid segment was accepted"),
-        }
+        let error = RangeMapper::new(rt.alloc(), &segments).err();
+        assert!(rt; error == Some(MapperError::InvalidSegment { start, end }));
     }
-    let Err(error) = RangeMapper::new(rt.alloc(), &[0..5, 2..7]) else {
-        panic!(rt; "an invalid segment was accepted");
-    };
+    let error = RangeMapper::new(rt.alloc(), &[0..5, 2..7])
+        .err()
+        .expect(&rt, "an error");
     let shown = format!(in rt.alloc(); "{error}").expect(&rt, "memory");
     assert_eq!(rt; shown.as_str(), "invalid mapper segment: (2, 7)");
     let shown = format!(in rt.alloc(); "{}", MapperError::Memory).expect(&rt, "memory");

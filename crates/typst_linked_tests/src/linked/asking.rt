@@ -1,4 +1,5 @@
 // What a linked node is asked, and the words for its answers.
+use crate::rows::assert_text;
 use std::alloc::{AllocError, Global};
 use std::process::Abort;
 use std::test::Fail;
@@ -136,7 +137,7 @@ pub(crate) fn answer(
 pub(crate) fn assert_rows(rt: &impl Abort, alloc: Global, rows: &[Row]) -> Result<(), Fail> {
     for (shows, drawing, path, ask, wanted) in rows {
         let said = answer(alloc, drawing, path, ask)?;
-        assert_eq!(rt; said.as_str(), *wanted, "{shows}");
+        assert_text(rt, shows, &said, wanted);
     }
     Ok(())
 }

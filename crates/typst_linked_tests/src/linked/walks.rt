@@ -3,7 +3,7 @@ use crate::linked::asking::{Ask, Row, assert_rows, at, place};
 use std::alloc::{AllocError, Global};
 use std::test::Fail;
 use typst_drawn::{DrawingError, drawn};
-use typst_linked::LinkedNode;
+use typst_linked::{LinkedChildren, LinkedNode, LinkedPreorder};
 
 const SPACED: &str = "Markup[ Text:a Space:~ Text:b ]";
 
@@ -416,12 +416,17 @@ fn hinted(alloc: Global, drawing: &str) -> Result<String, DrawingError> {
     let mut nodes = LinkedNode::new(&tree).preorder(alloc)?;
     let mut said = String::new(alloc);
     for _ in 0..3 {
-        let hint = nodes.size_hint();
-        let again = nodes.clone()?.size_hint();
-        said.push_str(format!(in alloc; "{hint:?} {again:?}; ")?.as_str())?;
+        push_hints(alloc, &nodes, &mut said)?;
         let _next = nodes.next().transpose()?;
     }
     Ok(said)
+}
+
+/// Adds what a walk hints, and what a copy of it does.
+fn push_hints(alloc: Global, nodes: &LinkedPreorder, said: &mut String) -> Result<(), AllocError> {
+    let hint = nodes.size_hint();
+    let again = nodes.clone()?.size_hint();
+    said.push_str(format!(in alloc; "{hint:?} {again:?}; ")?.as_str())
 }
 
 #[test]
@@ -440,9 +445,17 @@ fn shown_ahead(alloc: Global, drawing: &str) -> Result<String, DrawingError> {
     let root = LinkedNode::new(&tree);
     let mut children = root.clone()?.children(alloc)?;
     let mut nodes = root.preorder(alloc)?;
+    Ok(shown_behind_first(alloc, &mut children, &mut nodes)?)
+}
+
+fn shown_behind_first(
+    alloc: Global,
+    children: &mut LinkedChildren,
+    nodes: &mut LinkedPreorder,
+) -> Result<String, AllocError> {
     let _child = children.next().transpose()?;
     let _node = nodes.next().transpose()?;
-    Ok(format!(in alloc; "{children:?} {nodes:?}")?)
+    format!(in alloc; "{children:?} {nodes:?}")
 }
 
 #[test]
@@ -461,16 +474,32 @@ fn taken(alloc: Global, drawing: &str, ends: &str) -> Result<String, DrawingErro
     let mut children = LinkedNode::new(&tree).children(alloc)?;
     let mut said = String::new(alloc);
     for end in ends.chars() {
-        let child = if end == 'f' {
-            children.next()
-        } else {
-            children.next_back()
-        };
-        push_place(alloc, child.transpose()?.as_ref(), &mut said)?;
+        let child = next_of(&mut children, end)?;
+        push_place(alloc, child.as_ref(), &mut said)?;
     }
-    let left = children.clone()?.len();
-    said.push_str(format!(in alloc; "{left} left")?.as_str())?;
+    push_left(alloc, &children, &mut said)?;
     Ok(said)
+}
+
+fn next_of<'a>(
+    children: &mut LinkedChildren<'a>,
+    end: char,
+) -> Result<Option<LinkedNode<'a>>, AllocError> {
+    if end == 'f' {
+        children.next().transpose()
+    } else {
+        children.next_back().transpose()
+    }
+}
+
+/// Adds how many children are left in a copy.
+fn push_left(
+    alloc: Global,
+    children: &LinkedChildren,
+    said: &mut String,
+) -> Result<(), AllocError> {
+    let left = children.clone()?.len();
+    said.push_str(format!(in alloc; "{left} left")?.as_str())
 }
 
 #[test]

@@ -1,3 +1,4 @@
+use crate::rows::assert_text;
 use std::alloc::Global;
 use std::test::Fail;
 use typst_base::SyntaxKind;
@@ -108,7 +109,7 @@ fn converting(alloc: Global, drawing: &str, all: &[To]) -> Result<String, Drawin
 fn nodes_are_converted(rt: HostRuntime) -> Result<(), Fail> {
     for (shows, drawing, all, wanted) in &CONVERSIONS {
         let said = converting(rt.alloc(), drawing, all)?;
-        assert_eq!(rt; said.as_str(), *wanted, "{shows}");
+        assert_text(&rt, shows, &said, wanted);
     }
     Ok(())
 }

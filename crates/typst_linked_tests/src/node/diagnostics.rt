@@ -1,4 +1,4 @@
-use crate::rows::assert_all;
+use crate::rows::{assert_all, assert_text};
 use std::alloc::{AllocError, Global};
 use std::test::Fail;
 use typst_base::{DiagSpan, DiagSpanKind};
@@ -103,9 +103,9 @@ fn errors_and_warnings_are_listed(rt: HostRuntime) -> Result<(), Fail> {
     let alloc = rt.alloc();
     for (shows, drawing, before, after) in &LISTED {
         let said = listed(alloc, &drawn(alloc, drawing)?)?;
-        assert_eq!(rt; said.as_str().trim_end(), *before, "{shows}");
+        assert_text(&rt, shows, said.as_str().trim_end(), before);
         let said = listed(alloc, &numbered(alloc, drawing, 4..16)?)?;
-        assert_eq!(rt; said.as_str().trim_end(), *after, "{shows}");
+        assert_text(&rt, shows, said.as_str().trim_end(), after);
     }
     Ok(())
 }
@@ -118,13 +118,18 @@ fn a_warning_about_a_part_has_its_nodes_number(rt: HostRuntime) -> Result<(), Fa
     Ok(())
 }
 
+fn copies(alloc: Global, list: &[SyntaxDiagnostic]) -> Result<Vec<SyntaxDiagnostic>, AllocError> {
+    let mut copies = Vec::new(alloc);
+    for one in list {
+        copies.push(one.clone()?)?;
+    }
+    Ok(copies)
+}
+
 /// Whether the tree's errors are equal to their clones, and what these are, in words.
 fn cloned(alloc: Global, tree: &SyntaxNode) -> Result<String, AllocError> {
     let (errors, _warnings) = tree.errors_and_warnings(alloc)?;
-    let mut copies = Vec::new(alloc);
-    for error in &errors {
-        copies.push(error.clone()?)?;
-    }
+    let copies = copies(alloc, &errors)?;
     let mut said = String::new(alloc);
     push_listed(alloc, &copies, &mut said)?;
     said.push_str(if copies == errors { "equal" } else { "unequal" })?;

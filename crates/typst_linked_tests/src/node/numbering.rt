@@ -1,4 +1,4 @@
-use crate::rows::assert_all;
+use crate::rows::{assert_all, assert_text};
 use std::alloc::Global;
 use std::test::Fail;
 use typst_base::FileId;
@@ -111,7 +111,7 @@ fn numbering(alloc: Global, drawing: &str, ranges: &[(u64, u64)]) -> Result<Stri
 fn numbers_are_given_in_preorder(rt: HostRuntime) -> Result<(), Fail> {
     for (shows, drawing, ranges, wanted) in &NUMBERINGS {
         let said = numbering(rt.alloc(), drawing, ranges)?;
-        assert_eq!(rt; said.as_str(), *wanted, "{shows}");
+        assert_text(&rt, shows, &said, wanted);
     }
     Ok(())
 }

@@ -1,5 +1,5 @@
 // What is read of a node.
-use crate::rows::assert_all;
+use crate::rows::{assert_all, assert_text};
 use std::alloc::Global;
 use std::test::Fail;
 use typst_base::SyntaxKind;
@@ -98,7 +98,7 @@ fn read(alloc: Global, drawing: &str) -> Result<String, DrawingError> {
 fn nodes_are_read(rt: HostRuntime) -> Result<(), Fail> {
     for (shows, drawing, wanted) in &READ {
         let said = read(rt.alloc(), drawing)?;
-        assert_eq!(rt; said.as_str(), *wanted, "{shows}");
+        assert_text(&rt, shows, &said, wanted);
     }
     Ok(())
 }

@@ -1,7 +1,8 @@
 // Replacements, and the numbers after them.
 use crate::node::numbering::is_of;
 use crate::node::reading::diagnosed;
-use std::alloc::Global;
+use crate::rows::{assert_all, assert_text};
+use std::alloc::{AllocError, Global};
 use std::ops::Range;
 use std::test::Fail;
 use typst_base::FileId;
@@ -226,28 +227,37 @@ fn edit(
         return Err(DrawingError::Numbers);
     }
     let before = tree.clone()?;
-    let mut same = tree.clone()?;
-    let others_again = drawn_all(alloc, others)?;
-    let answer = tree.replace_at(
-        alloc,
-        path,
-        range.start..range.end,
-        drawn_all(alloc, others)?,
-    );
-    // What isn't made at a leaf is told as an empty window.
-    let not_made = Ok(Renumbered {
-        window: 0..0,
-        tried: 0,
-    });
-    let answer_again = again(alloc, &mut same, path, range, others_again).unwrap_or(not_made);
-    if answer_again != answer || same != *tree {
+    let same = tree.clone()?;
+    let again = drawn_all(alloc, others)?;
+    let replacement = drawn_all(alloc, others)?;
+    let answer = tree.replace_at(alloc, path, range.start..range.end, replacement);
+    if !is_same(alloc, same, path, range, again, &answer, tree) {
         return Err(DrawingError::Nodes);
     }
     answered(alloc, &answer, tree, &before)
 }
 
-/// The same replacement by another call.
-fn again(
+/// Whether the same replacement by another call gives this answer, and makes this tree of it.
+fn is_same(
+    alloc: Global,
+    mut tree: SyntaxNode,
+    path: &[usize],
+    range: &Range<usize>,
+    others: Vec<SyntaxNode>,
+    answer: &Result<Renumbered, ReplaceError>,
+    after: &SyntaxNode,
+) -> bool {
+    // What isn't made at a leaf is told as an empty window.
+    let not_made = Ok(Renumbered {
+        window: 0..0,
+        tried: 0,
+    });
+    let again = made(alloc, &mut tree, path, range, others).unwrap_or(not_made);
+    again == *answer && tree == *after
+}
+
+/// The replacement at the tree itself by `replace_children`, and one below it by `try_replace_at`.
+fn made(
     alloc: Global,
     tree: &mut SyntaxNode,
     path: &[usize],
@@ -279,13 +289,17 @@ fn edited(alloc: Global, row: &Row) -> Result<String, DrawingError> {
     Ok(format!(in alloc; "{answer} {told}")?)
 }
 
+/// The words that are wanted of it.
+fn wanted(alloc: Global, row: &Row) -> Result<String, AllocError> {
+    format!(in alloc; "{} {} {} true", row.answer, row.labels, row.sizes)
+}
+
 #[test]
 fn replacements_are_numbered_within_windows(rt: HostRuntime) -> Result<(), Fail> {
     let alloc = rt.alloc();
     for row in &EDITS {
         let said = edited(alloc, row)?;
-        let wanted = format!(in alloc; "{} {} {} true", row.answer, row.labels, row.sizes)?;
-        assert_eq!(rt; said.as_str(), wanted.as_str(), "{}", row.shows);
+        assert_text(&rt, row.shows, &said, &wanted(alloc, row)?);
     }
     Ok(())
 }
@@ -316,7 +330,7 @@ fn a_detached_tree_takes_no_replacement(rt: HostRuntime) -> Result<(), Fail> {
         ("Text:a", 3..1, "window 0..0 tried 0 <a>"),
     ] {
         let said = edit_detached(rt.alloc(), drawing, range, "Text:z")?;
-        assert_eq!(rt; said.as_str(), wanted, "{drawing}");
+        assert_text(&rt, drawing, &said, wanted);
     }
     Ok(())
 }
@@ -352,8 +366,23 @@ fn a_replacement_is_numbered_for_the_trees_file(rt: HostRuntime) -> Result<(), F
     Ok(())
 }
 
+#[test]
+fn edits_fit_where_their_path_leads_and_their_range_ends(rt: HostRuntime) -> Result<(), Fail> {
+    let tree = numbered(rt.alloc(), STRONG, 2..30)?;
+    let rows = [
+        ("the only child", tree.edit_fits(&[0, 1], 0..1)),
+        ("one more", !tree.edit_fits(&[0, 1], 0..2)),
+        ("a reversed range", !tree.edit_fits(&[0, 1], 1..0)),
+        ("no node", !tree.edit_fits(&[5], 0..0)),
+        ("a leaf, whatever the range", tree.edit_fits(&[1], 7..3)),
+        ("below a leaf", !tree.edit_fits(&[1, 0], 0..0)),
+    ];
+    assert_all(&rt, &rows);
+    Ok(())
+}
+
 /// Whether trying a replacement by a text answers that it fits. Where not, the tree must stay as it is.
-fn is_tried(
+fn is_made(
     alloc: Global,
     tree: &SyntaxNode,
     path: &[usize],
@@ -361,34 +390,29 @@ fn is_tried(
 ) -> Result<bool, DrawingError> {
     let mut copy = tree.clone()?;
     let others = drawn_all(alloc, "Text:z")?;
-    let answer = again(alloc, &mut copy, path, range, others);
+    let answer = made(alloc, &mut copy, path, range, others);
     if answer.is_none() && copy != *tree {
         return Err(DrawingError::Nodes);
     }
     Ok(answer.is_some())
 }
 
-// A leaf takes any range, and there is nothing in it to replace.
 #[test]
-fn edits_fit_where_their_path_leads_and_their_range_ends(rt: HostRuntime) -> Result<(), Fail> {
+fn replacements_are_tried_where_their_path_leads_and_their_range_ends(
+    rt: HostRuntime,
+) -> Result<(), Fail> {
     let tree = numbered(rt.alloc(), STRONG, 2..30)?;
-    let rows: [(&[usize], Range<usize>, bool, bool); 6] = [
-        (&[0, 1], 0..1, true, true),
-        (&[0, 1], 0..2, false, false),
-        (&[0, 1], 1..0, false, false),
-        (&[5], 0..0, false, false),
-        (&[1], 7..3, true, false),
-        (&[1, 0], 0..0, false, false),
+    let rows: [(&str, &[usize], Range<usize>, bool); 6] = [
+        ("the only child", &[0, 1], 0..1, true),
+        ("one more", &[0, 1], 0..2, false),
+        ("a reversed range", &[0, 1], 1..0, false),
+        ("no node", &[5], 0..0, false),
+        ("a leaf, whatever the range", &[1], 7..3, false),
+        ("below a leaf", &[1, 0], 0..0, false),
     ];
-    for (path, range, fits, is_made) in &rows {
-        assert_eq!(rt;
-            (
-                tree.edit_fits(path, range.start..range.end),
-                is_tried(rt.alloc(), &tree, path, range)?
-            ),
-            (*fits, *is_made),
-            "{path:?}"
-        );
+    for (shows, path, range, wanted) in &rows {
+        let is_made = is_made(rt.alloc(), &tree, path, range)?;
+        assert_eq!(rt; is_made, *wanted, "{shows}");
     }
     Ok(())
 }
@@ -412,7 +436,7 @@ fn a_replaced_error_leaves_the_warnings_above_it(rt: HostRuntime) -> Result<(), 
     ];
     for (drawing, wanted) in rows {
         let said = diagnosed_around(rt.alloc(), drawing)?;
-        assert_eq!(rt; said.as_str(), wanted, "{drawing}");
+        assert_text(&rt, drawing, &said, wanted);
     }
     Ok(())
 }

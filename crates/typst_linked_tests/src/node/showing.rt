@@ -1,6 +1,8 @@
 // Trees in one line, which also shows that drawn trees, on which the other tests rest, are what their drawings say.
+use crate::rows::assert_text;
+use std::alloc::{AllocError, Global};
 use std::test::Fail;
-use typst_drawn::{DrawingError, drawn};
+use typst_drawn::drawn;
 
 /// What is shown, a drawing, and the tree's `Debug` text.
 type Row = (&'static str, &'static str, &'static str);
@@ -79,31 +81,39 @@ fn trees_are_shown_in_one_line(rt: HostRuntime) -> Result<(), Fail> {
     for (shows, drawing, wanted) in &SHOWN {
         let tree = drawn(alloc, drawing)?;
         let shown = format!(in alloc; "{tree:?}")?;
-        assert_eq!(rt; shown.as_str(), *wanted, "{shows}");
+        assert_text(&rt, shows, &shown, wanted);
     }
     Ok(())
 }
 
+/// Why a drawing is refused, or the tree that it shows.
+fn refused(alloc: Global, drawing: &str) -> Result<String, AllocError> {
+    match drawn(alloc, drawing) {
+        Ok(tree) => format!(in alloc; "{tree:?}"),
+        Err(error) => format!(in alloc; "{error:?}"),
+    }
+}
+
 #[test]
-fn drawings_of_no_tree_are_refused(rt: HostRuntime) {
+fn drawings_of_no_tree_are_refused(rt: HostRuntime) -> Result<(), Fail> {
     let rows = [
-        ("Foo:a", DrawingError::Kind),
-        ("Error:a", DrawingError::Kind),
-        ("Error[ ]", DrawingError::Kind),
-        ("Markup[", DrawingError::Bracket),
-        ("Text:a ]", DrawingError::Bracket),
-        ("ab", DrawingError::Word),
-        ("^w Text:a", DrawingError::Misplaced),
-        ("Text:a +h", DrawingError::Misplaced),
-        ("Text:ab ^0..3@m", DrawingError::Misplaced),
-        ("Text:ab ^1..1@m", DrawingError::Misplaced),
-        ("!m:ab +2..3@h", DrawingError::Misplaced),
-        ("Text:ab ^x..1@m", DrawingError::Word),
-        ("Text:a Text:b", DrawingError::Nodes),
-        ("", DrawingError::Nodes),
+        ("Foo:a", "Kind"),
+        ("Error:a", "Kind"),
+        ("Error[ ]", "Kind"),
+        ("Markup[", "Bracket"),
+        ("Text:a ]", "Bracket"),
+        ("ab", "Word"),
+        ("^w Text:a", "Misplaced"),
+        ("Text:a +h", "Misplaced"),
+        ("Text:ab ^0..3@m", "Misplaced"),
+        ("Text:ab ^1..1@m", "Misplaced"),
+        ("!m:ab +2..3@h", "Misplaced"),
+        ("Text:ab ^x..1@m", "Word"),
+        ("Text:a Text:b", "Nodes"),
+        ("", "Nodes"),
     ];
     for (drawing, wanted) in rows {
-        let why = drawn(rt.alloc(), drawing).err();
-        assert_eq!(rt; why, Some(wanted), "{drawing}");
+        assert_text(&rt, drawing, &refused(rt.alloc(), drawing)?, wanted);
     }
+    Ok(())
 }

@@ -1,12 +1,12 @@
 // Spans that synthesis gives.
 use crate::node::diagnostics::listed;
 use crate::node::numbering::is_of;
-use crate::rows::assert_all;
+use crate::rows::{assert_all, assert_text};
 use std::alloc::{AllocError, Global};
 use std::test::Fail;
 use typst_base::{FileId, RangeMapper, Span, SpanKind};
 use typst_drawn::{DrawingError, drawn, drawn_all, labels, numbered};
-use typst_node::{ReplaceError, SyntaxNode};
+use typst_node::{ReplaceError, SyntaxNode, SynthesizeError};
 
 /// The words for a tree: its labels, whether all of its two levels are of no file, its diagnostics and its `Debug` text.
 fn told(alloc: Global, tree: &SyntaxNode) -> Result<String, AllocError> {
@@ -63,25 +63,35 @@ fn bytes(alloc: Global, span: Span) -> Result<String, AllocError> {
 /// The tree of two levels that a drawing shows, mapped by the mapper of the bytes 2, 3, 4, 8 and 9: the spans of its
 /// nodes, its diagnostics and its `Debug` text.
 fn mapped(alloc: Global, drawing: &str) -> Result<String, DrawingError> {
+    let mut tree = drawn(alloc, drawing)?;
+    let before = tree.clone()?;
+    match map(alloc, &mut tree)? {
+        Ok(()) => Ok(placed(alloc, &tree)?),
+        Err(error) => {
+            let left = if tree == before {
+                "unchanged"
+            } else {
+                "changed"
+            };
+            Ok(format!(in alloc; "{error:?} {left}")?)
+        }
+    }
+}
+
+fn map(alloc: Global, tree: &mut SyntaxNode) -> Result<Result<(), SynthesizeError>, DrawingError> {
     let mapper = RangeMapper::new(alloc, &[2..5, 8..10])
         .ok()
         .ok_or(DrawingError::Memory)?;
     let id = FileId::new(1).ok_or(DrawingError::Numbers)?;
-    let mut tree = drawn(alloc, drawing)?;
-    let before = tree.clone()?;
-    if let Err(error) = tree.synthesize_mapped(id, &mapper) {
-        let left = if tree == before {
-            "unchanged"
-        } else {
-            "changed"
-        };
-        return Ok(format!(in alloc; "{error:?} {left}")?);
-    }
+    Ok(tree.synthesize_mapped(id, &mapper))
+}
+
+fn placed(alloc: Global, tree: &SyntaxNode) -> Result<String, AllocError> {
     let mut said = bytes(alloc, tree.span())?;
     for child in tree.child_slice() {
         said.push_str(bytes(alloc, child.span())?.as_str())?;
     }
-    said.push_str(listed(alloc, &tree)?.as_str())?;
+    said.push_str(listed(alloc, tree)?.as_str())?;
     said.push_str(format!(in alloc; "{tree:?}")?.as_str())?;
     Ok(said)
 }
@@ -102,7 +112,7 @@ fn mapped_nodes_have_the_places_of_their_bytes(rt: HostRuntime) -> Result<(), Fa
     ];
     for (drawing, wanted) in rows {
         let said = mapped(rt.alloc(), drawing)?;
-        assert_eq!(rt; said.as_str(), wanted, "{drawing}");
+        assert_text(&rt, drawing, &said, wanted);
     }
     Ok(())
 }
@@ -122,11 +132,7 @@ fn shortened_and_mapped(alloc: Global) -> Result<String, DrawingError> {
     let mut strong = shortened(alloc)?;
     let labels = labels(alloc, &strong)?;
     let shown = format!(in alloc; "{labels} {strong:?}")?;
-    let mapper = RangeMapper::new(alloc, &[2..5, 8..10])
-        .ok()
-        .ok_or(DrawingError::Memory)?;
-    let id = FileId::new(1).ok_or(DrawingError::Numbers)?;
-    let mapped = strong.synthesize_mapped(id, &mapper);
+    let mapped = map(alloc, &mut strong)?;
     Ok(format!(in alloc; "{shown}, then {mapped:?} {strong:?}")?)
 }
 
