@@ -4,9 +4,9 @@ use crate::end::{End, Stop};
 use crate::making::{self, Making};
 use crate::reading::Reading;
 use crate::requests::Requests;
-use crate::runs::{self, Run};
+use crate::runs::Queue;
 use crate::scripts;
-use crate::trees::{BINDING, NESTED, Step};
+use crate::trees::Ground;
 use crate::views::Viewing;
 use crate::walks::{self, Walk};
 use std::alloc::Global;
@@ -22,14 +22,14 @@ pub enum Call {
     Replace(Replacing),
     Read(Reading),
     View(Viewing),
-    Walk(Walk, &'static [Step]),
+    Walk(Walk, Ground),
     FindAmongThousand,
-    Run(Run),
+    Run(Queue),
     RunScript,
 }
 
 /// Each call with its name.
-pub const CALLS: &[(&str, Call)] = &[
+const CALLS: &[(&str, Call)] = &[
     ("RangeMapper::new", Call::MakeMapper),
     ("leaf", Call::Make(Making::Leaf)),
     ("leaf of 22 bytes", Call::Make(Making::LongLeaf)),
@@ -74,92 +74,129 @@ pub const CALLS: &[(&str, Call)] = &[
         "Destructuring::bindings",
         Call::View(Viewing::DestructuringBindings),
     ),
-    ("children, nested", Call::Walk(Walk::Children, NESTED)),
-    ("children, wide", Call::Walk(Walk::Children, BINDING)),
+    (
+        "children, nested",
+        Call::Walk(Walk::Children, Ground::Nested),
+    ),
+    ("children, wide", Call::Walk(Walk::Children, Ground::Wide)),
     (
         "children back, nested",
-        Call::Walk(Walk::ChildrenBack, NESTED),
+        Call::Walk(Walk::ChildrenBack, Ground::Nested),
     ),
     (
         "children back, wide",
-        Call::Walk(Walk::ChildrenBack, BINDING),
+        Call::Walk(Walk::ChildrenBack, Ground::Wide),
     ),
     (
         "prev_sibling, nested",
-        Call::Walk(Walk::PrevSibling, NESTED),
+        Call::Walk(Walk::PrevSibling, Ground::Nested),
     ),
-    ("prev_sibling, wide", Call::Walk(Walk::PrevSibling, BINDING)),
+    (
+        "prev_sibling, wide",
+        Call::Walk(Walk::PrevSibling, Ground::Wide),
+    ),
     (
         "next_sibling, nested",
-        Call::Walk(Walk::NextSibling, NESTED),
+        Call::Walk(Walk::NextSibling, Ground::Nested),
     ),
-    ("next_sibling, wide", Call::Walk(Walk::NextSibling, BINDING)),
+    (
+        "next_sibling, wide",
+        Call::Walk(Walk::NextSibling, Ground::Wide),
+    ),
     (
         "prev_sibling_with_trivia, nested",
-        Call::Walk(Walk::PrevSiblingWithTrivia, NESTED),
+        Call::Walk(Walk::PrevSiblingWithTrivia, Ground::Nested),
     ),
     (
         "prev_sibling_with_trivia, wide",
-        Call::Walk(Walk::PrevSiblingWithTrivia, BINDING),
+        Call::Walk(Walk::PrevSiblingWithTrivia, Ground::Wide),
     ),
     (
         "next_sibling_with_trivia, nested",
-        Call::Walk(Walk::NextSiblingWithTrivia, NESTED),
+        Call::Walk(Walk::NextSiblingWithTrivia, Ground::Nested),
     ),
     (
         "next_sibling_with_trivia, wide",
-        Call::Walk(Walk::NextSiblingWithTrivia, BINDING),
+        Call::Walk(Walk::NextSiblingWithTrivia, Ground::Wide),
     ),
     (
         "leftmost_leaf, nested",
-        Call::Walk(Walk::LeftmostLeaf, NESTED),
+        Call::Walk(Walk::LeftmostLeaf, Ground::Nested),
     ),
     (
         "leftmost_leaf, wide",
-        Call::Walk(Walk::LeftmostLeaf, BINDING),
+        Call::Walk(Walk::LeftmostLeaf, Ground::Wide),
     ),
     (
         "rightmost_leaf, nested",
-        Call::Walk(Walk::RightmostLeaf, NESTED),
+        Call::Walk(Walk::RightmostLeaf, Ground::Nested),
     ),
     (
         "rightmost_leaf, wide",
-        Call::Walk(Walk::RightmostLeaf, BINDING),
+        Call::Walk(Walk::RightmostLeaf, Ground::Wide),
     ),
-    ("prev_leaf, nested", Call::Walk(Walk::PrevLeaf, NESTED)),
-    ("prev_leaf, wide", Call::Walk(Walk::PrevLeaf, BINDING)),
-    ("next_leaf, nested", Call::Walk(Walk::NextLeaf, NESTED)),
-    ("next_leaf, wide", Call::Walk(Walk::NextLeaf, BINDING)),
-    ("leaf_at, nested", Call::Walk(Walk::LeafAt, NESTED)),
-    ("leaf_at, wide", Call::Walk(Walk::LeafAt, BINDING)),
+    (
+        "prev_leaf, nested",
+        Call::Walk(Walk::PrevLeaf, Ground::Nested),
+    ),
+    ("prev_leaf, wide", Call::Walk(Walk::PrevLeaf, Ground::Wide)),
+    (
+        "next_leaf, nested",
+        Call::Walk(Walk::NextLeaf, Ground::Nested),
+    ),
+    ("next_leaf, wide", Call::Walk(Walk::NextLeaf, Ground::Wide)),
+    ("leaf_at, nested", Call::Walk(Walk::LeafAt, Ground::Nested)),
+    ("leaf_at, wide", Call::Walk(Walk::LeafAt, Ground::Wide)),
     (
         "leaf_at_counted, nested",
-        Call::Walk(Walk::LeafAtCounted, NESTED),
+        Call::Walk(Walk::LeafAtCounted, Ground::Nested),
     ),
     (
         "leaf_at_counted, wide",
-        Call::Walk(Walk::LeafAtCounted, BINDING),
+        Call::Walk(Walk::LeafAtCounted, Ground::Wide),
     ),
     ("leaf_at_counted, of 1000 leaves", Call::FindAmongThousand),
-    ("find, nested", Call::Walk(Walk::Find, NESTED)),
-    ("find, wide", Call::Walk(Walk::Find, BINDING)),
+    ("find, nested", Call::Walk(Walk::Find, Ground::Nested)),
+    ("find, wide", Call::Walk(Walk::Find, Ground::Wide)),
     (
         "find_counted, nested",
-        Call::Walk(Walk::FindCounted, NESTED),
+        Call::Walk(Walk::FindCounted, Ground::Nested),
     ),
-    ("find_counted, wide", Call::Walk(Walk::FindCounted, BINDING)),
-    ("find_range, nested", Call::Walk(Walk::FindRange, NESTED)),
-    ("find_range, wide", Call::Walk(Walk::FindRange, BINDING)),
-    ("preorder, nested", Call::Walk(Walk::Preorder, NESTED)),
-    ("preorder, wide", Call::Walk(Walk::Preorder, BINDING)),
-    ("path, nested", Call::Walk(Walk::Path, NESTED)),
-    ("path, wide", Call::Walk(Walk::Path, BINDING)),
-    ("session::run, each reply", Call::Run(runs::REPLIES)),
-    ("session::run, insertions", Call::Run(runs::INSERTIONS)),
+    (
+        "find_counted, wide",
+        Call::Walk(Walk::FindCounted, Ground::Wide),
+    ),
+    (
+        "find_range, nested",
+        Call::Walk(Walk::FindRange, Ground::Nested),
+    ),
+    (
+        "find_range, wide",
+        Call::Walk(Walk::FindRange, Ground::Wide),
+    ),
+    (
+        "preorder, nested",
+        Call::Walk(Walk::Preorder, Ground::Nested),
+    ),
+    ("preorder, wide", Call::Walk(Walk::Preorder, Ground::Wide)),
+    ("path, nested", Call::Walk(Walk::Path, Ground::Nested)),
+    ("path, wide", Call::Walk(Walk::Path, Ground::Wide)),
+    ("session::run, each reply", Call::Run(Queue::Replies)),
+    ("session::run, insertions", Call::Run(Queue::Insertions)),
     ("script::run", Call::RunScript),
 ];
 
 impl Call {
+    /// The call with this name.
+    pub fn named(name: &str) -> Option<Call> {
+        for (named, call) in CALLS {
+            if *named == name {
+                return Some(*call);
+            }
+        }
+        None
+    }
+
     /// Builds what the call needs, makes these requests, and then the call.
     pub fn run(self, alloc: Global, requests: Requests) -> Result<End, Stop> {
         match self {
@@ -171,9 +208,9 @@ impl Call {
             Call::Replace(replacing) => replacing.run(alloc, requests),
             Call::Read(reading) => reading.run(alloc, requests),
             Call::View(viewing) => viewing.run(alloc, requests),
-            Call::Walk(walk, steps) => walk.run(steps, alloc, requests),
+            Call::Walk(walk, ground) => walk.run(ground.steps(), alloc, requests),
             Call::FindAmongThousand => walks::find_among_thousand(alloc, requests),
-            Call::Run(run) => run.run(alloc, requests),
+            Call::Run(queue) => queue.requests().run(alloc, requests),
             Call::RunScript => scripts::run_script(alloc, requests),
         }
     }

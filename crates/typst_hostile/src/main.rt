@@ -6,7 +6,7 @@
 //! refusal hits the first request of the call, with one less the second, and so on.
 #![tactic(auto)]
 
-use calls::CALLS;
+use calls::Call;
 use end::{End, Stop};
 use requests::Requests;
 use std::alloc::Global;
@@ -47,7 +47,7 @@ fn answer(rt: &(impl Print + AllocGlobal), line: &str) -> io::Result<bool> {
     let Some(requests) = Requests::parse(count) else {
         return Ok(false);
     };
-    let Some((_, call)) = CALLS.iter().find(|(named, _)| *named == name) else {
+    let Some(call) = Call::named(name) else {
         return Ok(false);
     };
     match call.run(rt.alloc(), requests) {

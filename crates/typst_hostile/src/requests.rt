@@ -20,7 +20,10 @@ impl Requests {
         if word == "spare" {
             return Some(Requests::Spare);
         }
-        word.parse::<u64>().ok().map(Requests::Count)
+        match word.parse::<u64>() {
+            Ok(count) => Some(Requests::Count(count)),
+            Err(_) => None,
+        }
     }
 
     /// Makes them. `Spare` always stops here.

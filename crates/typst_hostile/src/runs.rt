@@ -24,6 +24,23 @@ pub struct Run {
     asked: &'static [Asked],
 }
 
+/// A run that is made.
+#[derive(Clone, Copy)]
+pub enum Queue {
+    Replies,
+    Insertions,
+}
+
+impl Queue {
+    /// Its tree, and what is asked of that.
+    pub fn requests(self) -> Run {
+        match self {
+            Queue::Replies => REPLIES,
+            Queue::Insertions => INSERTIONS,
+        }
+    }
+}
+
 /// A tree with the replies that made it.
 #[derive(Drop)]
 struct Served {
@@ -32,7 +49,7 @@ struct Served {
 }
 
 /// One of each reply, where memory is ample: on the tree `*b*c` with `Strong`.
-pub const REPLIES: Run = Run {
+const REPLIES: Run = Run {
     tree: &[
         Step::Leaf(SyntaxKind::Star, "*"),
         Step::Leaf(SyntaxKind::Text, "b"),
@@ -54,7 +71,7 @@ pub const REPLIES: Run = Run {
 };
 
 /// Insertions at the root and below it, and searches between them: each takes memory.
-pub const INSERTIONS: Run = Run {
+const INSERTIONS: Run = Run {
     tree: &[
         Step::Leaf(SyntaxKind::Text, "a"),
         Step::Leaf(SyntaxKind::Text, "b"),

@@ -19,6 +19,25 @@ pub enum Step {
     Inner(SyntaxKind, usize),
 }
 
+/// A tree that is walked.
+#[derive(Clone, Copy)]
+pub enum Ground {
+    /// One of three levels.
+    Nested,
+    /// One of several forms side by side.
+    Wide,
+}
+
+impl Ground {
+    /// The steps that grow it.
+    pub fn steps(self) -> &'static [Step] {
+        match self {
+            Ground::Nested => NESTED,
+            Ground::Wide => BINDING,
+        }
+    }
+}
+
 /// `a*b_c_*`, with `Strong` and `Emph`: a tree of three levels.
 pub const NESTED: &[Step] = &[
     Step::Leaf(SyntaxKind::Text, "a"),
@@ -36,7 +55,7 @@ pub const NESTED: &[Step] = &[
 ];
 
 /// `#let x = 1 // c`, with spaces, a comment and an error without a text.
-pub const BINDING: &[Step] = &[
+const BINDING: &[Step] = &[
     Step::Leaf(SyntaxKind::Hash, "#"),
     Step::Leaf(SyntaxKind::Let, "let"),
     Step::Leaf(SyntaxKind::Space, " "),
