@@ -1,4 +1,7 @@
 // Scripts as a user would run them, and readers and writers that fail.
+use crate::asserting::{
+    assert_after, assert_bytes, assert_done, assert_out, assert_status, assert_text,
+};
 use crate::fakes::{FailingReader, FailingWriter, Failure};
 use crate::vectors::VECTORS;
 use std::alloc::Global;
@@ -41,49 +44,72 @@ fn outcome_of(alloc: Global, script: &[u8]) -> Result<Outcome, Fail> {
     })
 }
 
+/// What a script wrote whose reader or writer failed, and how it ended.
+#[derive(Drop)]
+struct Broken {
+    out: Vec<u8>,
+    done: Result<(), Fault>,
+}
+
+/// What a script writes to a writer that fails.
+fn written(alloc: Global, script: &[u8], failure: Failure) -> Broken {
+    let mut out: Vec<u8> = Vec::new(alloc);
+    let writer = FailingWriter {
+        written: &mut out,
+        failure,
+    };
+    let done = run(alloc, script, writer);
+    Broken { out, done }
+}
+
+/// What a script writes that comes from a reader that fails.
+fn read(alloc: Global, bytes: &[u8], failure: Failure) -> Broken {
+    let mut out: Vec<u8> = Vec::new(alloc);
+    let done = run(alloc, FailingReader { bytes, failure }, &mut out);
+    Broken { out, done }
+}
+
 #[test]
 fn replays_the_vectors(rt: HostRuntime) -> Result<(), Fail> {
     for vector in &VECTORS {
-        let name = vector.name;
         let got = outcome_of(rt.alloc(), vector.script)?;
-        assert_eq!(rt; got.stdout.as_slice(), vector.stdout, "{name}");
-        assert_eq!(rt; got.stderr.as_str(), vector.stderr, "{name}");
-        assert_eq!(rt; got.status, vector.status, "{name}");
+        assert_bytes(&rt, vector.name, &got.stdout, vector.stdout);
+        assert_text(&rt, vector.name, &got.stderr, vector.stderr);
+        assert_status(&rt, vector.name, got.status, vector.status);
     }
     Ok(())
 }
 
 #[test]
 fn shows_what_was_built(rt: HostRuntime) -> Result<(), Fail> {
-    let cases: [(&[u8], &[u8]); 5] = [
-        // Numbered.
-        (NUMBERED, NUMBERED_SHOWN),
-        // Two blanks a level, however deep.
+    let cases: [(&str, &[u8], &[u8]); 5] = [
+        ("numbered", NUMBERED, NUMBERED_SHOWN),
         (
+            "two blanks a level, however deep",
             b"leaf 6 a\ninner 5 1\ninner 5 1\ninner 5 1\ninner 5 1\ninner 5 1\nroot\nshow\n",
             b"5 1 0 1\n  5 1 0 1\n    5 1 0 1\n      5 1 0 1\n        5 1 0 1\n          6 1 2 1 a\n",
         ),
-        // A new tree is detached.
         (
+            "a new tree is detached",
             b"leaf 6 ab\nleaf 6 c\ninner 5 2\nroot\nshow\n",
             b"5 1 0 3\n  6 1 2 2 ab\n  6 1 2 1 c\n",
         ),
-        // Fewer numbers than nodes, and an empty range, change nothing.
         (
+            "fewer numbers than nodes, and an empty range, change nothing",
             b"leaf 6 ab\nleaf 6 c\ninner 5 2\nroot\nnumber 1 2 4\nnumber 1 14 2\nshow\n",
             b"refused\nrefused\n5 1 0 3\n  6 1 2 2 ab\n  6 1 2 1 c\n",
         ),
-        // A first number past all is refused, and not bad.
         (
+            "a first number past all is refused, and not bad",
             b"leaf 6 ab\nroot\nnumber 1 140737488355329 14\nshow\n",
             b"refused\n6 1 2 2 ab\n",
         ),
     ];
-    for (script, stdout) in cases {
+    for (shows, script, stdout) in &cases {
         let got = outcome_of(rt.alloc(), script)?;
-        assert_eq!(rt; got.stdout.as_slice(), stdout);
-        assert_eq!(rt; got.stderr.as_str(), "");
-        assert_eq!(rt; got.status, 0);
+        assert_bytes(&rt, shows, &got.stdout, stdout);
+        assert_text(&rt, shows, &got.stderr, "");
+        assert_status(&rt, shows, got.status, 0);
     }
     Ok(())
 }
@@ -137,11 +163,11 @@ fn names_the_bad_line(rt: HostRuntime) -> Result<(), Fail> {
         // A bad line before one that isn't UTF-8 is the one that counts.
         (b"root\n\xff\n", "line 1: bad command\n"),
     ];
-    for (script, stderr) in cases {
+    for (script, stderr) in &cases {
         let got = outcome_of(rt.alloc(), script)?;
-        assert_eq!(rt; got.stderr.as_str(), stderr);
-        assert_eq!(rt; got.stdout.as_slice(), b"".as_slice());
-        assert_eq!(rt; got.status, 2);
+        assert_text(&rt, stderr, &got.stderr, stderr);
+        assert_bytes(&rt, stderr, &got.stdout, b"");
+        assert_status(&rt, stderr, got.status, 2);
     }
     Ok(())
 }
@@ -157,8 +183,8 @@ fn prints_each_fault(rt: HostRuntime) -> Result<(), Fail> {
         (Fault::Overflow, "overflow", 1),
     ];
     for (fault, text, status) in cases {
-        assert_eq!(rt; format!(in alloc; "{fault}")?.as_str(), text);
-        assert_eq!(rt; fault.exit_status(), status);
+        assert_text(&rt, text, &format!(in alloc; "{fault}")?, text);
+        assert_status(&rt, text, fault.exit_status(), status);
     }
     Ok(())
 }
@@ -167,11 +193,11 @@ fn prints_each_fault(rt: HostRuntime) -> Result<(), Fail> {
 fn every_beginning_ends_well_or_at_a_bad_line(rt: HostRuntime) -> Result<(), Fail> {
     for end in 0..=NUMBERED.len() {
         let got = outcome_of(rt.alloc(), &NUMBERED[..end])?;
-        assert!(rt; got.status == 0 || got.status == 2, "{end} bytes");
+        assert_after(&rt, end, got.status == 0 || got.status == 2);
         // `number 1 2 1` asks for numbers from an empty range.
         let refused = got.stdout.as_slice() == b"refused\n".as_slice();
         let shown = NUMBERED_SHOWN.starts_with(&got.stdout);
-        assert!(rt; shown || refused, "{end} bytes");
+        assert_after(&rt, end, shown || refused);
     }
     Ok(())
 }
@@ -230,16 +256,12 @@ fn a_bad_line_counts_before_a_flush_that_fails(rt: HostRuntime) -> Result<(), Fa
     script.extend_from_slice(NUMBERED)?;
     script.extend_from_slice(b"grow\n")?;
     for calls_left in 0..NUMBERED_SHOWN.len() + 2 {
-        let mut out: Vec<u8> = Vec::new(alloc);
-        let writer = FailingWriter {
-            written: &mut out,
-            failure: Failure::after(calls_left, false),
-        };
-        let done = run(alloc, script.as_slice(), writer);
-        assert_eq!(rt;
-            done,
+        let got = written(alloc, &script, Failure::after(calls_left, false));
+        assert_done(
+            &rt,
+            calls_left,
+            got.done,
             Err(Fault::BadCommand { line: 7 }),
-            "after {calls_left} calls"
         );
     }
     Ok(())
@@ -250,24 +272,20 @@ fn a_reader_that_fails_ends_the_script(rt: HostRuntime) -> Result<(), Fail> {
     let alloc = rt.alloc();
     // One call for each byte, and one for the end.
     for calls_left in 0..NUMBERED.len() + 2 {
-        let mut out: Vec<u8> = Vec::new(alloc);
-        let reader = FailingReader {
-            bytes: NUMBERED,
-            failure: Failure::after(calls_left, false),
-        };
-        let done = run(alloc, reader, &mut out);
-        if calls_left <= NUMBERED.len() {
-            assert_eq!(rt; done, Err(Fault::Read), "after {calls_left} calls");
+        let got = read(alloc, NUMBERED, Failure::after(calls_left, false));
+        let done = if calls_left <= NUMBERED.len() {
+            Err(Fault::Read)
         } else {
-            assert_eq!(rt; done, Ok(()));
-        }
+            Ok(())
+        };
+        assert_done(&rt, calls_left, got.done, done);
         // The last line is `show`, and is read whole by the last call but one.
         let shown = if calls_left < NUMBERED.len() {
             b"".as_slice()
         } else {
             NUMBERED_SHOWN
         };
-        assert_eq!(rt; out.as_slice(), shown, "after {calls_left} calls");
+        assert_out(&rt, calls_left, &got.out, shown);
     }
     Ok(())
 }
@@ -278,25 +296,16 @@ fn a_writer_that_fails_ends_the_script(rt: HostRuntime) -> Result<(), Fail> {
     for recovers in [false, true] {
         // One call for each byte, and one to flush.
         for calls_left in 0..NUMBERED_SHOWN.len() + 2 {
-            let mut out: Vec<u8> = Vec::new(alloc);
-            let writer = FailingWriter {
-                written: &mut out,
-                failure: Failure::after(calls_left, recovers),
-            };
-            let done = run(alloc, NUMBERED, writer);
-            if calls_left <= NUMBERED_SHOWN.len() {
-                assert_eq!(rt; done, Err(Fault::Write), "after {calls_left} calls");
+            let got = written(alloc, NUMBERED, Failure::after(calls_left, recovers));
+            let done = if calls_left <= NUMBERED_SHOWN.len() {
+                Err(Fault::Write)
             } else {
-                assert_eq!(rt; done, Ok(()));
-            }
-            assert!(rt;
-                NUMBERED_SHOWN.starts_with(&out),
-                "after {calls_left} calls"
-            );
-            assert!(rt;
-                calls_left.min(NUMBERED_SHOWN.len()) <= out.len(),
-                "after {calls_left} calls"
-            );
+                Ok(())
+            };
+            assert_done(&rt, calls_left, got.done, done);
+            assert_after(&rt, calls_left, NUMBERED_SHOWN.starts_with(&got.out));
+            let least = calls_left.min(NUMBERED_SHOWN.len());
+            assert_after(&rt, calls_left, least <= got.out.len());
         }
     }
     Ok(())
@@ -316,15 +325,10 @@ fn a_writer_may_fail_in_mid_run(rt: HostRuntime) -> Result<(), Fail> {
     }
     for recovers in [false, true] {
         for calls_left in [0, 1, 100, 8191, 8192, 8193, 10000] {
-            let mut out: Vec<u8> = Vec::new(alloc);
-            let writer = FailingWriter {
-                written: &mut out,
-                failure: Failure::after(calls_left, recovers),
-            };
-            let done = run(alloc, script.as_slice(), writer);
-            assert_eq!(rt; done, Err(Fault::Write), "after {calls_left} calls");
-            assert!(rt; shown.starts_with(&out), "after {calls_left} calls");
-            assert!(rt; calls_left <= out.len(), "after {calls_left} calls");
+            let got = written(alloc, &script, Failure::after(calls_left, recovers));
+            assert_done(&rt, calls_left, got.done, Err(Fault::Write));
+            assert_after(&rt, calls_left, shown.starts_with(&got.out));
+            assert_after(&rt, calls_left, calls_left <= got.out.len());
         }
     }
     Ok(())
@@ -332,56 +336,62 @@ fn a_writer_may_fail_in_mid_run(rt: HostRuntime) -> Result<(), Fail> {
 
 #[test]
 fn answers_replacements_and_searches(rt: HostRuntime) -> Result<(), Fail> {
-    let cases: [(&[u8], &[u8], &str, u8); 7] = [
-        // Nodes two and three levels below the root.
+    let cases: [(&str, &[u8], &[u8], &str, u8); 7] = [
         (
+            "nodes two and three levels below the root",
             b"leaf 55 *\nleaf 6 b\ninner 5 1\nleaf 55 *\ninner 13 3\nleaf 6 c\ninner 5 2\nroot\nnumber 1 2 30\nfind 1 6\nfind 1 7\nfind 1 8\nrun\n",
             b"found 0.1 offset 1\nfound 0.1.0 offset 1\nfound 0.2 offset 2\n",
             "",
             0,
         ),
-        // Refusals, and a removal between them.
         (
+            "refusals, and a removal between them",
             b"leaf 6 a\ninner 5 1\nroot\nnumber 1 2 4\nleaf 6 z\nreplace - 0 1 1\nreplace - 0 1 0\nleaf 6 z\nreplace - 0 0 1\nfind 1 3\nrun\nshow\n",
             b"refused\ndone window 0..0 tried 1\nrefused\nnot found\n5 2 4 0\n",
             "",
             0,
         ),
-        // A replacement, and a search after it.
         (
+            "a replacement, and a search after it",
             b"leaf 6 ab\nleaf 6 c\ninner 5 2\nroot\nnumber 1 2 14\nshow\nleaf 6 x\nreplace - 1 1 1\nfind 1 6\nrun\n",
             b"5 3 14 3\n  6 5 6 2 ab\n  6 7 8 1 c\ndone window 0..3 tried 2\nfound 2 offset 3\n",
             "",
             0,
         ),
-        // A search reads numbers alone, and not the file.
         (
+            "a search reads numbers alone, and not the file",
             b"leaf 6 ab\nleaf 6 c\ninner 5 2\nroot\nnumber 1 2 14\nfind 1 7\nfind 2 7\nfind 1 6\nfind 1 3\nrun\n",
             b"found 1 offset 2\nfound 1 offset 2\nnot found\nfound - offset 0\n",
             "",
             0,
         ),
-        // A tree that isn't numbered serves nothing.
         (
+            "a tree that isn't numbered serves nothing",
             b"leaf 6 ab\nleaf 6 c\ninner 5 2\nroot\nnumber 1 2 4\nrun\n",
             b"refused\n",
             "line 6: bad command\n",
             2,
         ),
-        // An error and a warning.
         (
+            "an error and a warning",
             b"error m\t#\ninner 13 1\nwarn w\nleaf 6 c\ninner 5 2\nroot\nnumber 1 2 18\nshow\nleaf 6 b\nreplace 0 0 1 1\nrun\n",
             b"5 3 18 2\n  13 4 8 1\n    1 5 6 1 #\n  6 9 10 1 c\ndone window 0..1 tried 1\n",
             "",
             0,
         ),
-        (EDITED, EDITED_SHOWN, "", 0),
+        (
+            "four replacements and a search",
+            EDITED,
+            EDITED_SHOWN,
+            "",
+            0,
+        ),
     ];
-    for (script, stdout, stderr, status) in cases {
+    for (shows, script, stdout, stderr, status) in &cases {
         let got = outcome_of(rt.alloc(), script)?;
-        assert_eq!(rt; got.stdout.as_slice(), stdout);
-        assert_eq!(rt; got.stderr.as_str(), stderr);
-        assert_eq!(rt; got.status, status);
+        assert_bytes(&rt, shows, &got.stdout, stdout);
+        assert_text(&rt, shows, &got.stderr, stderr);
+        assert_status(&rt, shows, got.status, *status);
     }
     Ok(())
 }
@@ -392,7 +402,7 @@ fn every_beginning_of_an_edited_script_ends_well_or_at_a_bad_line(
 ) -> Result<(), Fail> {
     for end in 0..=EDITED.len() {
         let got = outcome_of(rt.alloc(), &EDITED[..end])?;
-        assert!(rt; got.status == 0 || got.status == 2, "{end} bytes");
+        assert_after(&rt, end, got.status == 0 || got.status == 2);
     }
     Ok(())
 }
@@ -402,14 +412,9 @@ fn a_reader_may_fail_at_each_call_of_an_edited_script(rt: HostRuntime) -> Result
     let alloc = rt.alloc();
     for recovers in [false, true] {
         for calls_left in 0..=EDITED.len() {
-            let mut out: Vec<u8> = Vec::new(alloc);
-            let reader = FailingReader {
-                bytes: EDITED,
-                failure: Failure::after(calls_left, recovers),
-            };
-            let done = run(alloc, reader, &mut out);
-            assert_eq!(rt; done, Err(Fault::Read), "after {calls_left} calls");
-            assert!(rt; EDITED_SHOWN.starts_with(&out), "after {calls_left} calls");
+            let got = read(alloc, EDITED, Failure::after(calls_left, recovers));
+            assert_done(&rt, calls_left, got.done, Err(Fault::Read));
+            assert_after(&rt, calls_left, EDITED_SHOWN.starts_with(&got.out));
         }
     }
     Ok(())
@@ -419,18 +424,9 @@ fn a_reader_may_fail_at_each_call_of_an_edited_script(rt: HostRuntime) -> Result
 fn a_writer_may_fail_at_each_call_of_an_edited_script(rt: HostRuntime) -> Result<(), Fail> {
     let alloc = rt.alloc();
     for calls_left in 0..=EDITED_SHOWN.len() {
-        let mut out: Vec<u8> = Vec::new(alloc);
-        let writer = FailingWriter {
-            written: &mut out,
-            failure: Failure::after(calls_left, false),
-        };
-        let done = run(alloc, EDITED, writer);
-        assert_eq!(rt; done, Err(Fault::Write), "after {calls_left} calls");
-        assert_eq!(rt;
-            out.as_slice(),
-            &EDITED_SHOWN[..calls_left],
-            "after {calls_left} calls"
-        );
+        let got = written(alloc, EDITED, Failure::after(calls_left, false));
+        assert_done(&rt, calls_left, got.done, Err(Fault::Write));
+        assert_out(&rt, calls_left, &got.out, &EDITED_SHOWN[..calls_left]);
     }
     Ok(())
 }
