@@ -7,4 +7,6 @@ mod guide;
 #[cfg(test)]
 mod memory;
 #[cfg(test)]
+mod rows;
+#[cfg(test)]
 mod tree;

@@ -1,10 +1,11 @@
 // Trees that are kept numbered, and the nodes that come back.
+use crate::rows::assert_all;
 use crate::tree::asking::{said, span_of};
 use std::alloc::Global;
 use std::ops::Range;
 use std::test::Fail;
 use typst_drawn::{DrawingError, drawn, labels, numbered};
-use typst_tree::{FileId, NumberedTree, Span, node_at};
+use typst_tree::{FileId, NumberedTree, Span, SyntaxNode, node_at};
 
 const TWO: &str = "Markup[ Text:ab Text:c ]";
 
@@ -98,19 +99,21 @@ fn a_span_is_found_where_its_node_is(rt: HostRuntime) -> Result<(), Fail> {
     Ok(())
 }
 
+/// The own text of the node at a path.
+fn text_at<'a>(tree: &'a SyntaxNode, path: &[usize]) -> Option<&'a str> {
+    Some(node_at(tree, path)?.leaf_text())
+}
+
 #[test]
 fn a_path_leads_to_a_node_or_nowhere(rt: HostRuntime) -> Result<(), Fail> {
     let tree = drawn(rt.alloc(), "Markup[ Strong[ Text:ab Space:~ ] Text:c ]")?;
-    let rows: [(&[usize], Option<&str>); 5] = [
-        (&[], Some("")),
-        (&[1], Some("c")),
-        (&[0, 0], Some("ab")),
-        (&[0, 2], None),
-        (&[1, 0], None),
+    let rows = [
+        ("the root", text_at(&tree, &[]) == Some("")),
+        ("a child", text_at(&tree, &[1]) == Some("c")),
+        ("a grandchild", text_at(&tree, &[0, 0]) == Some("ab")),
+        ("behind the children", text_at(&tree, &[0, 2]).is_none()),
+        ("below a leaf", text_at(&tree, &[1, 0]).is_none()),
     ];
-    for (path, wanted) in rows {
-        let text = node_at(&tree, path).map(|node| node.leaf_text());
-        assert!(rt; text == wanted, "{path:?}");
-    }
+    assert_all(&rt, &rows);
     Ok(())
 }

@@ -1,4 +1,5 @@
 // Runs of edits and searches, and the trees after them.
+use crate::rows::assert_text;
 use crate::tree::asking::{Ask, all_said, request, slots};
 use std::alloc::{AllocError, Global};
 use std::ops::Range;
@@ -127,11 +128,13 @@ fn serve_each(alloc: Global, row: &Row) -> Result<String, DrawingError> {
 fn requests_are_served_one_after_the_other(rt: HostRuntime) -> Result<(), Fail> {
     let alloc = rt.alloc();
     for row in &RUNS {
-        let shows = row.shows;
         let wanted = format!(in alloc; "{}{}", row.replies, row.after)?;
-        assert_eq!(rt; run_on_a_node(alloc, row)?, wanted, "{shows}");
-        assert_eq!(rt; run_on_a_numbered_tree(alloc, row)?, wanted, "{shows}");
-        assert_eq!(rt; serve_each(alloc, row)?, wanted, "{shows}");
+        let said = run_on_a_node(alloc, row)?;
+        assert_text(&rt, row.shows, "on a node", &said, &wanted);
+        let said = run_on_a_numbered_tree(alloc, row)?;
+        assert_text(&rt, row.shows, "on a numbered tree", &said, &wanted);
+        let said = serve_each(alloc, row)?;
+        assert_text(&rt, row.shows, "one by one", &said, &wanted);
     }
     Ok(())
 }

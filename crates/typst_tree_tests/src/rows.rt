@@ -1,0 +1,14 @@
+// Assertions of rows. A message that is made costs the proof of a test some seconds, so it is made here alone.
+use std::process::Abort;
+
+/// Asserts that each row holds: what it shows, and whether it does.
+pub(crate) fn assert_all(rt: &impl Abort, rows: &[(&str, bool)]) {
+    for (shows, holds) in rows {
+        assert!(rt; *holds, "{shows}");
+    }
+}
+
+/// Asserts that a row's text is the wanted one, and says what it shows and by which way the text came.
+pub(crate) fn assert_text(rt: &impl Abort, shows: &str, way: &str, text: &str, wanted: &str) {
+    assert_eq!(rt; text, wanted, "{shows}, {way}");
+}
