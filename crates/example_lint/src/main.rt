@@ -7,8 +7,8 @@ use std::ops::Range;
 use typst_tree::SyntaxKind::{Eq, Hash, Ident, Let, LetBinding, Markup, Space, Star, Strong, Text};
 use typst_tree::{DiagSpan, DiagSpanKind, FileId, InnerError, LinkedNode, Span, SyntaxNode};
 
-/// `#let x = `, whose value is missing, and on the next line `*a`, whose end is missing.
-fn document(alloc: Global) -> Result<SyntaxNode, InnerError> {
+/// `let x = `, whose value is missing.
+fn binding(alloc: Global) -> Result<SyntaxNode, InnerError> {
     let mut missing = SyntaxNode::error(alloc, "expected expression", "")?;
     missing.hint(alloc, "a binding has a value")?;
     let parts = vec![in alloc;
@@ -19,7 +19,11 @@ fn document(alloc: Global) -> Result<SyntaxNode, InnerError> {
         SyntaxNode::leaf(alloc, Eq, "=")?,
         missing,
     ]?;
-    let binding = SyntaxNode::inner(alloc, LetBinding, parts)?;
+    SyntaxNode::inner(alloc, LetBinding, parts)
+}
+
+/// `*größe`, whose end is missing.
+fn strong(alloc: Global) -> Result<SyntaxNode, InnerError> {
     let mut name = SyntaxNode::leaf(alloc, Text, "größe")?;
     if name.range_fits(4..6) {
         name.warn_at(alloc, 4..6, "a sharp s")?;
@@ -29,12 +33,16 @@ fn document(alloc: Global) -> Result<SyntaxNode, InnerError> {
         SyntaxNode::inner(alloc, Markup, vec![in alloc; name]?)?,
         SyntaxNode::error(alloc, "unclosed delimiter", "")?,
     ]?;
-    let strong = SyntaxNode::inner(alloc, Strong, parts)?;
+    SyntaxNode::inner(alloc, Strong, parts)
+}
+
+/// A binding after a hash, and on the next line strong text.
+fn document(alloc: Global) -> Result<SyntaxNode, InnerError> {
     let parts = vec![in alloc;
         SyntaxNode::leaf(alloc, Hash, "#")?,
-        binding,
+        binding(alloc)?,
         SyntaxNode::leaf(alloc, Space, "\n")?,
-        strong,
+        strong(alloc)?,
     ]?;
     SyntaxNode::inner(alloc, Markup, parts)
 }
