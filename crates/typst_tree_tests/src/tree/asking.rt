@@ -1,9 +1,9 @@
 // What is asked of a tree, and the words for its replies.
 use std::alloc::{AllocError, Global};
 use std::ops::Range;
-use typst_drawn::{DrawingError, drawn_all};
+use typst_drawn::{DrawingError, drawn_all, numbered};
 use typst_tree::session::{Reply, Request, Slot};
-use typst_tree::{FileId, Renumbered, Span, SpanNumber};
+use typst_tree::{FileId, NumberedTree, Renumbered, Span, SpanNumber};
 
 /// What is asked of a tree.
 pub(crate) enum Ask {
@@ -22,6 +22,16 @@ pub(crate) fn span_of(number: u64) -> Result<Span, DrawingError> {
         return Err(DrawingError::Numbers);
     }
     Ok(Span::from_number(file, SpanNumber(number)))
+}
+
+/// The tree that a drawing shows, kept numbered within a range.
+pub(crate) fn kept(
+    alloc: Global,
+    drawing: &str,
+    within: Range<u64>,
+) -> Result<NumberedTree, DrawingError> {
+    let root = numbered(alloc, drawing, within)?;
+    NumberedTree::from_numbered(root).map_err(|_| DrawingError::Numbers)
 }
 
 /// The request of an ask, unless it has its reply.

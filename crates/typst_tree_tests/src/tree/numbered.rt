@@ -1,6 +1,6 @@
 // Trees that are kept numbered, and the nodes that come back.
 use crate::rows::assert_all;
-use crate::tree::asking::{said, span_of};
+use crate::tree::asking::{kept, said, span_of};
 use std::alloc::Global;
 use std::ops::Range;
 use std::test::Fail;
@@ -56,8 +56,7 @@ fn only_a_numbered_tree_is_taken_as_one(rt: HostRuntime) -> Result<(), Fail> {
 
 /// The labels of a tree after it is numbered anew within a range for file 7.
 fn renumber(alloc: Global, within: Range<u64>) -> Result<String, DrawingError> {
-    let root = numbered(alloc, TWO, 2..14)?;
-    let mut tree = NumberedTree::from_numbered(root).map_err(|_| DrawingError::Numbers)?;
+    let mut tree = kept(alloc, TWO, 2..14)?;
     let file = FileId::new(7).ok_or(DrawingError::Numbers)?;
     if within.start < 2 || within.end > 1 << 47 {
         return Err(DrawingError::Numbers);
@@ -85,8 +84,7 @@ fn a_refused_renumbering_keeps_the_old_one(rt: HostRuntime) -> Result<(), Fail> 
 
 /// The words for where a span is found.
 fn find(alloc: Global, span: Span) -> Result<String, DrawingError> {
-    let root = numbered(alloc, TWO, 2..14)?;
-    let tree = NumberedTree::from_numbered(root).map_err(|_| DrawingError::Numbers)?;
+    let tree = kept(alloc, TWO, 2..14)?;
     Ok(said(alloc, Some(&tree.find(alloc, span)))?)
 }
 

@@ -1,12 +1,12 @@
 // Runs of edits and searches, and the trees after them.
 use crate::rows::assert_text;
-use crate::tree::asking::{Ask, all_said, request, slots};
+use crate::tree::asking::{Ask, all_said, kept, request, slots};
 use std::alloc::{AllocError, Global};
 use std::ops::Range;
 use std::test::Fail;
 use typst_drawn::{DrawingError, labels, numbered, sizes};
+use typst_tree::SyntaxNode;
 use typst_tree::session::{self, Reply, Slot};
-use typst_tree::{NumberedTree, SyntaxNode};
 
 /// A run, and what comes of it.
 struct Row {
@@ -103,8 +103,7 @@ fn run_on_a_node(alloc: Global, row: &Row) -> Result<String, DrawingError> {
 
 /// Serves a run on a tree that is kept numbered.
 fn run_on_a_numbered_tree(alloc: Global, row: &Row) -> Result<String, DrawingError> {
-    let root = numbered(alloc, row.tree, row.within.start..row.within.end)?;
-    let mut tree = NumberedTree::from_numbered(root).map_err(|_| DrawingError::Numbers)?;
+    let mut tree = kept(alloc, row.tree, row.within.start..row.within.end)?;
     let mut slots = slots(alloc, row.asks)?;
     tree.run(alloc, &mut slots);
     Ok(outcome(alloc, &slots, tree.root())?)
@@ -112,8 +111,7 @@ fn run_on_a_numbered_tree(alloc: Global, row: &Row) -> Result<String, DrawingErr
 
 /// Serves one request after the other on a tree that is kept numbered.
 fn serve_each(alloc: Global, row: &Row) -> Result<String, DrawingError> {
-    let root = numbered(alloc, row.tree, row.within.start..row.within.end)?;
-    let mut tree = NumberedTree::from_numbered(root).map_err(|_| DrawingError::Numbers)?;
+    let mut tree = kept(alloc, row.tree, row.within.start..row.within.end)?;
     let mut slots = Vec::new(alloc);
     for ask in row.asks {
         slots.push(Slot::Told(match request(alloc, ask)? {
