@@ -1,3 +1,4 @@
+use crate::rows::assert_text;
 use crate::trees::view;
 use std::alloc::{AllocError, Global};
 use std::test::Fail;
@@ -46,11 +47,25 @@ fn bound<'a>(
     it: As,
 ) -> Result<Vec<of::Ident<'a>>, AllocError> {
     match it {
-        As::LetBinding => view::<of::LetBinding>(tree).kind().bindings(alloc),
+        As::LetBinding => bound_by_let(alloc, view(tree)),
         As::Destructuring => view::<of::Destructuring>(tree).bindings(alloc),
         As::Pattern => view::<Pattern>(tree).bindings(alloc),
-        As::Grouped => Pattern::Normal(Expr::Parenthesized(view(tree))).bindings(alloc),
+        As::Grouped => bound_by_group(alloc, view(tree)),
     }
+}
+
+fn bound_by_let<'a>(
+    alloc: Global,
+    binding: of::LetBinding<'a>,
+) -> Result<Vec<of::Ident<'a>>, AllocError> {
+    binding.kind().bindings(alloc)
+}
+
+fn bound_by_group<'a>(
+    alloc: Global,
+    group: of::Parenthesized<'a>,
+) -> Result<Vec<of::Ident<'a>>, AllocError> {
+    Pattern::Normal(Expr::Parenthesized(group)).bindings(alloc)
 }
 
 /// What is shown, a drawing, what its tree is viewed as, or the placeholder of that where nothing is drawn, and
@@ -87,7 +102,7 @@ fn names_of(alloc: Global, drawing: &str, it: As) -> Result<String, DrawingError
 fn bindings_and_patterns_bind_names_in_order(rt: HostRuntime) -> Result<(), Fail> {
     for (shows, drawing, it, wanted) in &BOUND {
         let said = names_of(rt.alloc(), drawing, *it)?;
-        assert_eq!(rt; said.as_str(), *wanted, "{shows}");
+        assert_text(&rt, shows, &said, wanted);
     }
     Ok(())
 }

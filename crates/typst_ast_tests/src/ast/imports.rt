@@ -1,3 +1,4 @@
+use crate::rows::{assert_row, assert_text};
 use crate::trees::view;
 use std::alloc::{AllocError, Global};
 use std::test::Fail;
@@ -24,7 +25,7 @@ const STEMS: [(&str, Option<&str>); 14] = [
 #[test]
 fn stems_of_files(rt: HostRuntime) {
     for (path, stem) in &STEMS {
-        assert!(rt; file_stem(path) == *stem, "{path}");
+        assert_row(&rt, path, file_stem(path) == *stem);
     }
 }
 
@@ -140,7 +141,7 @@ fn named_by(
 fn a_source_names_its_module(rt: HostRuntime) -> Result<(), Fail> {
     for (shows, drawing, fits, package, wanted) in &NAMED {
         let said = named_by(rt.alloc(), drawing, *fits, *package)?;
-        assert_eq!(rt; said.as_str(), *wanted, "{shows}");
+        assert_text(&rt, shows, &said, wanted);
     }
     Ok(())
 }

@@ -1,4 +1,5 @@
 // Lists that are read from both ends.
+use crate::rows::assert_text;
 use crate::trees::{shown, view};
 use std::alloc::{AllocError, Global};
 use std::fmt::Debug;
@@ -102,7 +103,7 @@ fn taken(alloc: Global, drawing: &str, ends: &str) -> Result<String, DrawingErro
 fn lists_are_read_from_both_ends(rt: HostRuntime) -> Result<(), Fail> {
     for (shows, drawing, ends, wanted) in &TAKEN {
         let said = taken(rt.alloc(), drawing, ends)?;
-        assert_eq!(rt; said.as_str(), *wanted, "{shows}");
+        assert_text(&rt, shows, &said, wanted);
     }
     Ok(())
 }

@@ -1,7 +1,7 @@
 //! Trees that no parser makes: inner nodes without children, of kinds that are leaves or always have some.
+use crate::rows::{assert_row, assert_text, assert_told};
 use crate::trees::{is_missing, view};
 use std::alloc::{AllocError, Global};
-use std::fmt::Debug;
 use std::test::Fail;
 use typst_ast::{Expr, views as of};
 use typst_atoms::{ImportItem, views as atoms};
@@ -48,12 +48,7 @@ const AFTER_HASH: [SyntaxKind; 20] = [
 const EXPRESSIONS: usize = 60;
 
 /// Whether a node's view is of the node's kind, and shows its name.
-fn is_named<'a, T: AstNode<'a> + Debug>(
-    alloc: Global,
-    node: &'a SyntaxNode,
-) -> Result<bool, AllocError> {
-    let view = view::<T>(Some(node));
-    let kind = node.kind();
+fn is_named(alloc: Global, view: Expr, kind: SyntaxKind) -> Result<bool, AllocError> {
     let name = format!(in alloc; "{kind:?}(")?;
     let shown = format!(in alloc; "{view:?}")?;
     Ok(view.kind() == kind && shown.as_str().starts_with(name.as_str()))
@@ -76,15 +71,12 @@ fn expressions_without_children_are_told_by_their_kinds(rt: HostRuntime) -> Resu
         let is_literal = LITERALS.contains(&kind);
         let after_hash = is_literal || AFTER_HASH.contains(&kind);
         if node.is::<Expr>() {
-            assert!(rt; is_named::<Expr>(rt.alloc(), &node)?, "kind {raw}");
-            assert_eq!(rt;
-                told(view(Some(&node))),
-                (is_literal, after_hash),
-                "kind {raw}"
-            );
+            let expr: Expr = view(Some(&node));
+            assert_row(&rt, kind.name(), is_named(rt.alloc(), expr, kind)?);
+            assert_told(&rt, raw, told(expr), (is_literal, after_hash));
             count = count.saturating_add(1);
         } else {
-            assert!(rt; !after_hash, "kind {raw}");
+            assert_row(&rt, kind.name(), !after_hash);
         }
     }
     assert_eq!(rt; count, EXPRESSIONS);
@@ -141,7 +133,7 @@ fn views_without_accessors_view_nodes_without_children(rt: HostRuntime) -> Resul
     for kind in kinds {
         if !kind.is_error() {
             let node = hollow(rt.alloc(), kind)?;
-            assert!(rt; is_viewed_by_kind(&node), "{kind:?}");
+            assert_row(&rt, kind.name(), is_viewed_by_kind(&node));
         }
     }
     Ok(())
@@ -201,10 +193,14 @@ fn last_item(node: &SyntaxNode) -> Option<(SyntaxKind, bool)> {
     }
 }
 
-/// The last item of a drawn list.
-fn last_drawn(alloc: Global, drawing: &str) -> Result<Option<(SyntaxKind, bool)>, DrawingError> {
+/// The name of the kind of the last item of a drawn list, if that is a node; `-` for none.
+fn last_drawn(alloc: Global, drawing: &str) -> Result<&'static str, DrawingError> {
     let list = drawn(alloc, drawing)?;
-    Ok(last_item(&list))
+    Ok(match last_item(&list) {
+        Some((kind, true)) => kind.name(),
+        Some((_, false)) => "no node",
+        None => "-",
+    })
 }
 
 /// Lists of one node without children, and the kind of that node.
@@ -247,11 +243,11 @@ const EMPTY: [&str; 11] = [
 fn lists_end_in_nodes_without_children(rt: HostRuntime) -> Result<(), Fail> {
     for (drawing, below) in &LISTS {
         let last = last_drawn(rt.alloc(), drawing)?;
-        assert_eq!(rt; last, Some((*below, true)), "{drawing}");
+        assert_text(&rt, drawing, last, below.name());
     }
     for drawing in &EMPTY {
         let last = last_drawn(rt.alloc(), drawing)?;
-        assert!(rt; last.is_none(), "{drawing}");
+        assert_text(&rt, drawing, last, "-");
     }
     Ok(())
 }

@@ -1,4 +1,4 @@
-use crate::rows::{assert_all, assert_texts};
+use crate::rows::{assert_all, assert_texts, assert_told};
 use crate::trees::{cast, got, is_missing};
 use std::alloc::Global;
 use std::test::Fail;
@@ -183,7 +183,7 @@ fn operators_are_the_kinds_of_the_named_sets(rt: HostRuntime) {
     for number in 0..=u8::MAX {
         if let Some(kind) = SyntaxKind::from_u8(number) {
             let (is_binary, is_unary) = is_operator(kind);
-            assert_eq!(rt; is_in_sets(kind), (is_binary, is_unary), "{number}");
+            assert_told(&rt, number, is_in_sets(kind), (is_binary, is_unary));
             binary = binary.saturating_add(u8::from(is_binary));
             unary = unary.saturating_add(u8::from(is_unary));
         }

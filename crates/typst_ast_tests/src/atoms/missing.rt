@@ -1,4 +1,4 @@
-use crate::rows::assert_all;
+use crate::rows::{assert_all, assert_row};
 use crate::trees::{cast, is_missing};
 use std::test::Fail;
 use typst_atoms::{ImportItem, views as of};
@@ -26,7 +26,7 @@ fn views_without_accessors_have_their_kinds(rt: HostRuntime) {
             SyntaxKind::LoopContinue,
         ),
     ] {
-        assert!(rt; kind == wanted, "{wanted:?}");
+        assert_row(&rt, wanted.name(), kind == wanted);
     }
 }
 

@@ -1,6 +1,7 @@
 // What is read of leaves' texts.
 use std::alloc::Global;
 use std::fmt::Display;
+use std::process::Abort;
 use std::test::Fail;
 use typst_atoms::{MathTextKind, views as of};
 use typst_base::SyntaxKind;
@@ -270,12 +271,16 @@ fn read(alloc: Global, kind: SyntaxKind, text: &str) -> Result<String, Fail> {
     Ok(reading(alloc, &leaf).ok_or("no reading")?)
 }
 
+fn assert_reading(rt: &impl Abort, kind: SyntaxKind, text: &str, said: &str, wanted: &str) {
+    assert_eq!(rt; said, wanted, "{kind:?} {text}");
+}
+
 #[test]
 fn leaves_are_read(rt: HostRuntime) -> Result<(), Fail> {
     for (kind, rows) in &READINGS {
         for (text, wanted) in *rows {
             let said = read(rt.alloc(), *kind, text)?;
-            assert_eq!(rt; said.as_str(), *wanted, "{kind:?} {text}");
+            assert_reading(&rt, *kind, text, &said, wanted);
         }
     }
     Ok(())
