@@ -61,19 +61,25 @@ fn binding_of(
     Ok(None)
 }
 
+/// The path of a node that is a name, and no label.
+fn use_at(alloc: Global, node: &LinkedNode, name: &str) -> Result<Option<Vec<usize>>, AllocError> {
+    let is_label = node
+        .parent()
+        .is_some_and(|parent| is_label(parent.get(), node.index()));
+    if node.get().kind() != SyntaxKind::Ident || node.get().leaf_text() != name || is_label {
+        return Ok(None);
+    }
+    Ok(Some(node.path(alloc)?))
+}
+
 /// The paths of the names that belong to the first let binding of a name.
 fn uses(alloc: Global, root: &SyntaxNode, name: &str) -> Result<Vec<Vec<usize>>, AllocError> {
     let mut paths = Vec::new(alloc);
     let mut wanted = None;
     for node in LinkedNode::new(root).preorder(alloc)? {
-        let node = node?;
-        let is_label = node
-            .parent()
-            .is_some_and(|parent| is_label(parent.get(), node.index()));
-        if node.get().kind() != SyntaxKind::Ident || node.get().leaf_text() != name || is_label {
+        let Some(path) = use_at(alloc, &node?, name)? else {
             continue;
-        }
-        let path = node.path(alloc)?;
+        };
         let binding = binding_of(alloc, root, &path, name)?;
         if wanted.is_none() {
             wanted = binding;
