@@ -80,32 +80,34 @@ fn replays_the_vectors(rt: HostRuntime) -> Result<(), Fail> {
     Ok(())
 }
 
+/// What is shown, a script, and what it prints.
+const BUILT: [(&str, &[u8], &[u8]); 5] = [
+    ("numbered", NUMBERED, NUMBERED_SHOWN),
+    (
+        "two blanks a level, however deep",
+        b"leaf 6 a\ninner 5 1\ninner 5 1\ninner 5 1\ninner 5 1\ninner 5 1\nroot\nshow\n",
+        b"5 1 0 1\n  5 1 0 1\n    5 1 0 1\n      5 1 0 1\n        5 1 0 1\n          6 1 2 1 a\n",
+    ),
+    (
+        "a new tree is detached",
+        b"leaf 6 ab\nleaf 6 c\ninner 5 2\nroot\nshow\n",
+        b"5 1 0 3\n  6 1 2 2 ab\n  6 1 2 1 c\n",
+    ),
+    (
+        "fewer numbers than nodes, and an empty range, change nothing",
+        b"leaf 6 ab\nleaf 6 c\ninner 5 2\nroot\nnumber 1 2 4\nnumber 1 14 2\nshow\n",
+        b"refused\nrefused\n5 1 0 3\n  6 1 2 2 ab\n  6 1 2 1 c\n",
+    ),
+    (
+        "a first number past all is refused, and not bad",
+        b"leaf 6 ab\nroot\nnumber 1 140737488355329 14\nshow\n",
+        b"refused\n6 1 2 2 ab\n",
+    ),
+];
+
 #[test]
 fn shows_what_was_built(rt: HostRuntime) -> Result<(), Fail> {
-    let cases: [(&str, &[u8], &[u8]); 5] = [
-        ("numbered", NUMBERED, NUMBERED_SHOWN),
-        (
-            "two blanks a level, however deep",
-            b"leaf 6 a\ninner 5 1\ninner 5 1\ninner 5 1\ninner 5 1\ninner 5 1\nroot\nshow\n",
-            b"5 1 0 1\n  5 1 0 1\n    5 1 0 1\n      5 1 0 1\n        5 1 0 1\n          6 1 2 1 a\n",
-        ),
-        (
-            "a new tree is detached",
-            b"leaf 6 ab\nleaf 6 c\ninner 5 2\nroot\nshow\n",
-            b"5 1 0 3\n  6 1 2 2 ab\n  6 1 2 1 c\n",
-        ),
-        (
-            "fewer numbers than nodes, and an empty range, change nothing",
-            b"leaf 6 ab\nleaf 6 c\ninner 5 2\nroot\nnumber 1 2 4\nnumber 1 14 2\nshow\n",
-            b"refused\nrefused\n5 1 0 3\n  6 1 2 2 ab\n  6 1 2 1 c\n",
-        ),
-        (
-            "a first number past all is refused, and not bad",
-            b"leaf 6 ab\nroot\nnumber 1 140737488355329 14\nshow\n",
-            b"refused\n6 1 2 2 ab\n",
-        ),
-    ];
-    for (shows, script, stdout) in &cases {
+    for (shows, script, stdout) in &BUILT {
         let got = outcome_of(rt.alloc(), script)?;
         assert_bytes(&rt, shows, &got.stdout, stdout);
         assert_text(&rt, shows, &got.stderr, "");
@@ -114,56 +116,58 @@ fn shows_what_was_built(rt: HostRuntime) -> Result<(), Fail> {
     Ok(())
 }
 
+/// Scripts with a bad line, and the text that names it.
+const BAD: [(&[u8], &str); 23] = [
+    // No path, no tree, no node to warn of, too few nodes, and numbers that no node has.
+    (b"replace 0..1 0 0 0\n", "line 1: bad command\n"),
+    (b"replace -0 0 0 0\n", "line 1: bad command\n"),
+    (b"replace .0 0 0 0\n", "line 1: bad command\n"),
+    (b"run\n", "line 1: bad command\n"),
+    (b"warn w\n", "line 1: bad command\n"),
+    (b"leaf 6 a\nreplace - 0 0 2\n", "line 2: bad command\n"),
+    (b"find 1 140737488355328\n", "line 1: bad command\n"),
+    (b"leaf 6 x\ninner 5 2\n", "line 2: bad command\n"),
+    // Lines count from 1, the empty ones too.
+    (b"\n\nleaf 6 a\n\n\ngrow\n", "line 6: bad command\n"),
+    // Numbers that no node has, and no file.
+    (
+        b"leaf 6 ab\nleaf 6 c\ninner 5 2\nroot\nnumber 1 1 14\n",
+        "line 5: bad command\n",
+    ),
+    (
+        b"leaf 6 ab\nleaf 6 c\ninner 5 2\nroot\nnumber 0 2 14\n",
+        "line 5: bad command\n",
+    ),
+    (
+        b"leaf 6 ab\nleaf 6 c\ninner 5 2\nroot\nnumber 65536 2 14\n",
+        "line 5: bad command\n",
+    ),
+    (b"leaf 6 a\nroot\nnumber 1 1 14\n", "line 3: bad command\n"),
+    (b"leaf 6 a\nroot\nnumber 0 2 14\n", "line 3: bad command\n"),
+    (
+        b"leaf 6 a\nroot\nnumber 65536 2 14\n",
+        "line 3: bad command\n",
+    ),
+    // A sign, and no digits.
+    (b"leaf +6 a\n", "line 1: bad command\n"),
+    (b"leaf 6 a\ninner 5 \n", "line 2: bad command\n"),
+    // Too few words, and too many.
+    (b"inner 5\n", "line 1: bad command\n"),
+    (b"leaf 6 a\nroot\nnumber 1 2\n", "line 3: bad command\n"),
+    (
+        b"leaf 6 a\nroot\nnumber 1 2 14 3\n",
+        "line 3: bad command\n",
+    ),
+    // No command, and a blank line that isn't empty.
+    (b"grow\n", "line 1: bad command\n"),
+    (b" \n", "line 1: bad command\n"),
+    // A bad line before one that isn't UTF-8 is the one that counts.
+    (b"root\n\xff\n", "line 1: bad command\n"),
+];
+
 #[test]
 fn names_the_bad_line(rt: HostRuntime) -> Result<(), Fail> {
-    let cases: [(&[u8], &str); 23] = [
-        // No path, no tree, no node to warn of, too few nodes, and numbers that no node has.
-        (b"replace 0..1 0 0 0\n", "line 1: bad command\n"),
-        (b"replace -0 0 0 0\n", "line 1: bad command\n"),
-        (b"replace .0 0 0 0\n", "line 1: bad command\n"),
-        (b"run\n", "line 1: bad command\n"),
-        (b"warn w\n", "line 1: bad command\n"),
-        (b"leaf 6 a\nreplace - 0 0 2\n", "line 2: bad command\n"),
-        (b"find 1 140737488355328\n", "line 1: bad command\n"),
-        (b"leaf 6 x\ninner 5 2\n", "line 2: bad command\n"),
-        // Lines count from 1, the empty ones too.
-        (b"\n\nleaf 6 a\n\n\ngrow\n", "line 6: bad command\n"),
-        // Numbers that no node has, and no file.
-        (
-            b"leaf 6 ab\nleaf 6 c\ninner 5 2\nroot\nnumber 1 1 14\n",
-            "line 5: bad command\n",
-        ),
-        (
-            b"leaf 6 ab\nleaf 6 c\ninner 5 2\nroot\nnumber 0 2 14\n",
-            "line 5: bad command\n",
-        ),
-        (
-            b"leaf 6 ab\nleaf 6 c\ninner 5 2\nroot\nnumber 65536 2 14\n",
-            "line 5: bad command\n",
-        ),
-        (b"leaf 6 a\nroot\nnumber 1 1 14\n", "line 3: bad command\n"),
-        (b"leaf 6 a\nroot\nnumber 0 2 14\n", "line 3: bad command\n"),
-        (
-            b"leaf 6 a\nroot\nnumber 65536 2 14\n",
-            "line 3: bad command\n",
-        ),
-        // A sign, and no digits.
-        (b"leaf +6 a\n", "line 1: bad command\n"),
-        (b"leaf 6 a\ninner 5 \n", "line 2: bad command\n"),
-        // Too few words, and too many.
-        (b"inner 5\n", "line 1: bad command\n"),
-        (b"leaf 6 a\nroot\nnumber 1 2\n", "line 3: bad command\n"),
-        (
-            b"leaf 6 a\nroot\nnumber 1 2 14 3\n",
-            "line 3: bad command\n",
-        ),
-        // No command, and a blank line that isn't empty.
-        (b"grow\n", "line 1: bad command\n"),
-        (b" \n", "line 1: bad command\n"),
-        // A bad line before one that isn't UTF-8 is the one that counts.
-        (b"root\n\xff\n", "line 1: bad command\n"),
-    ];
-    for (script, stderr) in &cases {
+    for (script, stderr) in &BAD {
         let got = outcome_of(rt.alloc(), script)?;
         assert_text(&rt, stderr, &got.stderr, stderr);
         assert_bytes(&rt, stderr, &got.stdout, b"");
@@ -334,60 +338,62 @@ fn a_writer_may_fail_in_mid_run(rt: HostRuntime) -> Result<(), Fail> {
     Ok(())
 }
 
+/// What is shown, a script, what it prints, and how it ends: the text on standard error and the status.
+const ANSWERED: [(&str, &[u8], &[u8], &str, u8); 7] = [
+    (
+        "nodes two and three levels below the root",
+        b"leaf 55 *\nleaf 6 b\ninner 5 1\nleaf 55 *\ninner 13 3\nleaf 6 c\ninner 5 2\nroot\nnumber 1 2 30\nfind 1 6\nfind 1 7\nfind 1 8\nrun\n",
+        b"found 0.1 offset 1\nfound 0.1.0 offset 1\nfound 0.2 offset 2\n",
+        "",
+        0,
+    ),
+    (
+        "refusals, and a removal between them",
+        b"leaf 6 a\ninner 5 1\nroot\nnumber 1 2 4\nleaf 6 z\nreplace - 0 1 1\nreplace - 0 1 0\nleaf 6 z\nreplace - 0 0 1\nfind 1 3\nrun\nshow\n",
+        b"refused\ndone window 0..0 tried 1\nrefused\nnot found\n5 2 4 0\n",
+        "",
+        0,
+    ),
+    (
+        "a replacement, and a search after it",
+        b"leaf 6 ab\nleaf 6 c\ninner 5 2\nroot\nnumber 1 2 14\nshow\nleaf 6 x\nreplace - 1 1 1\nfind 1 6\nrun\n",
+        b"5 3 14 3\n  6 5 6 2 ab\n  6 7 8 1 c\ndone window 0..3 tried 2\nfound 2 offset 3\n",
+        "",
+        0,
+    ),
+    (
+        "a search reads numbers alone, and not the file",
+        b"leaf 6 ab\nleaf 6 c\ninner 5 2\nroot\nnumber 1 2 14\nfind 1 7\nfind 2 7\nfind 1 6\nfind 1 3\nrun\n",
+        b"found 1 offset 2\nfound 1 offset 2\nnot found\nfound - offset 0\n",
+        "",
+        0,
+    ),
+    (
+        "a tree that isn't numbered serves nothing",
+        b"leaf 6 ab\nleaf 6 c\ninner 5 2\nroot\nnumber 1 2 4\nrun\n",
+        b"refused\n",
+        "line 6: bad command\n",
+        2,
+    ),
+    (
+        "an error and a warning",
+        b"error m\t#\ninner 13 1\nwarn w\nleaf 6 c\ninner 5 2\nroot\nnumber 1 2 18\nshow\nleaf 6 b\nreplace 0 0 1 1\nrun\n",
+        b"5 3 18 2\n  13 4 8 1\n    1 5 6 1 #\n  6 9 10 1 c\ndone window 0..1 tried 1\n",
+        "",
+        0,
+    ),
+    (
+        "four replacements and a search",
+        EDITED,
+        EDITED_SHOWN,
+        "",
+        0,
+    ),
+];
+
 #[test]
 fn answers_replacements_and_searches(rt: HostRuntime) -> Result<(), Fail> {
-    let cases: [(&str, &[u8], &[u8], &str, u8); 7] = [
-        (
-            "nodes two and three levels below the root",
-            b"leaf 55 *\nleaf 6 b\ninner 5 1\nleaf 55 *\ninner 13 3\nleaf 6 c\ninner 5 2\nroot\nnumber 1 2 30\nfind 1 6\nfind 1 7\nfind 1 8\nrun\n",
-            b"found 0.1 offset 1\nfound 0.1.0 offset 1\nfound 0.2 offset 2\n",
-            "",
-            0,
-        ),
-        (
-            "refusals, and a removal between them",
-            b"leaf 6 a\ninner 5 1\nroot\nnumber 1 2 4\nleaf 6 z\nreplace - 0 1 1\nreplace - 0 1 0\nleaf 6 z\nreplace - 0 0 1\nfind 1 3\nrun\nshow\n",
-            b"refused\ndone window 0..0 tried 1\nrefused\nnot found\n5 2 4 0\n",
-            "",
-            0,
-        ),
-        (
-            "a replacement, and a search after it",
-            b"leaf 6 ab\nleaf 6 c\ninner 5 2\nroot\nnumber 1 2 14\nshow\nleaf 6 x\nreplace - 1 1 1\nfind 1 6\nrun\n",
-            b"5 3 14 3\n  6 5 6 2 ab\n  6 7 8 1 c\ndone window 0..3 tried 2\nfound 2 offset 3\n",
-            "",
-            0,
-        ),
-        (
-            "a search reads numbers alone, and not the file",
-            b"leaf 6 ab\nleaf 6 c\ninner 5 2\nroot\nnumber 1 2 14\nfind 1 7\nfind 2 7\nfind 1 6\nfind 1 3\nrun\n",
-            b"found 1 offset 2\nfound 1 offset 2\nnot found\nfound - offset 0\n",
-            "",
-            0,
-        ),
-        (
-            "a tree that isn't numbered serves nothing",
-            b"leaf 6 ab\nleaf 6 c\ninner 5 2\nroot\nnumber 1 2 4\nrun\n",
-            b"refused\n",
-            "line 6: bad command\n",
-            2,
-        ),
-        (
-            "an error and a warning",
-            b"error m\t#\ninner 13 1\nwarn w\nleaf 6 c\ninner 5 2\nroot\nnumber 1 2 18\nshow\nleaf 6 b\nreplace 0 0 1 1\nrun\n",
-            b"5 3 18 2\n  13 4 8 1\n    1 5 6 1 #\n  6 9 10 1 c\ndone window 0..1 tried 1\n",
-            "",
-            0,
-        ),
-        (
-            "four replacements and a search",
-            EDITED,
-            EDITED_SHOWN,
-            "",
-            0,
-        ),
-    ];
-    for (shows, script, stdout, stderr, status) in &cases {
+    for (shows, script, stdout, stderr, status) in &ANSWERED {
         let got = outcome_of(rt.alloc(), script)?;
         assert_bytes(&rt, shows, &got.stdout, stdout);
         assert_text(&rt, shows, &got.stderr, stderr);
