@@ -1,4 +1,5 @@
 // The lines of replies.
+use crate::asserting::assert_bytes;
 use std::alloc::Global;
 use std::test::Fail;
 use typst_script::reply::print_replies;
@@ -16,29 +17,41 @@ fn line_of(alloc: Global, reply: Reply) -> Result<Vec<u8>, Fail> {
     Ok(out)
 }
 
+/// Replies without a path, and their lines.
+const TOLD: [(Reply, &str); 7] = [
+    (
+        Reply::Renumbered(Renumbered {
+            window: 0..3,
+            tried: 2,
+        }),
+        "done window 0..3 tried 2\n",
+    ),
+    (Reply::Misfit, "misfit\n"),
+    (Reply::Refused(ReplaceError::Unnumberable), "refused\n"),
+    (Reply::Refused(ReplaceError::Overflow), "overflow\n"),
+    (Reply::Refused(ReplaceError::Memory), "no memory\n"),
+    (Reply::NotFound { looks: 3 }, "not found\n"),
+    (Reply::NoMemory, "no memory\n"),
+];
+
+/// Paths and offsets of nodes that were found, and the lines.
+const FOUND: [(&[usize], usize, &str); 4] = [
+    (&[], 0, "found - offset 0\n"),
+    (&[7], 4, "found 7 offset 4\n"),
+    (&[0, 1], 1, "found 0.1 offset 1\n"),
+    (&[0, 1, 0], 1, "found 0.1.0 offset 1\n"),
+];
+
 #[test]
 fn prints_each_reply(rt: HostRuntime) -> Result<(), Fail> {
     let alloc = rt.alloc();
-    let renumbered = Renumbered {
-        window: 0..3,
-        tried: 2,
-    };
-    let cases = [
-        (Reply::Renumbered(renumbered), "done window 0..3 tried 2\n"),
-        (Reply::Misfit, "misfit\n"),
-        (Reply::Refused(ReplaceError::Unnumberable), "refused\n"),
-        (Reply::Refused(ReplaceError::Overflow), "overflow\n"),
-        (Reply::Refused(ReplaceError::Memory), "no memory\n"),
-        (found(alloc, &[], 0)?, "found - offset 0\n"),
-        (found(alloc, &[7], 4)?, "found 7 offset 4\n"),
-        (found(alloc, &[0, 1], 1)?, "found 0.1 offset 1\n"),
-        (found(alloc, &[0, 1, 0], 1)?, "found 0.1.0 offset 1\n"),
-        (Reply::NotFound { looks: 3 }, "not found\n"),
-        (Reply::NoMemory, "no memory\n"),
-    ];
-    for (reply, wanted) in cases {
-        let line = line_of(alloc, reply)?;
-        assert_eq!(rt; line.as_slice(), wanted.as_bytes());
+    for (reply, wanted) in &TOLD {
+        let line = line_of(alloc, reply.clone()?)?;
+        assert_bytes(&rt, wanted, &line, wanted.as_bytes());
+    }
+    for (path, offset, wanted) in &FOUND {
+        let line = line_of(alloc, found(alloc, path, *offset)?)?;
+        assert_bytes(&rt, wanted, &line, wanted.as_bytes());
     }
     Ok(())
 }
