@@ -9,7 +9,9 @@ use Rattle.typst_node.specs.Text.{content_text, own_text, joined, text, text_of_
 use Rattle.typst_node.specs.Count.{count, count_of_all}
 use Rattle.typst_node.specs.Diagnosis.{is_error_content, is_error, is_warned, has_error, has_warning}
 use Rattle.typst_node.specs.Plain.{unbounded, plain_label, plain_forest, plain}
-use Rattle.typst_node.specs.View.{ends_from, IsMeasured, IsKept, tree_of, below, shown_warnings}
+use Rattle.typst_node.specs.View.{IsMeasured, IsKept, tree_of, below, shown_warnings}
+use Rattle.typst_node.specs.ChildEnds.{ends_from, AreEnds}
+use Rattle.typst_node.proofs.Trees.{ends_alike}
 use Rattle.typst_node.specs.declared.node.Node.TheVariants.{Inner}
 use Rattle.typst_node.specs.declared.node.SyntaxNode.TheInside.{Inside}
 use Rattle.typst_base.specs.Span.{SpanParts, detached}
@@ -96,7 +98,7 @@ module _ (ts us : List Tree) (same : map plain ts ≡ map plain us) where
     descendants = descendants ∙ m.descendants ∙ ap (λ vs. suc (count_of_all vs)) were ∙ ap suc (sym same_count_of_all) ∙ ap (λ vs. suc (count_of_all vs)) (sym are);
     errors = ap (λ d. d.errors) diagnosis ∙ m.errors ∙ ap (λ vs. list_any is_error (preorder (forest vs))) were ∙ sym same_errors ∙ ap (λ vs. list_any is_error (preorder (forest vs))) (sym are);
     warnings = ap (λ d. d.warnings) diagnosis ∙ m.warnings ∙ ap (λ vs. list_any is_warned (preorder (forest vs))) were ∙ sym same_warnings ∙ ap (λ vs. list_any is_warned (preorder (forest vs))) (sym are);
-    ends = ends ∙ m.ends ∙ ap (ends_from 0) were ∙ sym (same_ends 0) ∙ ap (ends_from 0) (sym are);
+    ends = subst (AreEnds new.ends) (sym are) (ends_alike new.ends us ts (sym (same_ends 0)) (subst (λ es. AreEnds es us) (sym ends) (subst (AreEnds old.ends) were m.ends)));
   }
 
 -- an inner node, after a change of spans and bounds alone

@@ -1,5 +1,5 @@
 -- What is measured does not turn on labels, apart from texts, errors and whether there are warnings.
-use Rattle.std.proofs.Common.{◌≡◌, ℕ, suc, ◌+◌, ◌||◌, List, [], ◌∷◌, ◌++◌, length, map, refl, sym, ap, ◌∙◌}
+use Rattle.std.proofs.Common.{◌≡◌, ℕ, suc, ◌+◌, ◌||◌, List, [], ◌∷◌, ◌++◌, length, map, refl, sym, ap, subst, ◌∙◌}
 use Rattle.std.specs.List.{list_any}
 use Rattle.std.proofs.lemmas.List.{map-append}
 use Rattle.typst_node.specs.Tree.{Label, Forest, none, tree, Tree, forest}
@@ -7,7 +7,9 @@ use Rattle.typst_node.specs.Preorder.{preorder}
 use Rattle.typst_node.specs.Text.{own_text, joined, text, text_of_all}
 use Rattle.typst_node.specs.Count.{count_of_all}
 use Rattle.typst_node.specs.Diagnosis.{is_error, is_warned}
-use Rattle.typst_node.specs.View.{ends_from, IsMeasured}
+use Rattle.typst_node.specs.View.{IsMeasured}
+use Rattle.typst_node.specs.ChildEnds.{ends_from, AreEnds}
+use Rattle.typst_node.proofs.Trees.{ends_alike}
 use Rattle.typst_node.specs.declared.node.InnerNode.{InnerNode}
 
 abbrev pub relabelled_forest : (Label → Label) → Forest → Forest
@@ -88,5 +90,5 @@ module _ (change : Label → Label) (keeps : KeepsMeasures change) where
       descendants = descendants ∙ m.descendants ∙ ap (λ vs. suc (count_of_all vs)) were ∙ ap suc (sym same_count) ∙ ap (λ vs. suc (count_of_all vs)) (sym are);
       errors = ap (λ d. d.errors) diagnosis ∙ m.errors ∙ ap (λ vs. list_any is_error (preorder (forest vs))) were ∙ sym same_errors ∙ ap (λ vs. list_any is_error (preorder (forest vs))) (sym are);
       warnings = ap (λ d. d.warnings) diagnosis ∙ m.warnings ∙ ap (λ vs. list_any is_warned (preorder (forest vs))) were ∙ sym same_warnings ∙ ap (λ vs. list_any is_warned (preorder (forest vs))) (sym are);
-      ends = ends ∙ m.ends ∙ ap (ends_from 0) were ∙ sym (same_ends 0) ∙ ap (ends_from 0) (sym are);
+      ends = subst (AreEnds new.ends) (sym are) (ends_alike new.ends us ts (sym (same_ends 0)) (subst (λ es. AreEnds es us) (sym ends) (subst (AreEnds old.ends) were m.ends)));
     }

@@ -8,7 +8,8 @@ use Rattle.std.specs.List.{list_any, AllByRecursion, splice}
 use Rattle.typst_node.specs.Tree.{Label, Tree, forest}
 use Rattle.typst_node.specs.Preorder.{preorder}
 use Rattle.typst_node.specs.Text.{text, text_of_all}
-use Rattle.typst_node.specs.View.{ends_from}
+use Rattle.std.specs.Prelude.{Option, Some, None}
+use Rattle.typst_node.specs.ChildEnds.{ends_from, AreEnds, HavePlace, AreStale}
 use Rattle.typst_node.proofs.Trees.{length-text_of_all-cons, child_end_is, length_of_ends}
 use Rattle.typst_node.proofs.Opens.{length_text_append, splice_text, splice_count}
 use Rattle.typst_node.specs.Count.{count_of_all}
@@ -123,15 +124,16 @@ drop_ends at (t ∷ ts) (suc n) h =
     drop_ends (at + length (text t)) ts n (omega arith)
     ∙ ap (λ m. ends_from m (drop n ts)) (let e : at + length (text t) + length (text_of_all (take n ts)) ≡ at + length (text_of_all (t ∷ take n ts)) = omega (arith, length-text_of_all-cons t (take n ts)) in e)
 
+-- the text of a beginning is that of a shorter one and of what follows it
+pub text_parts : (ts : List Tree) (from to : ℕ) → from ≤ to → length (text_of_all (take from ts)) + length (text_of_all (slice_range ts from to)) ≡ length (text_of_all (take to ts))
+text_parts ts from to order = sym (length_text_append (take from ts) (slice_range ts from to)) ∙ ap (λ us. length (text_of_all us)) (take_parts ts from to order)
+
 -- the ends before a place, and those after it
 pub ends_whole : (es tail : List ℕ) (ts : List Tree) (from to added : ℕ) → from ≤ to → to ≤ length ts → take to es ≡ take to (ends_from 0 ts) → added ≡ length (text_of_all (slice_range ts from to))
     → tail ≡ ends_from (length (text_of_all (take from ts)) + added) (drop to ts) → take to es ++ tail ≡ ends_from 0 ts
 ends_whole es tail ts from to added order inside same is left =
-    let parts : length (text_of_all (take from ts)) + added ≡ 0 + length (text_of_all (take to ts)) = omega (arith, text_parts) in
+    let parts : length (text_of_all (take from ts)) + added ≡ 0 + length (text_of_all (take to ts)) = omega (arith, text_parts ts from to order) in
     (λ i. same i ++ (left ∙ (ap (λ n. ends_from n (drop to ts)) parts ∙ sym (drop_ends 0 ts to inside))) i) ∙ take-append-drop to (ends_from 0 ts)
-  where
-    text_parts : length (text_of_all (take from ts)) + length (text_of_all (slice_range ts from to)) ≡ length (text_of_all (take to ts))
-    text_parts = sym (length_text_append (take from ts) (slice_range ts from to)) ∙ ap (λ us. length (text_of_all us)) (take_parts ts from to order)
 
 -- the ends of a beginning
 take_ends : (at n : ℕ) (ts : List Tree) → take n (ends_from at ts) ≡ ends_from at (take n ts)
@@ -170,12 +172,20 @@ slice_one xs i d h =
     let many : i + 1 - i ≡ 1 = omega arith in
     sym ((λ j. take (many j) (drop-cons xs i d h j)))
 
+-- where one child comes in the place of another, the ends have place for its own
+pub place_for_one : (kept : Option (List ℕ)) (ts : List Tree) (i : ℕ) → i < length ts → AreEnds kept ts → HavePlace i (i + 1) 1 kept ts
+place_for_one None ts i h few = omega arith
+place_for_one (Some ends) ts i h same = record {
+  len = omega (arith, ap length same, length_of_ends 0 ts);
+  before = ap (take i) same;
+  behind = ap (drop (i + 1)) same;
+}
+
 -- an inner node whose children were exchanged, and whose list of ends has place for theirs
 module _ (old new : InnerNode) (ys : List Tree) (from to : ℕ) (gone : Sums) (order : from ≤ to) (inside : to ≤ length old.children.items) (measured : IsMeasured old)
     (is_gone : AreSums gone (slice_range old.children.items from to)) (children : new.children.items ≡ splice old.children.items from to ys)
     (len : new.len ≡ old.len) (descendants : new.descendants ≡ old.descendants) (diagnosis : new.diagnosis ≡ old.diagnosis)
-    (ends : length new.ends + (to - from) ≡ length old.ends + length ys) (ends_before : take from new.ends ≡ take from old.ends)
-    (ends_behind : drop (from + length ys) new.ends ≡ drop to old.ends) where
+    (places : HavePlace from to (length ys) new.ends old.children.items) where
   front : take from new.children.items ≡ take from old.children.items
   front = ap (take from) children ∙ splice_front old.children.items ys from to order inside
 
@@ -192,6 +202,22 @@ module _ (old new : InnerNode) (ys : List Tree) (from to : ℕ) (gone : Sums) (o
       ∙ (or_comm (list_any p (preorder (forest (take from old.children.items ++ drop to old.children.items)))) (list_any p (preorder (forest (slice_range old.children.items from to))))
       ∙ (λ i. sym was_is i || list_any p (preorder (forest (sym front i ++ sym back i))))))
 
+  begins : length (text_of_all (take from new.children.items)) ≡ length (text_of_all (take from old.children.items)) → 0 + length (text_of_all (take to old.children.items)) ≡ length (text_of_all (take from new.children.items)) + gone.len
+  begins same = omega (arith, is_gone.len, sym (length_text_append (take from old.children.items) (slice_range old.children.items from to)), ap (λ us. length (text_of_all us)) (take_parts old.children.items from to order))
+
+  many : length new.children.items + (to - from) ≡ length old.children.items + length ys
+  many = omega (arith, ap length children, length_splice old.children.items ys from to order inside)
+
+  stale_ends : (kept : Option (List ℕ)) → HavePlace from to (length ys) kept old.children.items → AreStale from (from + length ys) gone.len kept new.children.items
+  stale_ends None few = omega (arith, many, few)
+  stale_ends (Some ends) place =
+      let text_front : length (text_of_all (take from new.children.items)) ≡ length (text_of_all (take from old.children.items)) = ap (λ ts. length (text_of_all ts)) front in
+      record {
+        many = omega (arith, many, place.len);
+        before = place.before ∙ (take_ends 0 from old.children.items ∙ (ap (ends_from 0) (sym front) ∙ sym (take_ends 0 from new.children.items)));
+        behind = place.behind ∙ (drop_ends 0 old.children.items to inside ∙ (λ i. ends_from (begins text_front i) (sym back i)));
+      }
+
   pub put_stale : IsStale from (from + length ys) gone new
   put_stale =
       let texts = splice_text old.children.items ys from to order in
@@ -200,17 +226,10 @@ module _ (old new : InnerNode) (ys : List Tree) (from to : ℕ) (gone : Sums) (o
       let count_in : count_of_all (slice_range new.children.items from (from + length ys)) ≡ count_of_all ys = ap count_of_all middle in
       let text_new : length (text_of_all new.children.items) ≡ length (text_of_all (splice old.children.items from to ys)) = ap (λ ts. length (text_of_all ts)) children in
       let count_new : count_of_all new.children.items ≡ count_of_all (splice old.children.items from to ys) = ap count_of_all children in
-      let text_front : length (text_of_all (take from new.children.items)) ≡ length (text_of_all (take from old.children.items)) = ap (λ ts. length (text_of_all ts)) front in
-      let many : length new.children.items ≡ length (splice old.children.items from to ys) = ap length children in
       record {
         len = omega (arith, texts, text_in, text_new, len, measured.len, is_gone.len);
         descendants = omega (arith, counts, count_in, count_new, descendants, measured.descendants, is_gone.descendants);
         errors = stale_any is_error new.diagnosis.errors gone.diagnosis.errors (ap (λ d. d.errors) diagnosis ∙ measured.errors) is_gone.errors;
         warnings = stale_any is_warned new.diagnosis.warnings gone.diagnosis.warnings (ap (λ d. d.warnings) diagnosis ∙ measured.warnings) is_gone.warnings;
-        ends = omega (arith, many, length_splice old.children.items ys from to order inside, ends, ap length measured.ends, length_of_ends 0 old.children.items);
-        ends_before = ends_before ∙ (ap (take from) measured.ends ∙ (take_ends 0 from old.children.items ∙ (ap (ends_from 0) (sym front) ∙ sym (take_ends 0 from new.children.items))));
-        ends_behind = ends_behind ∙ (ap (drop to) measured.ends ∙ (drop_ends 0 old.children.items to inside ∙ (λ i. ends_from (begins text_front i) (sym back i))));
+        ends = stale_ends new.ends places;
       }
-    where
-      begins : length (text_of_all (take from new.children.items)) ≡ length (text_of_all (take from old.children.items)) → 0 + length (text_of_all (take to old.children.items)) ≡ length (text_of_all (take from new.children.items)) + gone.len
-      begins same = omega (arith, is_gone.len, sym (length_text_append (take from old.children.items) (slice_range old.children.items from to)), ap (λ us. length (text_of_all us)) (take_parts old.children.items from to order))

@@ -1,19 +1,40 @@
--- How the ends of a node's children are kept.
-use Rattle.std.specs.Prelude.{ℕ, ◌≡◌, ◌≤◌, List, length, take}
-use Rattle.typst_node.specs.declared.child_ends.Kept.{Kept}
-use Rattle.typst_node.specs.declared.child_ends.Kept.TheVariants.{Few, Many}
+-- Where the texts of a node's children end, and what is kept of it.
+use Rattle.std.specs.Prelude.{ℕ, ◌≡◌, ◌+◌, ◌-◌, ◌≤◌, List, [], ◌∷◌, length, take, drop, Option, Some, None, Box}
+use Rattle.std.specs.Global.{Global}
+use Rattle.typst_node.specs.Tree.{Tree}
+use Rattle.typst_node.specs.Text.{text, text_of_all}
+
+-- where each tree's text ends, if the first begins at this place
+abbrev pub ends_from : ℕ → List Tree → List ℕ
+ends_from at [] = []
+ends_from at (t ∷ ts) = (at + length (text t)) ∷ ends_from (at + length (text t)) ts
 
 -- the ends as they are seen
-abbrev pub ends_kept : Kept → List ℕ
-ends_kept (Few count ends) = take count ends
-ends_kept (Many ends) = ends
+abbrev pub ends_kept : Option (Box (List ℕ) Global) → Option (List ℕ)
+ends_kept None = None
+ends_kept (Some ends) = Some ends.value
 
--- a few ends are no more than there is place for
-abbrev pub HasRoom : Kept → Type 0
-HasRoom (Few count ends) = (count ≤ 10) × (length ends ≡ 10)
-HasRoom (Many ends) = Unit {0}
+-- all ends are kept, or none of at most ten
+abbrev pub AreEnds : Option (List ℕ) → List Tree → Type 0
+AreEnds None ts = length ts ≤ 10
+AreEnds (Some ends) ts = ends ≡ ends_from 0 ts
 
--- the ends are kept as many
-abbrev pub IsMany : Kept → Type 0
-IsMany (Few count ends) = ⊥
-IsMany (Many ends) = Unit {0}
+-- there is a place for each of so many ends, where those of the trees of a range stood
+pub record HasPlace (from to many : ℕ) (ends : List ℕ) (ts : List Tree) : Type 0 where
+  pub len : length ends + (to - from) ≡ length ts + many
+  pub before : take from ends ≡ take from (ends_from 0 ts)
+  pub behind : drop (from + many) ends ≡ drop to (ends_from 0 ts)
+
+abbrev pub HavePlace : (from to many : ℕ) → Option (List ℕ) → List Tree → Type 0
+HavePlace from to many None ts = length ts - (to - from) + many ≤ 10
+HavePlace from to many (Some ends) ts = HasPlace from to many ends ts
+
+-- the ends are those of the trees, but for those of a range, of whose texts another length is counted
+pub record IsStaleList (from to gone : ℕ) (ends : List ℕ) (ts : List Tree) : Type 0 where
+  pub many : length ends ≡ length ts
+  pub before : take from ends ≡ take from (ends_from 0 ts)
+  pub behind : drop to ends ≡ ends_from (length (text_of_all (take from ts)) + gone) (drop to ts)
+
+abbrev pub AreStale : (from to gone : ℕ) → Option (List ℕ) → List Tree → Type 0
+AreStale from to gone None ts = length ts ≤ 10
+AreStale from to gone (Some ends) ts = IsStaleList from to gone ends ts

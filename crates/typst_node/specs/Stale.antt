@@ -6,7 +6,7 @@ use Rattle.typst_node.specs.Preorder.{preorder}
 use Rattle.typst_node.specs.Text.{text_of_all}
 use Rattle.typst_node.specs.Count.{count_of_all}
 use Rattle.typst_node.specs.Diagnosis.{is_error, is_warned}
-use Rattle.typst_node.specs.View.{ends_from}
+use Rattle.typst_node.specs.ChildEnds.{AreStale}
 use Rattle.typst_node.specs.declared.node.InnerNode.{InnerNode}
 use Rattle.typst_node.specs.declared.node.inner.Sums.{Sums}
 
@@ -16,6 +16,4 @@ pub record IsStale (from to : ℕ) (gone : Sums) (inner : InnerNode) : Type 0 wh
   pub descendants : inner.descendants + count_of_all (slice_range inner.children.items from to) ≡ count_of_all inner.children.items + gone.descendants
   pub errors : inner.diagnosis.errors ≡ (gone.diagnosis.errors || list_any is_error (preorder (forest (take from inner.children.items ++ drop to inner.children.items))))
   pub warnings : inner.diagnosis.warnings ≡ (gone.diagnosis.warnings || list_any is_warned (preorder (forest (take from inner.children.items ++ drop to inner.children.items))))
-  pub ends : length inner.ends ≡ length inner.children.items
-  pub ends_before : take from inner.ends ≡ take from (ends_from 0 inner.children.items)
-  pub ends_behind : drop to inner.ends ≡ ends_from (length (text_of_all (take from inner.children.items)) + gone.len) (drop to inner.children.items)
+  pub ends : AreStale from to gone.len inner.ends inner.children.items

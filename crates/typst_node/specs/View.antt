@@ -1,11 +1,12 @@
 -- What a node is seen as, and what is kept in it.
-use Rattle.std.specs.Prelude.{ℕ, ◌≡◌, ◌≢◌, ◌+◌, suc, List, [], ◌∷◌, length, map, reverse, string_bytes}
+use Rattle.std.specs.Prelude.{◌≡◌, ◌≢◌, suc, List, [], length, map, reverse, string_bytes}
 use Rattle.std.specs.List.{list_any}
 use Rattle.typst_base.specs.declared.kind.SyntaxKind.TheVariants as kinds
 use Rattle.typst_node.specs.Tree.{HintText, WarningText, Content, AsLeaf, AsError, AsInner, Tree, forest}
 use Rattle.typst_node.specs.Preorder.{preorder}
-use Rattle.typst_node.specs.Text.{text, text_of_all}
+use Rattle.typst_node.specs.Text.{text_of_all}
 use Rattle.typst_node.specs.Count.{count_of_all}
+use Rattle.typst_node.specs.ChildEnds.{AreEnds}
 use Rattle.typst_node.specs.Diagnosis.{is_error, is_warned}
 use Rattle.typst_node.specs.declared.node.Hint.{Hint}
 use Rattle.typst_node.specs.declared.node.Warning.{Warning}
@@ -50,18 +51,13 @@ tree_of a = record {
   children = forest (below a.node);
 }
 
--- where each tree's text ends, if the first begins at this place
-abbrev pub ends_from : ℕ → List Tree → List ℕ
-ends_from at [] = []
-ends_from at (t ∷ ts) = (at + length (text t)) ∷ ends_from (at + length (text t)) ts
-
 -- what an inner node keeps is what its children measure
 pub record IsMeasured (inner : InnerNode) : Type 0 where
   pub len : inner.len ≡ length (text_of_all inner.children.items)
   pub descendants : inner.descendants ≡ suc (count_of_all inner.children.items)
   pub errors : inner.diagnosis.errors ≡ list_any is_error (preorder (forest inner.children.items))
   pub warnings : inner.diagnosis.warnings ≡ list_any is_warned (preorder (forest inner.children.items))
-  pub ends : inner.ends ≡ ends_from 0 inner.children.items
+  pub ends : AreEnds inner.ends inner.children.items
 
 abbrev pub IsKept : Node → Type 0
 IsKept (Short kind text) = kind ≢ kinds.Error

@@ -23,7 +23,6 @@ pub use node::number::Unnumberable;
 pub use node::replace::{Renumbered, ReplaceError};
 
 pub mod ast_node;
-mod child_ends;
 pub mod diagnosis;
 mod ends;
 mod exchange;

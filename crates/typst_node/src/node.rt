@@ -1,22 +1,23 @@
 ghost use Rattle.std.specs.Slice.Iter.{iter_rest};
-ghost use Rattle.std.specs.Prelude.{◌≡◌, ◌+◌, ◌<◌, ◌==◌, ◌++◌, ◌↔◌, [], length, take, string_bytes, IfOk, OnOk, IsTrue};
+ghost use Rattle.std.specs.Prelude.{◌≡◌, ◌+◌, ◌^◌, ◌<◌, ◌≤◌, ◌==◌, ◌++◌, ◌↔◌, [], length, take, string_bytes, IfOk, OnOk, IsTrue};
 ghost use Rattle.typst_node.specs.Tree.{trees, kind_of, IsInner, IsLeaf};
 ghost use Rattle.typst_node.specs.Text.{text, own_text, text_of_all};
 ghost use Rattle.typst_node.specs.Count.{count};
 ghost use Rattle.typst_base.specs.declared.kind.SyntaxKind.TheVariants.{Error};
 ghost use Rattle.typst_node.specs.Diagnosis.{has_error, has_warning, is_error};
 ghost use Rattle.typst_node.specs.Labels.{bound};
-ghost use Rattle.typst_node.specs.View.{warnings_in};
+ghost use Rattle.typst_node.specs.View.{warnings_in, IsMeasured};
 
-use crate::child_ends::ChildEnds;
 use crate::diagnosis::Diagnosis;
+use crate::node::child_ends::ChildEnds;
 use crate::short_text::ShortText;
 use std::alloc::{AllocError, Global};
 use std::marker::Model;
-use std::slice;
+use std::{mem, slice};
 use typst_base::{Span, SubRange, SyntaxKind};
 
 pub mod build;
+mod child_ends;
 pub mod convert;
 pub mod copy;
 mod debug;
@@ -72,8 +73,7 @@ struct InnerNode {
     children: Vec<SyntaxNode>,
     // From the innermost to the outermost.
     warnings: Vec<Warning>,
-    // At each place the joined length of the children up to and with the one there. They stand last, since most calls
-    // read all but them.
+    // Where the texts of the children end, unless they are few.
     ends: ChildEnds,
 }
 
@@ -136,7 +136,68 @@ impl Model for SyntaxNode {
 impl Drop for SyntaxNode {
     #[cycle(drop_node)]
     fn drop(self) {
-        let SyntaxNode { node: _, span: _ } = self;
+        let SyntaxNode { node, span: _ } = self;
+        match node {
+            Node::Inner(_, mut inner) => {
+                let none = Vec::new(*inner.children.allocator());
+                mem::drop(mem::replace(&mut inner.children, none));
+                inner.let_go();
+            }
+            Node::Short(..) => {}
+            Node::Leaf(_, leaf) => leaf.let_go(),
+            Node::Error(error) => error.let_go(),
+        }
+    }
+}
+
+// What a box holds is taken out of it when it goes. These calls have that on their own stack, so that a level of a deep tree
+// takes less while it is dropped.
+impl InnerNode {
+    #[cycle(drop_node)]
+    #[inline(never)]
+    fn let_go(self: Box<Self>) {}
+}
+
+impl LeafNode {
+    #[inline(never)]
+    fn let_go(self: Box<Self>) {}
+}
+
+impl ErrorNode {
+    #[inline(never)]
+    fn let_go(self: Box<Self>) {}
+}
+
+/// The joined length of trees that fit a usize together.
+fn joined_len(nodes: &[SyntaxNode]) -> usize
+    requires { length (text_of_all nodes.now) < 2 ^ 64 }
+    ensures { result ≡ length (text_of_all nodes.now) }
+{
+    let mut len = 0;
+    for node in nodes {
+        len += node.len();
+    }
+    len
+}
+
+impl InnerNode {
+    /// Where the text of a child ends: it is read where it is kept, and else counted from where an earlier one begins or from
+    /// the end of all, whichever is nearer.
+    fn child_end(&self, first: usize, begin: usize, index: usize) -> usize
+        requires measured { IsMeasured self.now }
+        requires order { first ≤ index }
+        requires index { index < length self.now.children.items }
+        requires begin { begin ≡ length (text_of_all (take first self.now.children.items)) }
+        ensures { result ≡ length (text_of_all (take (index + 1) self.now.children.items)) }
+    {
+        let len = self.len;
+        match self.ends.get(index) {
+            Some(end) => end,
+            None if index - first < self.children.len() - index => {
+                begin + joined_len(&self.children[first..index + 1])
+            }
+            None => len - joined_len(&self.children[index + 1..]),
+        }
     }
 }
 
@@ -318,15 +379,30 @@ impl SyntaxNode {
     }
 
     /// Where the text of a child ends, in bytes from the beginning of this node's text: the joined length of the
-    /// children up to and with that one. `index` is a child index. It is one read in a node of up to ten children, and
-    /// takes one addition beside it from eleven on, two from 256 on, and three from 65,536 on.
-    #[tactic(auto, using(crate::proofs::Trees::trees_of_forest, crate::proofs::Trees::length_of_ends, crate::proofs::Trees::child_end_is))]
+    /// children up to and with that one. `index` is a child index. In a node of up to ten children it is counted from the
+    /// nearer end of the list, over at most five lengths. In one of more an end is read, with one addition, two from 256
+    /// children on, and three from 65,536 on.
+    #[tactic(auto, using(crate::proofs::Trees::trees_of_forest))]
     pub fn child_end(&self, index: usize) -> usize
         requires { index < length (trees self.now.children) }
         ensures { result ≡ length (text_of_all (take (index + 1) (trees self.now.children))) }
     {
+        self.child_end_after(0, 0, index)
+    }
+
+    /// The same, where it is known where the text of that child or of an earlier one begins: `first` is its child index, and
+    /// `begin` is in bytes from the beginning of this node's text, as `child_end(first - 1)` answers it, or 0 for the first. In a
+    /// node of up to ten children it is counted from there or from the end, whichever is nearer; in one of more it is read as by
+    /// `child_end`.
+    #[tactic(auto, using(crate::proofs::Trees::trees_of_forest))]
+    pub fn child_end_after(&self, first: usize, begin: usize, index: usize) -> usize
+        requires order { first ≤ index }
+        requires index { index < length (trees self.now.children) }
+        requires begin { begin ≡ length (text_of_all (take first (trees self.now.children))) }
+        ensures { result ≡ length (text_of_all (take (index + 1) (trees self.now.children))) }
+    {
         match &self.node {
-            Node::Inner(_, inner) => inner.ends.get(index),
+            Node::Inner(_, inner) => inner.child_end(first, begin, index),
             Node::Short(..) | Node::Leaf(..) | Node::Error(_) => unreachable!(),
         }
     }

@@ -2,14 +2,13 @@
 ghost use Rattle.std.specs.Prelude.{◌≡◌, ◌↔◌, length, MatchOption, IfSome, IfOk, OnOk, IsErrOf};
 ghost use Rattle.typst_node.specs.Count.{SumsFit};
 ghost use Rattle.typst_node.specs.Sums.{AreSums};
-ghost use Rattle.typst_node.specs.View.{ends_from};
+ghost use Rattle.typst_node.specs.ChildEnds.{ends_from, AreEnds};
 ghost use Rattle.typst_node.specs.declared.node.build.InnerError.TheVariants.{Overflow};
 
-use crate::child_ends::{ChildEnds, FEW};
 use crate::diagnosis::Diagnosis;
-use crate::ends::Ends;
 use crate::node::SyntaxNode;
 use crate::node::build::InnerError;
+use crate::node::child_ends::{ChildEnds, FEW};
 use std::alloc::{AllocError, Global};
 
 /// The sums of a list of children, with their parent counted in.
@@ -21,6 +20,7 @@ pub(crate) struct Sums {
 }
 
 /// Adds up the children, if the sums fit a usize.
+#[inline(always)]
 pub(crate) fn sums_of(children: &[SyntaxNode]) -> Option<Sums>
     ensures { MatchOption result (¬ (SumsFit children.now))
         (λ sums. SumsFit children.now × AreSums sums children.now) }
@@ -44,7 +44,7 @@ pub(crate) fn sums_of(children: &[SyntaxNode]) -> Option<Sums>
 }
 
 /// Adds up the children, and writes where the text of each ends, if the sums fit a usize.
-fn measure(children: &[SyntaxNode], ends: &mut [usize]) -> Option<Sums>
+pub(super) fn measure(children: &[SyntaxNode], ends: &mut [usize]) -> Option<Sums>
     requires { length ends.old ≡ length children.now }
     ensures sums { MatchOption result (¬ (SumsFit children.now))
         (λ sums. SumsFit children.now × AreSums sums children.now) }
@@ -79,22 +79,21 @@ fn zeros(alloc: Global, count: usize) -> Result<Vec<usize>, AllocError>
     Ok(zeros)
 }
 
-/// The sums of the children and where the text of each ends, in one walk. Where memory is refused, the sums alone tell which
-/// error it is.
+/// The sums of the children and where the text of each ends, in one walk; of few the sums alone. Where memory is refused, the
+/// sums alone tell which error it is.
 pub(crate) fn measured(
     alloc: Global,
     children: &[SyntaxNode],
 ) -> Result<(Sums, ChildEnds), InnerError>
     ensures sums { IfOk result (λ both. AreSums both.0 children.now) }
-    ensures ends { IfOk result (λ both. both.1 ≡ ends_from 0 children.now) }
+    ensures ends { IfOk result (λ both. AreEnds both.1 children.now) }
     ensures fits { OnOk result (SumsFit children.now) }
     ensures overflow { IsErrOf result Overflow ↔ ¬ (SumsFit children.now) }
 {
     let count = children.len();
     if count <= FEW {
-        let mut ends = [0; FEW];
-        let sums = measure(children, &mut ends[..count]).ok_or(InnerError::Overflow)?;
-        return Ok((sums, ChildEnds::few(count, ends)));
+        let sums = sums_of(children).ok_or(InnerError::Overflow)?;
+        return Ok((sums, ChildEnds::few()));
     }
     let Ok(mut ends) = zeros(alloc, count) else {
         return Err(match sums_of(children) {
@@ -103,5 +102,5 @@ pub(crate) fn measured(
         });
     };
     let sums = measure(children, &mut ends).ok_or(InnerError::Overflow)?;
-    Ok((sums, ChildEnds::many(Ends::new(ends)?)))
+    Ok((sums, ChildEnds::many(alloc, ends)?))
 }

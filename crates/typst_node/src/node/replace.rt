@@ -135,7 +135,7 @@ impl InnerNode {
         let many = others.len();
         self.make_room(many.saturating_sub(to - from))?;
         let alloc = *self.children.allocator();
-        self.ends.make_place(alloc, from, to, many)?;
+        self.ends.make_place(alloc, &self.children, from, to, many)?;
         exchange(&mut self.children, from, to, others)?;
         self.settle(from, from + many, &change.gone, &change.added);
         Ok(())

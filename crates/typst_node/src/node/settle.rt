@@ -6,11 +6,10 @@ ghost use Rattle.typst_node.specs.Preorder.{preorder};
 ghost use Rattle.typst_node.specs.Text.{text_of_all};
 ghost use Rattle.typst_node.specs.Count.{SumsFit};
 ghost use Rattle.typst_node.specs.Diagnosis.{is_error, is_warned};
-ghost use Rattle.typst_node.specs.View.{IsMeasured, ends_from};
+ghost use Rattle.typst_node.specs.View.{IsMeasured};
 ghost use Rattle.typst_node.specs.Sums.{AreSums};
 ghost use Rattle.typst_node.specs.Stale.{IsStale};
 
-use crate::child_ends::ChildEnds;
 use crate::diagnosis::Diagnosis;
 use crate::node::inner::Sums;
 use crate::node::{InnerNode, SyntaxNode};
@@ -63,48 +62,6 @@ fn diagnosis_after(
     }
 }
 
-/// Writes where the texts of the children from `from` up to `to` end, given where those before them do.
-fn write_ends(ends: &mut ChildEnds, children: &[SyntaxNode], from: usize, to: usize)
-    requires many { length ends.old ≡ length children.now }
-    requires window { from ≤ to }
-    requires inside { to ≤ length children.now }
-    requires fits { length (text_of_all children.now) < 2 ^ 64 }
-    requires before { take from ends.old ≡ take from (ends_from 0 children.now) }
-    ensures before { take to ends.new ≡ take to (ends_from 0 children.now) }
-    ensures behind { drop to ends.new ≡ drop to ends.old }
-{
-    let mut end = if from == 0 { 0 } else { ends.get(from - 1) };
-    for i in from..to {
-        end += children[i].len();
-        ends.set(i, end);
-    }
-}
-
-/// Writes where the texts of the children from `from` up to `to` end, and moves the ends after them by the
-/// difference of what stood there and what stands there now. After a change that keeps the length nothing is written.
-fn settle_ends(
-    ends: &mut ChildEnds,
-    children: &[SyntaxNode],
-    from: usize,
-    to: usize,
-    gone: usize,
-    added: usize,
-)
-    requires many { length ends.old ≡ length children.now }
-    requires window { from ≤ to }
-    requires inside { to ≤ length children.now }
-    requires fits { length (text_of_all children.now) < 2 ^ 64 }
-    requires added { added ≡ length (text_of_all (slice_range children.now from to)) }
-    requires before { take from ends.old ≡ take from (ends_from 0 children.now) }
-    requires behind { drop to ends.old ≡ ends_from (length (text_of_all (take from children.now)) + gone) (drop to children.now) }
-    ensures { ends.new ≡ ends_from 0 children.now }
-{
-    write_ends(ends, children, from, to);
-    if gone != added {
-        ends.shift(to, gone, added);
-    }
-}
-
 impl InnerNode {
     /// Corrects lengths, counts, diagnosis and ends after the children from `from` up to `to` came there: `gone` are
     /// the sums of those that are counted in their place, `added` are their own.
@@ -131,13 +88,7 @@ impl InnerNode {
             gone.diagnosis,
             added.diagnosis,
         );
-        settle_ends(
-            &mut self.ends,
-            &self.children,
-            from,
-            to,
-            gone.len,
-            added.len,
-        );
+        self.ends
+            .settle(&self.children, from, to, gone.len, added.len);
     }
 }

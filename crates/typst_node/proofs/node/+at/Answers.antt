@@ -13,7 +13,7 @@ use Rattle.std.specs.Prelude.{slice_range, IsTrue}
 use Rattle.typst_node.specs.Count.{count}
 use Rattle.typst_node.specs.Sums.{AreSums}
 use Rattle.typst_node.proofs.Trees.{count_at}
-use Rattle.typst_node.proofs.Settled.{set_splice, slice_one, put_stale}
+use Rattle.typst_node.proofs.Settled.{set_splice, slice_one, place_for_one, put_stale}
 use Rattle.typst_node.proofs.Edited.{inner_kids, inner_label}
 use Rattle.typst_node.proofs.PathsIn.{edit_below, edit_sums}
 use Rattle.typst_node.proofs.PathsAt.{frame_nil, frame_same, frame_cons, at_cons, fits_cons, fits_not, fits_after}
@@ -46,7 +46,8 @@ InnerNode::replace_in-settle-requires-clause-stale t c =
     let child = c.replace_below.new.self in
     let one : c.index.result.now ∷ [] ≡ slice_range items i (i + 1) = ap (λ x. x ∷ []) c.index.ensures ∙ slice_one items i c.index.result.now c.requires.index in
     put_stale c.args.self.now _ (child ∷ []) i (i + 1) c.sums_of_one-gone.result (omega arith) (omega (arith, c.requires.index)) c.requires.measured
-    (subst (λ (ts : List Tree). AreSums c.sums_of_one-gone.result ts) one c.sums_of_one-gone.ensures) (set_splice items i child c.requires.index) refl refl refl (omega arith) refl refl
+    (subst (λ (ts : List Tree). AreSums c.sums_of_one-gone.result ts) one c.sums_of_one-gone.ensures) (set_splice items i child c.requires.index) refl refl refl
+    (place_for_one c.args.self.now.ends items i c.requires.index c.requires.measured.ends)
 
 pub InnerNode::replace_in-settle-requires-clause-added : goal.InnerNode::replace_in-settle-requires-clause-added
 InnerNode::replace_in-settle-requires-clause-added t c =

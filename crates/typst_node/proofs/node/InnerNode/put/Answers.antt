@@ -1,21 +1,12 @@
-use Rattle.std.proofs.Common.{arith, ◌≡◌, ◌+◌, List, length, drop, ap, sym, refl, subst, ◌∙◌}
+use Rattle.std.proofs.Common.{arith, ◌≡◌, ◌+◌, List, length, ap, sym, refl, subst}
 use Rattle.std.specs.Prelude.{slice_range}
 use Rattle.typst_node.specs.Tree.{Tree}
 use Rattle.typst_node.specs.Sums.{AreSums}
 use Rattle.typst_node.specs.Stale.{IsStale}
 use Rattle.typst_node.specs.declared.node.InnerNode.{InnerNode}
-use Rattle.typst_node.proofs.Trees.{length_of_ends}
+use Rattle.typst_node.specs.ChildEnds.{HavePlace}
 use Rattle.typst_node.proofs.Settled.{put_stale}
 use Rattle.typst_node.proofs.node.InnerNode.put.Goals as goal
-
-pub make_place-requires-clause-inside : goal.make_place-requires-clause-inside
-make_place-requires-clause-inside c =
-    omega (arith, ap length c.make_room.ensures.measured.ends, length_of_ends 0 c.make_room.new.self.children.items, ap length c.make_room.ensures.children)
-
-pub make_place-requires-clause-fits : goal.make_place-requires-clause-fits
-make_place-requires-clause-fits c =
-    let list = c.make_room.new.self.children in
-    omega (arith, ap length c.make_room.ensures.measured.ends, length_of_ends 0 list.items, list.ok, list.small, c.args.others.ok, c.args.others.small)
 
 pub settle-requires-clause-stale : goal.settle-requires-clause-stale
 settle-requires-clause-stale c =
@@ -28,7 +19,6 @@ settle-requires-clause-stale c =
     let is_gone : AreSums gone (slice_range old.children.items from to) = subst (λ (ts : List Tree). AreSums gone (slice_range ts from to)) (sym same) c.requires.change.gone in
     let many : c.len-many.result ≡ length ys = omega arith in
     let new : InnerNode = record { len = old.len; descendants = old.descendants; diagnosis = old.diagnosis; upper = old.upper; warnings = old.warnings; children = c.exchange.new.items; ends = c.make_place.new.self } in
-    let behind : drop (from + length ys) new.ends ≡ drop to old.ends = ap (λ n. drop (from + n) new.ends) (sym many) ∙ c.in_ok-make_place.ensures.behind in
     subst (λ n. IsStale from (from + n) gone new) (sym many)
     (put_stale old new ys from to gone c.requires.window (omega (arith, ap length same)) c.make_room.ensures.measured is_gone c.in_ok-exchange.ensures.ok refl refl refl
-    (omega (arith, c.in_ok-make_place.ensures.len)) c.in_ok-make_place.ensures.before behind)
+    (subst (λ n. HavePlace from to n new.ends old.children.items) many (subst (λ (ts : List Tree). HavePlace from to c.len-many.result new.ends ts) c.deref.ensures.value c.in_ok-make_place.ensures.ok)))

@@ -1,9 +1,9 @@
-use Rattle.std.proofs.Common.{arith, ap, ◌∙◌}
+use Rattle.std.proofs.Common.{arith, ap, subst, ◌∙◌}
 use Rattle.std.specs.List.{list_any}
 use Rattle.typst_node.specs.Tree.{forest}
 use Rattle.typst_node.specs.Preorder.{preorder}
 use Rattle.typst_node.specs.Diagnosis.{is_error, is_warned}
-use Rattle.typst_node.specs.View.{ends_from}
+use Rattle.typst_node.specs.ChildEnds.{AreEnds}
 use Rattle.typst_node.proofs.Opens.{part_count, part_text}
 use Rattle.typst_node.proofs.node.InnerNode.settle.Goals as goal
 
@@ -17,5 +17,5 @@ returns-clause-measured c =
       descendants = omega (arith, counts, c.requires.stale.descendants, c.requires.added.descendants);
       errors = c.diagnosis_after-self.ensures.errors ∙ ap (λ ts. list_any is_error (preorder (forest ts))) c.deref.ensures.value;
       warnings = c.diagnosis_after-self.ensures.warnings ∙ ap (λ ts. list_any is_warned (preorder (forest ts))) c.deref.ensures.value;
-      ends = c.settle_ends.ensures ∙ ap (ends_from 0) c.deref-2.ensures.value;
+      ends = subst (AreEnds c.settle.new.self) c.deref-2.ensures.value c.settle.ensures;
     }

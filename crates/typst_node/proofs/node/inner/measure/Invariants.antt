@@ -5,7 +5,7 @@ use Rattle.typst_node.specs.Preorder.{preorder}
 use Rattle.typst_node.specs.Text.{text_of_all}
 use Rattle.typst_node.specs.Count.{count_of_all}
 use Rattle.typst_node.specs.Diagnosis.{is_error, is_warned}
-use Rattle.typst_node.specs.View.{ends_from}
+use Rattle.typst_node.specs.ChildEnds.{ends_from}
 use Rattle.typst_node.proofs.node.inner.measure.Given as goal
 
 abbrev pub invariant-loop-i : goal.invariant-loop-i

@@ -1,7 +1,7 @@
 use Rattle.std.proofs.Common.{◌≡◌, length, take, drop}
 use Rattle.typst_node.specs.Text.{text_of_all}
-use Rattle.typst_node.specs.View.{ends_from}
-use Rattle.typst_node.proofs.node.settle.write_ends.Given as goal
+use Rattle.typst_node.specs.ChildEnds.{ends_from}
+use Rattle.typst_node.proofs.node.child_ends.write_ends.Given as goal
 
 abbrev pub invariant-loop-i : goal.invariant-loop-i
 invariant-loop-i l = record {

@@ -2,8 +2,8 @@ use Rattle.std.proofs.Common.{arith, ◌≡◌, ◌+◌, length, length-set, tak
 use Rattle.std.proofs.lemmas.List.{drop-set-lt}
 use Rattle.typst_node.specs.Text.{text, text_of_all}
 use Rattle.typst_node.proofs.Settled.{start_at, start_none, text_more, text_front, end_more}
-use Rattle.typst_node.proofs.node.settle.write_ends.Goals as goal
-use Rattle.typst_node.proofs.node.settle.write_ends.Goals.{then-from-eq0, else-from-eq0}
+use Rattle.typst_node.proofs.node.child_ends.write_ends.Goals as goal
+use Rattle.typst_node.proofs.node.child_ends.write_ends.Goals.{then-from-eq0, else-from-eq0}
 
 pub loop-i-init : goal.loop-i-init
 loop-i-init c = record {

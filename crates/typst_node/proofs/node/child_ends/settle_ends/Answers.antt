@@ -2,11 +2,11 @@ use Rattle.std.proofs.Common.{arith, ◌≡◌, ◌+◌, ◌-◌, ◌<◌, ◌�
 use Rattle.std.proofs.lemmas.List.{take-append-drop}
 use Rattle.std.specs.List.{AllByRecursion}
 use Rattle.typst_node.specs.Text.{text_of_all}
-use Rattle.typst_node.specs.View.{ends_from}
+use Rattle.typst_node.specs.ChildEnds.{ends_from}
 use Rattle.typst_node.proofs.Settled.{can_shift, shifted, ends_whole}
 use Rattle.typst_node.proofs.Trees.{length_of_ends}
 use Rattle.typst_node.proofs.Opens.{text_split}
-use Rattle.typst_node.proofs.node.settle.settle_ends.Goals as goal
+use Rattle.typst_node.proofs.node.child_ends.settle_ends.Goals as goal
 
 pub shift-requires : goal.shift-requires
 shift-requires c =
