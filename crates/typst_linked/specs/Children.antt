@@ -3,14 +3,15 @@ use Rattle.std.specs.Prelude.{◌+◌, ◌-◌, ◌<◌, ◌≤◌, ◌≡◌, l
 use Rattle.std.specs.Option.{ForSome}
 use Rattle.std.specs.declared.alloc.AllocError.{AllocError}
 use Rattle.typst_node.specs.Tree.{Tree, trees}
-use Rattle.typst_linked.specs.Place.{Place, subtree, child_place}
+use Rattle.typst_linked.specs.Place.{Place, subtree, child_place, BeginsAt}
 use Rattle.typst_linked.specs.Below.{Below}
 use Rattle.typst_linked.specs.declared.children.LinkedChildren.TheInside.{Inside}
 
--- the children that are left are children of the parent
+-- the children that are left are children of the parent, and it is known where the text of the first begins
 pub record IsBelow (a : Inside) : Type 0 where
   pub ordered : a.from ≤ a.to
   pub within : ForSome (subtree a.parent.value) (λ t. a.to ≤ length (trees t.children))
+  pub begins : BeginsAt a.parent.value a.from a.begin
 
 -- all children of a place
 abbrev pub IsAllOf : Place → Below → Type 0

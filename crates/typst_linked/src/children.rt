@@ -1,5 +1,7 @@
 // The children of a linked node, from both ends.
-ghost use Rattle.std.specs.Prelude.{◌≡◌, ◌-◌, Some, IfSome};
+ghost use Rattle.std.specs.Prelude.{◌≡◌, ◌+◌, ◌-◌, ◌^◌, ◌<◌, length, take, Some, IfSome};
+ghost use Rattle.typst_node.specs.Tree.{trees};
+ghost use Rattle.typst_node.specs.Text.{text_of_all};
 ghost use Rattle.std.specs.Iterator.{at_most, UpTo};
 ghost use Rattle.std.specs.Iterator.SizeHint.{IsWithinCount};
 ghost use Rattle.typst_linked.specs.Children.{IsAllOf, GivesFirst, GivesLast};
@@ -9,6 +11,7 @@ use std::alloc::AllocError;
 use std::iter::FusedIterator;
 use std::marker::Model;
 use std::rc::Rc;
+use typst_node::SyntaxNode;
 
 /// The children of a linked node, in order and from both ends.
 ///
@@ -20,6 +23,8 @@ pub struct LinkedChildren<'a> {
     // The children from the first index up to the second are left.
     from: usize,
     to: usize,
+    // Where the text of the first of them begins, in bytes from the beginning of the parent's.
+    begin: usize,
 }
 
 impl<'a> Model for LinkedChildren<'a> {
@@ -45,6 +50,7 @@ impl<'a> LinkedChildren<'a> {
             parent,
             from: 0,
             to,
+            begin: 0,
         }
     }
 }
@@ -57,8 +63,21 @@ impl<'a> Clone for LinkedChildren<'a> {
             parent: self.parent.clone()?,
             from: self.from,
             to: self.to,
+            begin: self.begin,
         })
     }
+}
+
+// The length of a child's text. It ends where the next one begins.
+fn len_of_child(node: &SyntaxNode, index: usize) -> usize
+    requires { index < length (trees node.now.children) }
+    ensures more { length (text_of_all (take (index + 1) (trees node.now.children)))
+        ≡ length (text_of_all (take index (trees node.now.children))) + result }
+    ensures fits { length (text_of_all (take (index + 1) (trees node.now.children))) < 2 ^ 64 }
+{
+    // Read for the proof: the whole length is a usize.
+    let _len = node.len();
+    node.child_slice()[index].len()
 }
 
 impl<'a> Iterator for LinkedChildren<'a> {
@@ -72,9 +91,10 @@ impl<'a> Iterator for LinkedChildren<'a> {
         if self.from == self.to {
             return None;
         }
-        let index = self.from;
+        let (index, begin) = (self.from, self.begin);
+        self.begin = begin + len_of_child(self.parent.get(), index);
         self.from += 1;
-        Some(LinkedNode::nth_child(&self.parent, index))
+        Some(LinkedNode::shared_child(&self.parent, index, begin))
     }
 
     fn size_hint(&self) -> (usize, Option<usize>)

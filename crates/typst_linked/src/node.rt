@@ -172,13 +172,26 @@ impl<'a> LinkedNode<'a> {
         }
     }
 
+    // The child with an index, whose text begins there, below a parent that others share.
+    pub(crate) fn shared_child(
+        parent: &Rc<LinkedNode<'a>>,
+        index: usize,
+        begin: usize,
+    ) -> Result<Self, AllocError>
+        requires child { HasChild parent.now.value index }
+        requires begin { BeginsAt parent.now.value index begin }
+        ensures { IfOk result (λ l. l ≡ child_place parent.now.value index) }
+    {
+        Ok(LinkedNode::child_at(parent.clone()?, index, begin))
+    }
+
     // The child with an index, below a parent that others share.
     pub(crate) fn nth_child(parent: &Rc<LinkedNode<'a>>, index: usize) -> Result<Self, AllocError>
         requires child { HasChild parent.now.value index }
         ensures { IfOk result (λ l. l ≡ child_place parent.now.value index) }
     {
         let begin = child_begin(parent.get(), index);
-        Ok(LinkedNode::child_at(parent.clone()?, index, begin))
+        LinkedNode::shared_child(parent, index, begin)
     }
 
     // The child with an index, below this node.

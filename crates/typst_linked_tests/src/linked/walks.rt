@@ -463,7 +463,7 @@ fn walks_show_what_is_left(rt: HostRuntime) -> Result<(), Fail> {
     let said = shown_ahead(rt.alloc(), "Markup[ Text:a Text:b ]")?;
     assert_eq!(rt;
         said.as_str(),
-        r#"LinkedChildren { parent: Markup: 2 [Text: "a", Text: "b"], from: 1, to: 2 } LinkedPreorder { next: Some(Text: "a"), left: 2, .. }"#
+        r#"LinkedChildren { parent: Markup: 2 [Text: "a", Text: "b"], from: 1, to: 2, begin: 1 } LinkedPreorder { next: Some(Text: "a"), left: 2, .. }"#
     );
     Ok(())
 }
