@@ -7,7 +7,7 @@ use Rattle.typst_node.specs.Count.{count, count_of_all}
 use Rattle.typst_node.specs.Preorder.{preorder}
 use Rattle.typst_node.specs.View.{below}
 use Rattle.typst_node.specs.declared.node.Node.{Node}
-use Rattle.typst_node.specs.declared.node.Node.TheVariants.{Short, Leaf, Inner, Error}
+use Rattle.typst_node.specs.declared.node.Node.TheVariants.{Short, Long, Leaf, Inner, Error}
 use Rattle.typst_node.specs.declared.node.SyntaxNode.TheDeep.{deep-Node}
 
 -- no tree of a list has more nodes than all of them together
@@ -17,6 +17,7 @@ most_le-count (t ∷ ts) = omega (arith, most_le-count ts, length-append (preord
 
 pub children_are_smaller : (n : Node) → max (deep-Node n) 0 ≤ suc (count_of_all (below n))
 children_are_smaller (Short kind text) = omega arith
+children_are_smaller (Long kind b) = omega arith
 children_are_smaller (Leaf kind b) = omega arith
 children_are_smaller (Inner kind b) = omega (arith, most_le-count b.value.children.items)
 children_are_smaller (Error b) = omega arith

@@ -12,7 +12,7 @@ use Rattle.typst_node.specs.declared.node.Hint.{Hint}
 use Rattle.typst_node.specs.declared.node.Warning.{Warning}
 use Rattle.typst_node.specs.declared.node.InnerNode.{InnerNode}
 use Rattle.typst_node.specs.declared.node.Node.{Node}
-use Rattle.typst_node.specs.declared.node.Node.TheVariants.{Short, Leaf, Inner, Error}
+use Rattle.typst_node.specs.declared.node.Node.TheVariants.{Short, Long, Leaf, Inner, Error}
 use Rattle.typst_node.specs.declared.node.SyntaxNode.TheInside.{Inside}
 
 abbrev pub hint_text : Hint → HintText
@@ -27,6 +27,7 @@ shown_warnings ws = reverse (map warning_text ws)
 
 abbrev pub content : Node → Content
 content (Short kind text) = AsLeaf kind text
+content (Long kind b) = AsLeaf kind (string_bytes b.value)
 content (Leaf kind b) = AsLeaf kind (string_bytes b.value.text)
 content (Inner kind b) = AsInner kind b.value.upper
 content (Error b) = AsError (string_bytes b.value.text) (string_bytes b.value.message) (map hint_text b.value.hints.items)
@@ -34,13 +35,15 @@ content (Error b) = AsError (string_bytes b.value.text) (string_bytes b.value.me
 -- the warnings as they are kept, innermost first
 abbrev pub warnings_in : Node → List Warning
 warnings_in (Short kind text) = []
+warnings_in (Long kind b) = []
 warnings_in (Leaf kind b) = b.value.warnings.items
-warnings_in (Inner kind b) = b.value.warnings.items
+warnings_in (Inner kind b) = b.value.warnings
 warnings_in (Error b) = b.value.warnings.items
 
 -- the node's children
 abbrev pub below : Node → List Tree
 below (Short kind text) = []
+below (Long kind b) = []
 below (Leaf kind b) = []
 below (Inner kind b) = b.value.children.items
 below (Error b) = []
@@ -61,6 +64,7 @@ pub record IsMeasured (inner : InnerNode) : Type 0 where
 
 abbrev pub IsKept : Node → Type 0
 IsKept (Short kind text) = kind ≢ kinds.Error
+IsKept (Long kind b) = kind ≢ kinds.Error
 IsKept (Leaf kind b) = kind ≢ kinds.Error
 IsKept (Inner kind b) = (kind ≢ kinds.Error) × IsMeasured b.value
 IsKept (Error b) = Unit {0}

@@ -10,6 +10,7 @@ ghost use Rattle.typst_node.specs.View.{warnings_in, IsMeasured};
 
 use crate::diagnosis::Diagnosis;
 use crate::node::child_ends::ChildEnds;
+use crate::node::warnings::Warnings;
 use crate::short_text::ShortText;
 use std::alloc::{AllocError, Global};
 use std::marker::Model;
@@ -35,6 +36,7 @@ pub mod spanless;
 pub mod synthesize;
 mod trim;
 pub mod warn;
+mod warnings;
 mod window;
 
 /// A node of a syntax tree: a leaf, an inner node or an error, under any number of warnings.
@@ -53,7 +55,9 @@ pub struct SyntaxNode {
 enum Node {
     // A leaf without warnings that holds its text itself.
     Short(SyntaxKind, ShortText),
-    // Any other leaf. The kinds of leaves and inner nodes stand here, at one place, so that they are read without a box.
+    // A leaf without warnings whose text is longer.
+    Long(SyntaxKind, Box<String>),
+    // A leaf that got warnings. The kinds of leaves and inner nodes stand here, at one place, so that they are read without a box.
     Leaf(SyntaxKind, Box<LeafNode>),
     Inner(SyntaxKind, Box<InnerNode>),
     Error(Box<ErrorNode>),
@@ -71,13 +75,12 @@ struct InnerNode {
     // The bound: above every number of the subtree, once it is numbered.
     upper: u64,
     children: Vec<SyntaxNode>,
-    // From the innermost to the outermost.
-    warnings: Vec<Warning>,
+    warnings: Warnings,
     // Where the texts of the children end, unless they are few.
     ends: ChildEnds,
 }
 
-/// A leaf without its kind. Its text may be long, and it may have warnings.
+/// A leaf with warnings, without its kind.
 #[derive(Drop)]
 struct LeafNode {
     text: String,
@@ -144,6 +147,7 @@ impl Drop for SyntaxNode {
                 inner.let_go();
             }
             Node::Short(..) => {}
+            Node::Long(_, text) => let_text_go(text),
             Node::Leaf(_, leaf) => leaf.let_go(),
             Node::Error(error) => error.let_go(),
         }
@@ -157,6 +161,9 @@ impl InnerNode {
     #[inline(never)]
     fn let_go(self: Box<Self>) {}
 }
+
+#[inline(never)]
+fn let_text_go(text: Box<String>) {}
 
 impl LeafNode {
     #[inline(never)]
@@ -207,9 +214,9 @@ impl Node {
         ensures { result.now ≡ warnings_in self.now }
     {
         match self {
-            Node::Short(..) => &[],
+            Node::Short(..) | Node::Long(..) => &[],
             Node::Leaf(_, leaf) => &leaf.warnings,
-            Node::Inner(_, inner) => &inner.warnings,
+            Node::Inner(_, inner) => inner.warnings.as_slice(),
             Node::Error(error) => &error.warnings,
         }
     }
@@ -224,6 +231,7 @@ impl SyntaxNode {
     {
         match &self.node {
             Node::Short(kind, _) => *kind,
+            Node::Long(kind, _) => *kind,
             Node::Leaf(kind, _) => *kind,
             Node::Inner(kind, _) => *kind,
             Node::Error(_) => SyntaxKind::Error,
@@ -235,7 +243,7 @@ impl SyntaxNode {
         ensures { IsTrue result ↔ IsLeaf self.now.label.content }
     {
         match &self.node {
-            Node::Short(..) | Node::Leaf(..) => true,
+            Node::Short(..) | Node::Long(..) | Node::Leaf(..) => true,
             Node::Inner(..) => false,
             Node::Error(error) => !error.text.is_empty(),
         }
@@ -262,7 +270,9 @@ impl SyntaxNode {
     {
         match &self.node {
             Node::Inner(_, inner) => inner.upper,
-            Node::Short(..) | Node::Leaf(..) | Node::Error(_) => self.span.number() + 1,
+            Node::Short(..) | Node::Long(..) | Node::Leaf(..) | Node::Error(_) => {
+                self.span.number() + 1
+            }
         }
     }
 }
@@ -275,6 +285,7 @@ impl SyntaxNode {
     {
         match &self.node {
             Node::Short(_, text) => text.len(),
+            Node::Long(_, text) => text.len(),
             Node::Leaf(_, leaf) => leaf.text.len(),
             Node::Inner(_, inner) => inner.len,
             Node::Error(error) => error.text.len(),
@@ -294,7 +305,7 @@ impl SyntaxNode {
     {
         match &self.node {
             Node::Inner(_, inner) => inner.descendants,
-            Node::Short(..) | Node::Leaf(..) | Node::Error(_) => 1,
+            Node::Short(..) | Node::Long(..) | Node::Leaf(..) | Node::Error(_) => 1,
         }
     }
 
@@ -304,7 +315,7 @@ impl SyntaxNode {
         ensures warnings { result.warnings ≡ has_warning self.now }
     {
         let below = match &self.node {
-            Node::Short(..) | Node::Leaf(..) => Diagnosis {
+            Node::Short(..) | Node::Long(..) | Node::Leaf(..) => Diagnosis {
                 errors: false,
                 warnings: false,
             },
@@ -326,6 +337,7 @@ impl SyntaxNode {
     {
         match &self.node {
             Node::Short(_, text) => text.as_str(),
+            Node::Long(_, text) => text.as_str(),
             Node::Leaf(_, leaf) => leaf.text.as_str(),
             Node::Inner(..) => "",
             Node::Error(error) => error.text.as_str(),
@@ -347,6 +359,7 @@ impl SyntaxNode {
     {
         match &self.node {
             Node::Short(_, text) => out.push_str(text.as_str()),
+            Node::Long(_, text) => out.push_str(text.as_str()),
             Node::Leaf(_, leaf) => out.push_str(leaf.text.as_str()),
             Node::Inner(_, inner) => {
                 for child in &inner.children {
@@ -374,7 +387,7 @@ impl SyntaxNode {
     {
         match &self.node {
             Node::Inner(_, inner) => &inner.children,
-            Node::Short(..) | Node::Leaf(..) | Node::Error(_) => &[],
+            Node::Short(..) | Node::Long(..) | Node::Leaf(..) | Node::Error(_) => &[],
         }
     }
 
@@ -403,7 +416,7 @@ impl SyntaxNode {
     {
         match &self.node {
             Node::Inner(_, inner) => inner.child_end(first, begin, index),
-            Node::Short(..) | Node::Leaf(..) | Node::Error(_) => unreachable!(),
+            Node::Short(..) | Node::Long(..) | Node::Leaf(..) | Node::Error(_) => unreachable!(),
         }
     }
 }

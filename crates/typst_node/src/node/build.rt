@@ -5,7 +5,8 @@ ghost use Rattle.typst_node.specs.Count.{SumsFit};
 ghost use Rattle.typst_node.specs.declared.node.build.InnerError.TheVariants.{Overflow, Memory};
 
 use crate::node::inner::measured;
-use crate::node::{InnerNode, LeafNode, Node, SyntaxNode};
+use crate::node::warnings::Warnings;
+use crate::node::{InnerNode, Node, SyntaxNode};
 use crate::short_text::{LONGEST, ShortText};
 use std::alloc::{AllocError, AllocFailed, Global};
 use thiserror::Error;
@@ -51,11 +52,7 @@ impl SyntaxNode {
             Node::Short(kind, ShortText::new(text))
         } else {
             let text = String::from_str(alloc, text)?;
-            let leaf = LeafNode {
-                text,
-                warnings: Vec::new(alloc),
-            };
-            Node::Leaf(kind, Box::new(alloc, leaf)?)
+            Node::Long(kind, Box::new(alloc, text)?)
         };
         Ok(SyntaxNode {
             node,
@@ -96,7 +93,7 @@ impl SyntaxNode {
             upper: 0,
             children,
             ends,
-            warnings: Vec::new(alloc),
+            warnings: Warnings::none(),
         };
         Ok(SyntaxNode {
             node: Node::Inner(kind, Box::new(alloc, inner)?),

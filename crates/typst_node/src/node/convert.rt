@@ -27,6 +27,7 @@ impl SyntaxNode {
     {
         match &mut self.node {
             Node::Short(old, _) => *old = kind,
+            Node::Long(old, _) => *old = kind,
             Node::Leaf(old, _) => *old = kind,
             Node::Inner(old, _) => *old = kind,
             Node::Error(_) => unreachable!(),

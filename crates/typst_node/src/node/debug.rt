@@ -29,6 +29,7 @@ impl SyntaxNode {
         }
         match &self.node {
             Node::Short(kind, text) => write!(f, "{kind:?}: {:?}", text.as_str())?,
+            Node::Long(kind, text) => write!(f, "{kind:?}: {:?}", text.as_str())?,
             Node::Leaf(kind, leaf) => write!(f, "{kind:?}: {:?}", leaf.text)?,
             Node::Error(error) => self.write_error(f, error)?,
             Node::Inner(kind, inner) => {
@@ -115,6 +116,7 @@ impl SyntaxNode {
     fn is_boundary(&self, at: usize) -> bool {
         match &self.node {
             Node::Short(_, text) => text.as_str().is_char_boundary(at),
+            Node::Long(_, text) => text.as_str().is_char_boundary(at),
             Node::Leaf(_, leaf) => leaf.text.as_str().is_char_boundary(at),
             Node::Error(error) => error.text.as_str().is_char_boundary(at),
             Node::Inner(_, inner) => {
@@ -139,6 +141,7 @@ impl SyntaxNode {
     ) -> fmt::Result {
         match &self.node {
             Node::Short(_, text) => write_escaped(f, text.as_str(), start, end),
+            Node::Long(_, text) => write_escaped(f, text.as_str(), start, end),
             Node::Leaf(_, leaf) => write_escaped(f, leaf.text.as_str(), start, end),
             Node::Error(error) => write_escaped(f, error.text.as_str(), start, end),
             Node::Inner(_, inner) => {

@@ -32,6 +32,7 @@ impl Node {
     {
         match self {
             Node::Short(kind, text) => other.is_leaf_of(*kind, text.as_str()),
+            Node::Long(kind, text) => other.is_leaf_of(*kind, text.as_str()),
             Node::Leaf(kind, leaf) => other.is_leaf_of(*kind, leaf.text.as_str()),
             Node::Inner(kind, inner) => match other {
                 Node::Inner(other_kind, other_inner) => {
@@ -39,7 +40,7 @@ impl Node {
                         && inner.upper == other_inner.upper
                         && all_same(&inner.children, &other_inner.children)
                 }
-                Node::Short(..) | Node::Leaf(..) | Node::Error(_) => false,
+                Node::Short(..) | Node::Long(..) | Node::Leaf(..) | Node::Error(_) => false,
             },
             Node::Error(error) => match other {
                 Node::Error(other_error) => {
@@ -47,7 +48,7 @@ impl Node {
                         && error.message.as_str() == other_error.message.as_str()
                         && same_hints(&error.hints, &other_error.hints)
                 }
-                Node::Short(..) | Node::Leaf(..) | Node::Inner(..) => false,
+                Node::Short(..) | Node::Long(..) | Node::Leaf(..) | Node::Inner(..) => false,
             },
         }
     }

@@ -76,6 +76,7 @@ impl Node {
     {
         match self {
             Node::Short(kind, text) => feed_leaf(*kind, text.as_str(), state),
+            Node::Long(kind, text) => feed_leaf(*kind, text.as_str(), state),
             Node::Leaf(kind, leaf) => feed_leaf(*kind, leaf.text.as_str(), state),
             Node::Error(error) => {
                 state.write_u8(1);

@@ -1,14 +1,16 @@
 // What an inner node keeps of its children.
 ghost use Rattle.std.specs.Prelude.{◌≡◌, ◌↔◌, length, MatchOption, IfSome, IfOk, OnOk, IsErrOf};
-ghost use Rattle.typst_node.specs.Count.{SumsFit};
+ghost use Rattle.typst_node.specs.Text.{text};
+ghost use Rattle.typst_node.specs.Count.{count, SumsFit};
+ghost use Rattle.typst_node.specs.Diagnosis.{has_error, has_warning};
 ghost use Rattle.typst_node.specs.Sums.{AreSums};
 ghost use Rattle.typst_node.specs.ChildEnds.{ends_from, AreEnds};
 ghost use Rattle.typst_node.specs.declared.node.build.InnerError.TheVariants.{Overflow};
 
 use crate::diagnosis::Diagnosis;
-use crate::node::SyntaxNode;
 use crate::node::build::InnerError;
 use crate::node::child_ends::{ChildEnds, FEW};
+use crate::node::{Node, SyntaxNode};
 use std::alloc::{AllocError, Global};
 
 /// The sums of a list of children, with their parent counted in.
@@ -17,6 +19,43 @@ pub(crate) struct Sums {
     pub(crate) len: usize,
     pub(crate) descendants: usize,
     pub(crate) diagnosis: Diagnosis,
+}
+
+/// What is counted of a tree.
+#[derive(Drop)]
+pub(crate) struct Measures {
+    pub(crate) len: usize,
+    pub(crate) descendants: usize,
+    pub(crate) diagnosis: Diagnosis,
+}
+
+impl SyntaxNode {
+    /// The length, the node count and the diagnosis, by one look at what the node is.
+    #[inline(always)]
+    pub(crate) fn measures(&self) -> Measures
+        ensures len { result.len ≡ length (text self.now) }
+        ensures descendants { result.descendants ≡ count self.now }
+        ensures errors { result.diagnosis.errors ≡ has_error self.now }
+        ensures warnings { result.diagnosis.warnings ≡ has_warning self.now }
+    {
+        let (len, descendants, errors, warnings) = match &self.node {
+            Node::Short(_, text) => (text.len(), 1, false, false),
+            Node::Long(_, text) => (text.len(), 1, false, false),
+            Node::Leaf(_, leaf) => (leaf.text.len(), 1, false, !leaf.warnings.is_empty()),
+            Node::Inner(_, inner) => (
+                inner.len,
+                inner.descendants,
+                inner.diagnosis.errors,
+                inner.diagnosis.warnings || !inner.warnings.as_slice().is_empty(),
+            ),
+            Node::Error(error) => (error.text.len(), 1, true, !error.warnings.is_empty()),
+        };
+        Measures {
+            len,
+            descendants,
+            diagnosis: Diagnosis { errors, warnings },
+        }
+    }
 }
 
 /// Adds up the children, if the sums fit a usize.
@@ -32,9 +71,10 @@ pub(crate) fn sums_of(children: &[SyntaxNode]) -> Option<Sums>
         warnings: false,
     };
     for child in children {
-        len = len.checked_add(child.len())?;
-        descendants = descendants.checked_add(child.descendants())?;
-        diagnosis = diagnosis.or(child.diagnosis());
+        let own = child.measures();
+        len = len.checked_add(own.len)?;
+        descendants = descendants.checked_add(own.descendants)?;
+        diagnosis = diagnosis.or(own.diagnosis);
     }
     Some(Sums {
         len,
@@ -57,10 +97,10 @@ pub(super) fn measure(children: &[SyntaxNode], ends: &mut [usize]) -> Option<Sum
         warnings: false,
     };
     for i in 0..children.len() {
-        let child = &children[i];
-        len = len.checked_add(child.len())?;
-        descendants = descendants.checked_add(child.descendants())?;
-        diagnosis = diagnosis.or(child.diagnosis());
+        let own = children[i].measures();
+        len = len.checked_add(own.len)?;
+        descendants = descendants.checked_add(own.descendants)?;
+        diagnosis = diagnosis.or(own.diagnosis);
         ends[i] = len;
     }
     Some(Sums {

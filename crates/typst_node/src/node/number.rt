@@ -99,7 +99,7 @@ impl SyntaxNode {
                 self.span = Span::from_number(id, SpanNumber(start + stride / 2));
                 inner.number_below(id, start, end, stride);
             }
-            Node::Short(..) | Node::Leaf(..) | Node::Error(_) => {
+            Node::Short(..) | Node::Long(..) | Node::Leaf(..) | Node::Error(_) => {
                 self.span = Span::from_number(id, SpanNumber((start + end) / 2));
             }
         }

@@ -263,7 +263,7 @@ impl SyntaxNode {
                 let result = inner.replace(id, number, range.start, range.end, replacement);
                 return result;
             }
-            Node::Short(..) | Node::Leaf(..) | Node::Error(_) => unreachable!(),
+            Node::Short(..) | Node::Long(..) | Node::Leaf(..) | Node::Error(_) => unreachable!(),
         }
     }
 }

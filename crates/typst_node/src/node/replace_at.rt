@@ -91,7 +91,7 @@ impl SyntaxNode {
                     }
                     inner.replace_in(*index, rest, errand)
                 }
-                Node::Short(..) | Node::Leaf(..) | Node::Error(_) => {}
+                Node::Short(..) | Node::Long(..) | Node::Leaf(..) | Node::Error(_) => {}
             },
         }
     }
@@ -132,10 +132,11 @@ fn sums_of_one(child: &SyntaxNode) -> Sums
     requires { suc (count child.now) < 2 ^ 64 }
     ensures { AreSums result (child.now ∷ []) }
 {
+    let own = child.measures();
     Sums {
-        len: child.len(),
-        descendants: child.descendants() + 1,
-        diagnosis: child.diagnosis(),
+        len: own.len,
+        descendants: own.descendants + 1,
+        diagnosis: own.diagnosis,
     }
 }
 

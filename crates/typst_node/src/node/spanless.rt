@@ -62,6 +62,7 @@ impl Node {
     {
         match self {
             Node::Short(own, own_text) => same_kind(*own, kind) && own_text.as_str() == text,
+            Node::Long(own, own_text) => same_kind(*own, kind) && own_text.as_str() == text,
             Node::Leaf(own, leaf) => same_kind(*own, kind) && leaf.text.as_str() == text,
             Node::Inner(..) | Node::Error(_) => false,
         }
@@ -82,11 +83,11 @@ impl SyntaxNode {
                 Node::Short(other_kind, other_text) => {
                     same_kind(*kind, *other_kind) && text.as_str() == other_text.as_str()
                 }
-                Node::Leaf(..) | Node::Inner(..) | Node::Error(_) => {
+                Node::Long(..) | Node::Leaf(..) | Node::Inner(..) | Node::Error(_) => {
                     other.node.is_leaf_of(*kind, text.as_str()) && other.node.warnings().is_empty()
                 }
             },
-            Node::Leaf(..) | Node::Inner(..) | Node::Error(_) => {
+            Node::Long(..) | Node::Leaf(..) | Node::Inner(..) | Node::Error(_) => {
                 same_warnings(self.node.warnings(), other.node.warnings())
                     && self.node.spanless_eq(&other.node)
             }
@@ -101,13 +102,14 @@ impl Node {
     {
         match self {
             Node::Short(kind, text) => other.is_leaf_of(*kind, text.as_str()),
+            Node::Long(kind, text) => other.is_leaf_of(*kind, text.as_str()),
             Node::Leaf(kind, leaf) => other.is_leaf_of(*kind, leaf.text.as_str()),
             Node::Inner(kind, inner) => match other {
                 Node::Inner(other_kind, other_inner) => {
                     same_kind(*kind, *other_kind)
                         && all_alike(&inner.children, &other_inner.children)
                 }
-                Node::Short(..) | Node::Leaf(..) | Node::Error(_) => false,
+                Node::Short(..) | Node::Long(..) | Node::Leaf(..) | Node::Error(_) => false,
             },
             Node::Error(error) => match other {
                 Node::Error(other_error) => {
@@ -115,7 +117,7 @@ impl Node {
                         && error.message.as_str() == other_error.message.as_str()
                         && same_hints(&error.hints, &other_error.hints)
                 }
-                Node::Short(..) | Node::Leaf(..) | Node::Inner(..) => false,
+                Node::Short(..) | Node::Long(..) | Node::Leaf(..) | Node::Inner(..) => false,
             },
         }
     }

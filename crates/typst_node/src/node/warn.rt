@@ -4,8 +4,10 @@ ghost use Rattle.typst_node.specs.Hints.{error_tree, hint_for, hint_outermost, h
 ghost use Rattle.typst_node.specs.Warnings.{part_for, warned, warning, FitsRange};
 ghost use Rattle.typst_node.specs.View.{below, content, hint_text, shown_warnings, warning_text, warnings_in, IsKept};
 
+use crate::node::warnings::{Warnings, only};
 use crate::node::{ErrorNode, Hint, LeafNode, Node, SyntaxNode, Warning};
 use std::alloc::{AllocError, Global};
+use std::mem;
 use std::ops::Range;
 use typst_base::{Span, SubRange, SyntaxKind};
 
@@ -184,7 +186,7 @@ impl SyntaxNode {
         }
         match &mut self.node {
             Node::Error(error) => error.push_hint(hint),
-            Node::Short(..) | Node::Leaf(..) | Node::Inner(..) => unreachable!(),
+            Node::Short(..) | Node::Long(..) | Node::Leaf(..) | Node::Inner(..) => unreachable!(),
         }
     }
 }
@@ -203,12 +205,19 @@ impl Node {
     {
         match self {
             Node::Short(kind, text) => {
-                let leaf = LeafNode::warned(alloc, text.as_str(), warning)?;
-                *self = Node::Leaf(*kind, Box::new(alloc, leaf)?);
+                let text = String::from_str(alloc, text.as_str())?;
+                let leaf = LeafNode::warned(alloc, text, warning)?;
+                *self = Node::Leaf(*kind, leaf);
+                Ok(())
+            }
+            Node::Long(kind, text) => {
+                let mut leaf = LeafNode::warned(alloc, String::new(alloc), warning)?;
+                mem::swap(&mut leaf.text, text);
+                *self = Node::Leaf(*kind, leaf);
                 Ok(())
             }
             Node::Leaf(_, leaf) => warn_last(&mut leaf.warnings, warning),
-            Node::Inner(_, inner) => warn_last(&mut inner.warnings, warning),
+            Node::Inner(_, inner) => inner.warnings.push(alloc, warning),
             Node::Error(error) => warn_last(&mut error.warnings, warning),
         }
     }
@@ -226,24 +235,22 @@ impl Node {
         ensures err { OnErr result (shown_warnings (warnings_in self.new) ≡ shown_warnings (warnings_in self.old)) }
     {
         match self {
-            Node::Short(..) => unreachable!(),
+            Node::Short(..) | Node::Long(..) => unreachable!(),
             Node::Leaf(_, leaf) => hint_last(&mut leaf.warnings, hint),
-            Node::Inner(_, inner) => hint_last(&mut inner.warnings, hint),
+            Node::Inner(_, inner) => inner.warnings.hint_last(hint),
             Node::Error(error) => hint_last(&mut error.warnings, hint),
         }
     }
 }
 
 impl LeafNode {
-    /// A leaf under one warning, with a copy of the text.
-    fn warned(alloc: Global, text: &str, warning: Warning) -> Result<LeafNode, AllocError>
-        ensures text { IfOk result (λ n. string_bytes n.text ≡ text.now) }
-        ensures warnings { IfOk result (λ n. n.warnings.items ≡ warning ∷ []) }
+    /// A leaf under one warning.
+    fn warned(alloc: Global, text: String, warning: Warning) -> Result<Box<LeafNode>, AllocError>
+        ensures text { IfOk result (λ b. string_bytes b.value.text ≡ string_bytes text) }
+        ensures warnings { IfOk result (λ b. b.value.warnings.items ≡ warning ∷ []) }
     {
-        let text = String::from_str(alloc, text)?;
-        let mut warnings = Vec::with_capacity(alloc, 1)?;
-        warnings.push(warning)?;
-        Ok(LeafNode { text, warnings })
+        let warnings = only(alloc, warning)?;
+        Ok(Box::new(alloc, LeafNode { text, warnings })?)
     }
 }
 
@@ -281,4 +288,19 @@ fn hint_last(warnings: &mut Vec<Warning>, hint: Hint) -> Result<(), AllocError>
     let last = warnings.len() - 1;
     warnings[last].hints.push(hint)?;
     Ok(())
+}
+
+impl Warnings {
+    /// Adds a hint after those of the last warning, which is the outermost one.
+    fn hint_last(&mut self, hint: Hint) -> Result<(), AllocError>
+        requires { 0 < length self.old }
+        ensures ok { OnOk result (shown_warnings self.new
+            ≡ hint_outermost (hint_text hint ∷ []) (shown_warnings self.old)) }
+        ensures err { OnErr result (shown_warnings self.new ≡ shown_warnings self.old) }
+    {
+        match &mut self.listed {
+            Some(list) => hint_last(list, hint),
+            None => unreachable!(),
+        }
+    }
 }
