@@ -18,7 +18,7 @@ use Rattle.typst_node.proofs.Plain.{forest_plain}
 use Rattle.typst_node.proofs.Trees.{trees_of_forest, forest-trees}
 use Rattle.typst_node.proofs.Ordered.{within_from_numbered, numbered_from_within}
 
-module _ (a : Inside) (k : SyntaxKind) (b : Box InnerNode Global) (t : Tree) (is : a.node ≡ Inner k b) (view : tree_of a ≡ t) where
+module _ (a : Inside) (k : SyntaxKind) (n : ℕ) (b : Box InnerNode Global) (t : Tree) (is : a.node ≡ Inner k n b) (view : tree_of a ≡ t) where
   pub inner_forest : t.children ≡ forest b.value.children.items
   inner_forest = ap (λ (u : Tree). u.children) (sym view) ∙ ap (λ n. forest (below n)) is
 
@@ -38,14 +38,14 @@ module _ (a : Inside) (k : SyntaxKind) (b : Box InnerNode Global) (t : Tree) (is
   inner_number = ap (λ (u : Tree). number u.label) (sym view)
 
   -- with other contents of the inner node, the label is the same
-  pub inner_label : (new : InnerNode) → new.upper ≡ b.value.upper → new.warnings ≡ b.value.warnings → (tree_of record { node = Inner k (with_value b new); span = a.span }).label ≡ t.label
+  pub inner_label : (new : InnerNode) → new.upper ≡ b.value.upper → new.warnings ≡ b.value.warnings → (tree_of record { node = Inner k n (with_value b new); span = a.span }).label ≡ t.label
   inner_label new upper warned =
       (λ i. record { span = a.span; warnings = shown_warnings (warned i); content = AsInner k (upper i) })
       ∙ (ap (λ n. (tree_of record { node = n; span = a.span }).label) (sym is) ∙ ap (λ (u : Tree). u.label) view)
 
   -- and the whole is the plain edit where the children are
   pub inner_edited : (new : InnerNode) (from to : ℕ) (others : List Tree) → new.upper ≡ b.value.upper → new.warnings ≡ b.value.warnings → map plain new.children.items ≡ map plain (splice b.value.children.items from to others)
-      → plain (tree_of record { node = Inner k (with_value b new); span = a.span }) ≡ plain (edited from to others t)
+      → plain (tree_of record { node = Inner k n (with_value b new); span = a.span }) ≡ plain (edited from to others t)
   inner_edited new from to others upper warned same =
       let kids : plain_forest (forest new.children.items) ≡ plain_forest (forest (splice (trees t.children) from to others)) =
       sym (forest_plain new.children.items) ∙ (ap forest same ∙ (forest_plain (splice b.value.children.items from to others) ∙ ap (λ (ts : List Tree). plain_forest (forest (splice ts from to others))) (sym inner_kids))) in

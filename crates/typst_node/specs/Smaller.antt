@@ -19,5 +19,5 @@ pub children_are_smaller : (n : Node) → max (deep-Node n) 0 ≤ suc (count_of_
 children_are_smaller (Short kind text) = omega arith
 children_are_smaller (Long kind b) = omega arith
 children_are_smaller (Leaf kind b) = omega arith
-children_are_smaller (Inner kind b) = omega (arith, most_le-count b.value.children.items)
+children_are_smaller (Inner kind len b) = omega (arith, most_le-count b.value.children.items)
 children_are_smaller (Error b) = omega arith

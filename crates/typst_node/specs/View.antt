@@ -29,7 +29,7 @@ abbrev pub content : Node → Content
 content (Short kind text) = AsLeaf kind text
 content (Long kind b) = AsLeaf kind (string_bytes b.value)
 content (Leaf kind b) = AsLeaf kind (string_bytes b.value.text)
-content (Inner kind b) = AsInner kind b.value.upper
+content (Inner kind len b) = AsInner kind b.value.upper
 content (Error b) = AsError (string_bytes b.value.text) (string_bytes b.value.message) (map hint_text b.value.hints.items)
 
 -- the warnings as they are kept, innermost first
@@ -37,7 +37,7 @@ abbrev pub warnings_in : Node → List Warning
 warnings_in (Short kind text) = []
 warnings_in (Long kind b) = []
 warnings_in (Leaf kind b) = b.value.warnings.items
-warnings_in (Inner kind b) = b.value.warnings
+warnings_in (Inner kind len b) = b.value.warnings
 warnings_in (Error b) = b.value.warnings.items
 
 -- the node's children
@@ -45,7 +45,7 @@ abbrev pub below : Node → List Tree
 below (Short kind text) = []
 below (Long kind b) = []
 below (Leaf kind b) = []
-below (Inner kind b) = b.value.children.items
+below (Inner kind len b) = b.value.children.items
 below (Error b) = []
 
 abbrev pub tree_of : Inside → Tree
@@ -66,5 +66,5 @@ abbrev pub IsKept : Node → Type 0
 IsKept (Short kind text) = kind ≢ kinds.Error
 IsKept (Long kind b) = kind ≢ kinds.Error
 IsKept (Leaf kind b) = kind ≢ kinds.Error
-IsKept (Inner kind b) = (kind ≢ kinds.Error) × IsMeasured b.value
+IsKept (Inner kind len b) = (kind ≢ kinds.Error) × ((len ≡ b.value.len) × IsMeasured b.value)
 IsKept (Error b) = Unit {0}

@@ -59,7 +59,8 @@ enum Node {
     Long(SyntaxKind, Box<String>),
     // A leaf that got warnings. The kinds of leaves and inner nodes stand here, at one place, so that they are read without a box.
     Leaf(SyntaxKind, Box<LeafNode>),
-    Inner(SyntaxKind, Box<InnerNode>),
+    // The length of the text in bytes stands here, too, so that it is read without the box.
+    Inner(SyntaxKind, usize, Box<InnerNode>),
     Error(Box<ErrorNode>),
 }
 
@@ -141,7 +142,7 @@ impl Drop for SyntaxNode {
     fn drop(self) {
         let SyntaxNode { node, span: _ } = self;
         match node {
-            Node::Inner(_, mut inner) => {
+            Node::Inner(_, _, mut inner) => {
                 let none = Vec::new(*inner.children.allocator());
                 mem::drop(mem::replace(&mut inner.children, none));
                 inner.let_go();
@@ -216,7 +217,7 @@ impl Node {
         match self {
             Node::Short(..) | Node::Long(..) => &[],
             Node::Leaf(_, leaf) => &leaf.warnings,
-            Node::Inner(_, inner) => inner.warnings.as_slice(),
+            Node::Inner(_, _, inner) => inner.warnings.as_slice(),
             Node::Error(error) => &error.warnings,
         }
     }
@@ -233,7 +234,7 @@ impl SyntaxNode {
             Node::Short(kind, _) => *kind,
             Node::Long(kind, _) => *kind,
             Node::Leaf(kind, _) => *kind,
-            Node::Inner(kind, _) => *kind,
+            Node::Inner(kind, _, _) => *kind,
             Node::Error(_) => SyntaxKind::Error,
         }
     }
@@ -269,7 +270,7 @@ impl SyntaxNode {
         ensures { result ≡ bound self.now.label }
     {
         match &self.node {
-            Node::Inner(_, inner) => inner.upper,
+            Node::Inner(_, _, inner) => inner.upper,
             Node::Short(..) | Node::Long(..) | Node::Leaf(..) | Node::Error(_) => {
                 self.span.number() + 1
             }
@@ -287,7 +288,7 @@ impl SyntaxNode {
             Node::Short(_, text) => text.len(),
             Node::Long(_, text) => text.len(),
             Node::Leaf(_, leaf) => leaf.text.len(),
-            Node::Inner(_, inner) => inner.len,
+            Node::Inner(_, len, _) => *len,
             Node::Error(error) => error.text.len(),
         }
     }
@@ -304,7 +305,7 @@ impl SyntaxNode {
         ensures { result ≡ count self.now }
     {
         match &self.node {
-            Node::Inner(_, inner) => inner.descendants,
+            Node::Inner(_, _, inner) => inner.descendants,
             Node::Short(..) | Node::Long(..) | Node::Leaf(..) | Node::Error(_) => 1,
         }
     }
@@ -314,21 +315,7 @@ impl SyntaxNode {
         ensures errors { result.errors ≡ has_error self.now }
         ensures warnings { result.warnings ≡ has_warning self.now }
     {
-        let below = match &self.node {
-            Node::Short(..) | Node::Long(..) | Node::Leaf(..) => Diagnosis {
-                errors: false,
-                warnings: false,
-            },
-            Node::Inner(_, inner) => inner.diagnosis,
-            Node::Error(_) => Diagnosis {
-                errors: true,
-                warnings: false,
-            },
-        };
-        Diagnosis {
-            errors: below.errors,
-            warnings: below.warnings || !self.node.warnings().is_empty(),
-        }
+        self.measures().diagnosis
     }
 
     /// The text of a leaf or an error, and an empty one for an inner node.
@@ -361,7 +348,7 @@ impl SyntaxNode {
             Node::Short(_, text) => out.push_str(text.as_str()),
             Node::Long(_, text) => out.push_str(text.as_str()),
             Node::Leaf(_, leaf) => out.push_str(leaf.text.as_str()),
-            Node::Inner(_, inner) => {
+            Node::Inner(_, _, inner) => {
                 for child in &inner.children {
                     child.push_text(out)?;
                 }
@@ -386,7 +373,7 @@ impl SyntaxNode {
         ensures inner_only { ¬ (IsInner self.now.label.content) → result.now ≡ [] }
     {
         match &self.node {
-            Node::Inner(_, inner) => &inner.children,
+            Node::Inner(_, _, inner) => &inner.children,
             Node::Short(..) | Node::Long(..) | Node::Leaf(..) | Node::Error(_) => &[],
         }
     }
@@ -415,7 +402,7 @@ impl SyntaxNode {
         ensures { result ≡ length (text_of_all (take (index + 1) (trees self.now.children))) }
     {
         match &self.node {
-            Node::Inner(_, inner) => inner.child_end(first, begin, index),
+            Node::Inner(_, _, inner) => inner.child_end(first, begin, index),
             Node::Short(..) | Node::Long(..) | Node::Leaf(..) | Node::Error(_) => unreachable!(),
         }
     }

@@ -96,7 +96,7 @@ impl SyntaxNode {
             warnings: Warnings::none(),
         };
         Ok(SyntaxNode {
-            node: Node::Inner(kind, Box::new(alloc, inner)?),
+            node: Node::Inner(kind, sums.len, Box::new(alloc, inner)?),
             span: Span::detached(),
         })
     }

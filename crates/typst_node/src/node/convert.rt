@@ -29,7 +29,7 @@ impl SyntaxNode {
             Node::Short(old, _) => *old = kind,
             Node::Long(old, _) => *old = kind,
             Node::Leaf(old, _) => *old = kind,
-            Node::Inner(old, _) => *old = kind,
+            Node::Inner(old, _, _) => *old = kind,
             Node::Error(_) => unreachable!(),
         }
     }

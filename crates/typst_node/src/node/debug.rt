@@ -32,8 +32,8 @@ impl SyntaxNode {
             Node::Long(kind, text) => write!(f, "{kind:?}: {:?}", text.as_str())?,
             Node::Leaf(kind, leaf) => write!(f, "{kind:?}: {:?}", leaf.text)?,
             Node::Error(error) => self.write_error(f, error)?,
-            Node::Inner(kind, inner) => {
-                write!(f, "{kind:?}: {}", inner.len)?;
+            Node::Inner(kind, len, inner) => {
+                write!(f, "{kind:?}: {len}")?;
                 let mut first = true;
                 for child in &inner.children {
                     if first {
@@ -119,7 +119,7 @@ impl SyntaxNode {
             Node::Long(_, text) => text.as_str().is_char_boundary(at),
             Node::Leaf(_, leaf) => leaf.text.as_str().is_char_boundary(at),
             Node::Error(error) => error.text.as_str().is_char_boundary(at),
-            Node::Inner(_, inner) => {
+            Node::Inner(_, _, inner) => {
                 let mut rest = at;
                 for child in &inner.children {
                     if rest <= child.len() {
@@ -144,7 +144,7 @@ impl SyntaxNode {
             Node::Long(_, text) => write_escaped(f, text.as_str(), start, end),
             Node::Leaf(_, leaf) => write_escaped(f, leaf.text.as_str(), start, end),
             Node::Error(error) => write_escaped(f, error.text.as_str(), start, end),
-            Node::Inner(_, inner) => {
+            Node::Inner(_, _, inner) => {
                 let mut start = start;
                 let mut end = end;
                 for child in &inner.children {

@@ -81,7 +81,7 @@ impl SyntaxNode {
         push_warnings(alloc, self.span, self.node.warnings(), warnings)?;
         match &self.node {
             Node::Short(..) | Node::Long(..) | Node::Leaf(..) => Ok(()),
-            Node::Inner(_, inner) => {
+            Node::Inner(_, _, inner) => {
                 for child in &inner.children {
                     child.push_reports(alloc, errors, warnings)?;
                 }

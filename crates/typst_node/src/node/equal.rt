@@ -34,8 +34,8 @@ impl Node {
             Node::Short(kind, text) => other.is_leaf_of(*kind, text.as_str()),
             Node::Long(kind, text) => other.is_leaf_of(*kind, text.as_str()),
             Node::Leaf(kind, leaf) => other.is_leaf_of(*kind, leaf.text.as_str()),
-            Node::Inner(kind, inner) => match other {
-                Node::Inner(other_kind, other_inner) => {
+            Node::Inner(kind, _, inner) => match other {
+                Node::Inner(other_kind, _, other_inner) => {
                     same_kind(*kind, *other_kind)
                         && inner.upper == other_inner.upper
                         && all_same(&inner.children, &other_inner.children)

@@ -84,7 +84,7 @@ impl Node {
                 error.message.as_str().hash(state);
                 feed_hints(&error.hints, state);
             }
-            Node::Inner(kind, inner) => {
+            Node::Inner(kind, _, inner) => {
                 state.write_u8(2);
                 state.write_u8(kind.to_u8());
                 state.write_u64(inner.upper);

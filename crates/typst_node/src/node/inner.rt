@@ -42,8 +42,8 @@ impl SyntaxNode {
             Node::Short(_, text) => (text.len(), 1, false, false),
             Node::Long(_, text) => (text.len(), 1, false, false),
             Node::Leaf(_, leaf) => (leaf.text.len(), 1, false, !leaf.warnings.is_empty()),
-            Node::Inner(_, inner) => (
-                inner.len,
+            Node::Inner(_, len, inner) => (
+                *len,
                 inner.descendants,
                 inner.diagnosis.errors,
                 inner.diagnosis.warnings || !inner.warnings.as_slice().is_empty(),

@@ -78,7 +78,7 @@ impl SyntaxNode {
                 map_parts(&mut error.warnings, mapper, at, end);
                 map_hint_parts(&mut error.hints, mapper, at, end);
             }
-            Node::Inner(_, inner) => {
+            Node::Inner(_, _, inner) => {
                 self.span = span;
                 inner.map_places_below(id, mapper, at, span);
             }
@@ -92,6 +92,7 @@ impl InnerNode {
         requires measured { IsMeasured self.old }
         requires inside { at + length (text_of_all self.old.children.items) ≤ length mapper.now.positions }
         ensures measured { IsMeasured self.new }
+        ensures len { self.new.len ≡ self.old.len }
         ensures upper { self.new.upper ≡ span.low }
         ensures children { self.new.children.items ≡ mapped_trees mapper.now id at self.old.children.items }
         ensures warnings { shown_warnings self.new.warnings

@@ -94,7 +94,7 @@ impl SyntaxNode {
             → AllIn start (start + (end - start) / 2) self.new }
     {
         match &mut self.node {
-            Node::Inner(_, inner) => {
+            Node::Inner(_, _, inner) => {
                 let stride = stride_of(end - start, inner.descendants as u64);
                 self.span = Span::from_number(id, SpanNumber(start + stride / 2));
                 inner.number_below(id, start, end, stride);
@@ -115,6 +115,7 @@ impl InnerNode {
         requires positive { 1 ≤ stride }
         requires room { start + stride * self.old.descendants ≤ end }
         ensures measured { IsMeasured self.new }
+        ensures len { self.new.len ≡ self.old.len }
         ensures upper { self.new.upper ≡ end }
         ensures warnings { self.new.warnings ≡ self.old.warnings }
         ensures plain { map plain self.new.children.items ≡ map plain self.old.children.items }

@@ -259,8 +259,9 @@ impl SyntaxNode {
         let id = self.span.id();
         let number = self.span.number();
         match &mut self.node {
-            Node::Inner(_, inner) => {
+            Node::Inner(_, len, inner) => {
                 let result = inner.replace(id, number, range.start, range.end, replacement);
+                *len = inner.len;
                 return result;
             }
             Node::Short(..) | Node::Long(..) | Node::Leaf(..) | Node::Error(_) => unreachable!(),

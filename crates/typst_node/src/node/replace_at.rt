@@ -85,11 +85,12 @@ impl SyntaxNode {
         match path.split_first() {
             None => errand.arrive(self),
             Some((index, rest)) => match &mut self.node {
-                Node::Inner(_, inner) => {
+                Node::Inner(_, len, inner) => {
                     if *index >= inner.children.len() {
                         return;
                     }
-                    inner.replace_in(*index, rest, errand)
+                    inner.replace_in(*index, rest, errand);
+                    *len = inner.len;
                 }
                 Node::Short(..) | Node::Long(..) | Node::Leaf(..) | Node::Error(_) => {}
             },

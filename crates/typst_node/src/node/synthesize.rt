@@ -28,7 +28,7 @@ impl SyntaxNode {
                 make_whole(&mut error.warnings);
                 make_hints_whole(&mut error.hints);
             }
-            Node::Inner(_, inner) => {
+            Node::Inner(_, _, inner) => {
                 self.span = span;
                 inner.synthesize_below(span);
             }
@@ -41,6 +41,7 @@ impl InnerNode {
     fn synthesize_below(&mut self, span: Span)
         requires { IsMeasured self.old }
         ensures measured { IsMeasured self.new }
+        ensures len { self.new.len ≡ self.old.len }
         ensures upper { self.new.upper ≡ span.low }
         ensures warnings { shown_warnings self.new.warnings ≡ map whole_warning (shown_warnings self.old.warnings) }
         ensures children { self.new.children.items ≡ map (synthesized span) self.old.children.items }

@@ -217,7 +217,7 @@ impl Node {
                 Ok(())
             }
             Node::Leaf(_, leaf) => warn_last(&mut leaf.warnings, warning),
-            Node::Inner(_, inner) => inner.warnings.push(alloc, warning),
+            Node::Inner(_, _, inner) => inner.warnings.push(alloc, warning),
             Node::Error(error) => warn_last(&mut error.warnings, warning),
         }
     }
@@ -237,7 +237,7 @@ impl Node {
         match self {
             Node::Short(..) | Node::Long(..) => unreachable!(),
             Node::Leaf(_, leaf) => hint_last(&mut leaf.warnings, hint),
-            Node::Inner(_, inner) => inner.warnings.hint_last(hint),
+            Node::Inner(_, _, inner) => inner.warnings.hint_last(hint),
             Node::Error(error) => hint_last(&mut error.warnings, hint),
         }
     }

@@ -74,9 +74,9 @@ SyntaxNode::replace_below-replace_in-requires t c =
     let is : c.args.path.now ≡ n ∷ rest = c.in-Some.ensures.cases.0 in
     let errand : FitsInner (n ∷ rest) from to c.args.self.now → IsEdit (n ∷ rest) from to others c.args.self.now =
     subst (λ (p : List ℕ). FitsInner p from to c.args.self.now → IsEdit p from to others c.args.self.now) is c.requires.1 in
-    let kids : trees c.args.self.now.children ≡ c.deref_mut.result.now.children.items = inner_kids c.self.inside _ c.in-Inner.inner c.args.self.now c.in-Inner.is c.self.view_is ∙ sym (ap (λ b. b.children.items) c.deref_mut.ensures.value) in
+    let kids : trees c.args.self.now.children ≡ c.deref_mut.result.now.children.items = inner_kids c.self.inside _ _ c.in-Inner.inner c.args.self.now c.in-Inner.is c.self.view_is ∙ sym (ap (λ b. b.children.items) c.deref_mut.ensures.value) in
     let old : List Tree = trees c.args.self.now.children in
-    let there : n < length old = omega (arith, c.if-index-len.false, ap length (inner_kids c.self.inside _ c.in-Inner.inner c.args.self.now c.in-Inner.is c.self.view_is), ap (λ b. length b.children.items) c.deref.ensures) in
+    let there : n < length old = omega (arith, c.if-index-len.false, ap length (inner_kids c.self.inside _ _ c.in-Inner.inner c.args.self.now c.in-Inner.is c.self.view_is), ap (λ b. length b.children.items) c.deref.ensures) in
     let fits : FitsInner rest from to (get_or old n no_tree) → FitsInner (n ∷ rest) from to c.args.self.now = (fits_cons (n ∷ rest) n rest from to c.args.self.now old refl refl there).1 in (
       omega (arith, c.decreases, c.in-Some.ensures.cases.1),
       (
@@ -98,32 +98,32 @@ SyntaxNode::replace_below-replace_in-requires t c =
 
 pub SyntaxNode::replace_below-returns-else-index-len-clause-frame : goal.SyntaxNode::replace_below-returns-else-index-len-clause-frame
 SyntaxNode::replace_below-returns-else-index-len-clause-frame t c =
-    let kids : trees c.args.self.now.children ≡ c.deref_mut.result.now.children.items = inner_kids c.self.inside _ c.in-Inner.inner c.args.self.now c.in-Inner.is c.self.view_is ∙ sym (ap (λ b. b.children.items) c.deref_mut.ensures.value) in
-    let same = inner_label c.self.inside _ c.in-Inner.inner c.args.self.now c.in-Inner.is c.self.view_is c.replace_in.new.self (c.replace_in.ensures.upper ∙ ap (λ b. b.upper) c.deref_mut.ensures.value) (c.replace_in.ensures.warnings ∙ ap (λ b. b.warnings) c.deref_mut.ensures.value) in
-    frame_cons c.args.path.now c.in-Some.index.now c.in-Some.rest.now c.args.self.now (tree_of record { node = Inner _ (with_value c.in-Inner.inner c.replace_in.new.self); span = c.self.inside.span })
+    let kids : trees c.args.self.now.children ≡ c.deref_mut.result.now.children.items = inner_kids c.self.inside _ _ c.in-Inner.inner c.args.self.now c.in-Inner.is c.self.view_is ∙ sym (ap (λ b. b.children.items) c.deref_mut.ensures.value) in
+    let same = inner_label c.self.inside _ _ c.in-Inner.inner c.args.self.now c.in-Inner.is c.self.view_is c.replace_in.new.self (c.replace_in.ensures.upper ∙ ap (λ b. b.upper) c.deref_mut.ensures.value) (c.replace_in.ensures.warnings ∙ ap (λ b. b.warnings) c.deref_mut.ensures.value) in
+    frame_cons c.args.path.now c.in-Some.index.now c.in-Some.rest.now c.args.self.now (tree_of record { node = Inner _ c.in-Inner.len (with_value c.in-Inner.inner c.replace_in.new.self); span = c.self.inside.span })
     c.deref_mut.result.now.children.items c.replace_in.new.self.children.items c.in-Some.ensures.cases.0 kids same refl
     (c.replace_in.ensures.one ∙ ap (set c.deref_mut.result.now.children.items c.in-Some.index.now) c.replace_in.ensures.frame)
 
 pub SyntaxNode::replace_below-returns-else-index-len-clause-at : goal.SyntaxNode::replace_below-returns-else-index-len-clause-at
 SyntaxNode::replace_below-returns-else-index-len-clause-at t c =
-    let kids : trees c.args.self.now.children ≡ c.deref_mut.result.now.children.items = inner_kids c.self.inside _ c.in-Inner.inner c.args.self.now c.in-Inner.is c.self.view_is ∙ sym (ap (λ b. b.children.items) c.deref_mut.ensures.value) in
-    at_cons c.args.path.now c.in-Some.index.now c.in-Some.rest.now c.args.errand.now.range.start c.args.errand.now.range.end c.args.errand.now.others.items c.args.self.now (tree_of record { node = Inner _ (with_value c.in-Inner.inner c.replace_in.new.self); span = c.self.inside.span })
+    let kids : trees c.args.self.now.children ≡ c.deref_mut.result.now.children.items = inner_kids c.self.inside _ _ c.in-Inner.inner c.args.self.now c.in-Inner.is c.self.view_is ∙ sym (ap (λ b. b.children.items) c.deref_mut.ensures.value) in
+    at_cons c.args.path.now c.in-Some.index.now c.in-Some.rest.now c.args.errand.now.range.start c.args.errand.now.range.end c.args.errand.now.others.items c.args.self.now (tree_of record { node = Inner _ c.in-Inner.len (with_value c.in-Inner.inner c.replace_in.new.self); span = c.self.inside.span })
     c.deref_mut.result.now.children.items c.replace_in.new.self.children.items c.replace_in.new.errand.answer (IsTrue c.replace_in.new.errand.fits) c.in-Some.ensures.cases.0 kids refl c.replace_in.ensures.at
 
 pub SyntaxNode::replace_below-returns-then-index-len-clause-fits : goal.SyntaxNode::replace_below-returns-then-index-len-clause-fits
 SyntaxNode::replace_below-returns-then-index-len-clause-fits t c =
-    let kids : trees c.args.self.now.children ≡ c.deref.result.now.children.items = inner_kids c.self.inside _ c.in-Inner.inner c.args.self.now c.in-Inner.is c.self.view_is ∙ sym (ap (λ b. b.children.items) c.deref.ensures) in
+    let kids : trees c.args.self.now.children ≡ c.deref.result.now.children.items = inner_kids c.self.inside _ _ c.in-Inner.inner c.args.self.now c.in-Inner.is c.self.view_is ∙ sym (ap (λ b. b.children.items) c.deref.ensures) in
     let out = fits_not c.args.path.now c.in-Some.index.now c.in-Some.rest.now c.args.errand.now.range.start c.args.errand.now.range.end c.args.self.now c.deref.result.now.children.items c.in-Some.ensures.cases.0 kids (omega (arith, c.if-index-len.true, c.len.ensures)) in
     ((λ yes. let no = c.requires.0 in cc), (λ h. absurd (out h)))
 
 pub SyntaxNode::replace_below-returns-then-index-len-clause-frame : goal.SyntaxNode::replace_below-returns-then-index-len-clause-frame
 SyntaxNode::replace_below-returns-then-index-len-clause-frame t c =
-    let same : tree_of record { node = Inner c.in-Inner.field-0 c.in-Inner.inner; span = c.self.inside.span } ≡ c.args.self.now = ap (λ n. tree_of record { node = n; span = c.self.inside.span }) (sym c.in-Inner.is) ∙ c.self.view_is in
+    let same : tree_of record { node = Inner c.in-Inner.field-0 c.in-Inner.len c.in-Inner.inner; span = c.self.inside.span } ≡ c.args.self.now = ap (λ n. tree_of record { node = n; span = c.self.inside.span }) (sym c.in-Inner.is) ∙ c.self.view_is in
     subst (λ (u : Tree). StaysBeside c.args.path.now c.args.self.now u) (sym same) (frame_same c.args.path.now c.args.self.now)
 
 pub SyntaxNode::replace_below-returns-else-index-len-clause-fits : goal.SyntaxNode::replace_below-returns-else-index-len-clause-fits
 SyntaxNode::replace_below-returns-else-index-len-clause-fits t c =
-    let kids : trees c.args.self.now.children ≡ c.deref_mut.result.now.children.items = inner_kids c.self.inside _ c.in-Inner.inner c.args.self.now c.in-Inner.is c.self.view_is ∙ sym (ap (λ b. b.children.items) c.deref_mut.ensures.value) in
+    let kids : trees c.args.self.now.children ≡ c.deref_mut.result.now.children.items = inner_kids c.self.inside _ _ c.in-Inner.inner c.args.self.now c.in-Inner.is c.self.view_is ∙ sym (ap (λ b. b.children.items) c.deref_mut.ensures.value) in
     let there : c.in-Some.index.now < length c.deref_mut.result.now.children.items = omega (arith, c.if-index-len.false, ap (λ b. length b.children.items) c.deref.ensures, ap (λ b. length b.children.items) c.deref_mut.ensures.value) in
     let step = fits_cons c.args.path.now c.in-Some.index.now c.in-Some.rest.now c.args.errand.now.range.start c.args.errand.now.range.end c.args.self.now c.deref_mut.result.now.children.items c.in-Some.ensures.cases.0 kids there in
     ((λ yes. step.1 (c.replace_in.ensures.fits.0 yes)), (λ h. c.replace_in.ensures.fits.1 (step.0 h)))

@@ -33,7 +33,7 @@ SyntaxNode::number_within-returns-in-Inner-clause-within t c =
 
 pub SyntaxNode::number_within-returns-in-Inner-clause-plain : goal.SyntaxNode::number_within-returns-in-Inner-clause-plain
 SyntaxNode::number_within-returns-in-Inner-clause-plain t c =
-    same_plain_inner c.self.inside _ c.in-Inner.inner c.args.self.now c.number_below.new.self c.from_number-self-inside.result c.in-Inner.is c.self.view_is
+    same_plain_inner c.self.inside _ _ c.in-Inner.inner c.args.self.now c.number_below.new.self c.from_number-self-inside.result c.in-Inner.is c.self.view_is
     (c.number_below.ensures.warnings ∙ ap (λ x. x.warnings) c.deref_mut.ensures.value)
     (c.number_below.ensures.plain ∙ ap (λ x. map plain x.children.items) c.deref_mut.ensures.value)
 
@@ -65,7 +65,7 @@ pub SyntaxNode::number_within-returns-in-Inner-clause-half : goal.SyntaxNode::nu
 SyntaxNode::number_within-returns-in-Inner-clause-half t c inner room =
     let low : c.from_number-self-inside.result.low ≡ c.args.start + c.stride_of-stride.result / 2 = ap (λ s. s.low) c.from_number-self-inside.ensures.is in
     let many : c.deref_mut.result.now.descendants ≡ c.deref.result.now.descendants = ap (λ x. x.descendants) c.deref_mut.ensures.value ∙ sym (ap (λ x. x.descendants) c.deref.ensures) in
-    let all : c.deref.result.now.descendants ≡ count c.args.self.now = ap (λ x. x.descendants) c.deref.ensures ∙ inner_count c.self.inside _ c.in-Inner.inner c.args.self.now c.in-Inner.is c.self.invariant c.self.view_is in
+    let all : c.deref.result.now.descendants ≡ count c.args.self.now = ap (λ x. x.descendants) c.deref.ensures ∙ inner_count c.self.inside _ _ c.in-Inner.inner c.args.self.now c.in-Inner.is c.self.invariant c.self.view_is in
     let half = c.stride_of-stride.ensures.half (rw all room) in
     let end = c.args.start + c.stride_of-stride.result * c.deref_mut.result.now.descendants in
     let ends : end ≤ c.args.start + (c.args.end - c.args.start) / 2 = rw many (omega arith) in

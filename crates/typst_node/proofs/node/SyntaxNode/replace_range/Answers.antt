@@ -19,27 +19,27 @@ use Rattle.typst_node.proofs.node.SyntaxNode.replace_range.Goals as goal
 
 pub replace-result-requires-clause-inside : goal.replace-result-requires-clause-inside
 replace-result-requires-clause-inside c =
-    let kids : trees c.args.self.now.children ≡ c.deref_mut.result.now.children.items = inner_kids c.self.inside _ c.in-Inner.inner c.args.self.now c.in-Inner.is c.self.view_is ∙ sym (ap (λ b. b.children.items) c.deref_mut.ensures.value) in
-    let inside = (c.requires.range (is_inner c.self.inside _ c.in-Inner.inner c.args.self.now c.in-Inner.is c.self.view_is)).1 in
+    let kids : trees c.args.self.now.children ≡ c.deref_mut.result.now.children.items = inner_kids c.self.inside _ _ c.in-Inner.inner c.args.self.now c.in-Inner.is c.self.view_is ∙ sym (ap (λ b. b.children.items) c.deref_mut.ensures.value) in
+    let inside = (c.requires.range (is_inner c.self.inside _ _ c.in-Inner.inner c.args.self.now c.in-Inner.is c.self.view_is)).1 in
     rw (← kids) inside
 
 pub replace-result-requires-clause-within : goal.replace-result-requires-clause-within
 replace-result-requires-clause-within c =
-    let num : number c.args.self.now.label ≡ c.number-number.result = inner_number c.self.inside _ c.in-Inner.inner c.args.self.now c.in-Inner.is c.self.view_is ∙ sym c.number-number.ensures.is in
-    let up : bound c.args.self.now.label ≡ c.deref_mut.result.now.upper = inner_bound c.self.inside _ c.in-Inner.inner c.args.self.now c.in-Inner.is c.self.view_is ∙ sym (ap (λ b. b.upper) c.deref_mut.ensures.value) in
-    let kids : c.args.self.now.children ≡ forest c.deref_mut.result.now.children.items = inner_forest c.self.inside _ c.in-Inner.inner c.args.self.now c.in-Inner.is c.self.view_is ∙ sym (ap (λ b. forest b.children.items) c.deref_mut.ensures.value) in
-    let file : c.args.self.now.label.span.file ≡ c.self.inside.span.file = inner_file c.self.inside _ c.in-Inner.inner c.args.self.now c.in-Inner.is c.self.view_is in
+    let num : number c.args.self.now.label ≡ c.number-number.result = inner_number c.self.inside _ _ c.in-Inner.inner c.args.self.now c.in-Inner.is c.self.view_is ∙ sym c.number-number.ensures.is in
+    let up : bound c.args.self.now.label ≡ c.deref_mut.result.now.upper = inner_bound c.self.inside _ _ c.in-Inner.inner c.args.self.now c.in-Inner.is c.self.view_is ∙ sym (ap (λ b. b.upper) c.deref_mut.ensures.value) in
+    let kids : c.args.self.now.children ≡ forest c.deref_mut.result.now.children.items = inner_forest c.self.inside _ _ c.in-Inner.inner c.args.self.now c.in-Inner.is c.self.view_is ∙ sym (ap (λ b. forest b.children.items) c.deref_mut.ensures.value) in
+    let file : c.args.self.now.label.span.file ≡ c.self.inside.span.file = inner_file c.self.inside _ _ c.in-Inner.inner c.args.self.now c.in-Inner.is c.self.view_is in
     if_numbered c.id-id.result c.args.self.now c.number-number.result c.deref_mut.result.now.upper (forest c.deref_mut.result.now.children.items) (rw file c.id-id.ensures) c.requires.numbered num up kids
 
 pub returns-in-Inner-clause-at : goal.returns-in-Inner-clause-at
 returns-in-Inner-clause-at c =
     let t = c.args.self.now in
-    let inner = is_inner c.self.inside _ c.in-Inner.inner t c.in-Inner.is c.self.view_is in
-    let items : trees t.children ≡ c.in-Inner.inner.value.children.items = inner_kids c.self.inside _ c.in-Inner.inner t c.in-Inner.is c.self.view_is in
+    let inner = is_inner c.self.inside _ _ c.in-Inner.inner t c.in-Inner.is c.self.view_is in
+    let items : trees t.children ≡ c.in-Inner.inner.value.children.items = inner_kids c.self.inside _ _ c.in-Inner.inner t c.in-Inner.is c.self.view_is in
     let kids : trees t.children ≡ c.deref_mut.result.now.children.items = items ∙ sym (ap (λ b. b.children.items) c.deref_mut.ensures.value) in
-    let num : number t.label ≡ c.number-number.result = inner_number c.self.inside _ c.in-Inner.inner t c.in-Inner.is c.self.view_is ∙ sym c.number-number.ensures.is in
-    let up : bound t.label ≡ c.deref_mut.result.now.upper = inner_bound c.self.inside _ c.in-Inner.inner t c.in-Inner.is c.self.view_is ∙ sym (ap (λ b. b.upper) c.deref_mut.ensures.value) in
-    let file : t.label.span.file ≡ c.self.inside.span.file = inner_file c.self.inside _ c.in-Inner.inner t c.in-Inner.is c.self.view_is in
+    let num : number t.label ≡ c.number-number.result = inner_number c.self.inside _ _ c.in-Inner.inner t c.in-Inner.is c.self.view_is ∙ sym c.number-number.ensures.is in
+    let up : bound t.label ≡ c.deref_mut.result.now.upper = inner_bound c.self.inside _ _ c.in-Inner.inner t c.in-Inner.is c.self.view_is ∙ sym (ap (λ b. b.upper) c.deref_mut.ensures.value) in
+    let file : t.label.span.file ≡ c.self.inside.span.file = inner_file c.self.inside _ _ c.in-Inner.inner t c.in-Inner.is c.self.view_is in
     let id = rw (← file) at c.id-id.ensures in
     let a = c.args.range.start in
     let b = c.args.range.end in
@@ -51,7 +51,7 @@ returns-in-Inner-clause-at c =
     let e : AreReplaced s c.id-id.result c.deref_mut.result.now new result = subst (λ (z : Site). AreReplaced z c.id-id.result c.deref_mut.result.now new result) at c.replace-result.ensures.made in
     let range = c.requires.range inner in
     let alike : map plain (all_at s) ≡ map plain (spliced a b ys t) = trimmed_plain (trees t.children) ys a b range.0 range.1 in
-    let label = inner_label c.self.inside _ c.in-Inner.inner t c.in-Inner.is c.self.view_is new
+    let label = inner_label c.self.inside _ _ c.in-Inner.inner t c.in-Inner.is c.self.view_is new
     (e.upper ∙ ap (λ b. b.upper) c.deref_mut.ensures.value) (e.warnings ∙ ap (λ b. b.warnings) c.deref_mut.ensures.value) in
     record {
       unnumberable = (
@@ -73,10 +73,10 @@ returns-in-Inner-clause-at c =
       ok = IfOk-weaker result _ _ (λ r h. coe 0 1 (i. IsRenumbering s r (sym (trees_of_forest new.children.items) i)) h) e.ok;
       label = label;
       plain = IfOk-weaker result _ _
-          (λ r h. inner_edited c.self.inside _ c.in-Inner.inner t c.in-Inner.is c.self.view_is new a b ys
+          (λ r h. inner_edited c.self.inside _ _ c.in-Inner.inner t c.in-Inner.is c.self.view_is new a b ys
           (e.upper ∙ ap (λ b. b.upper) c.deref_mut.ensures.value) (e.warnings ∙ ap (λ b. b.warnings) c.deref_mut.ensures.value)
           (h ∙ alike ∙ ap (λ ts. map plain (splice ts a b ys)) items)) e.plain;
       numbered = IfOk-weaker result _ _
-          (λ r h. numbered_after c.id-id.result t (tree_of record { node = Inner _ (with_value c.in-Inner.inner new); span = c.self.inside.span }) (number t.label) (bound t.label)
+          (λ r h. numbered_after c.id-id.result t (tree_of record { node = Inner _ c.in-Inner.len (with_value c.in-Inner.inner new); span = c.self.inside.span }) (number t.label) (bound t.label)
           id c.requires.numbered refl refl label h) e.within;
     }
