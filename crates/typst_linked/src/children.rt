@@ -69,7 +69,7 @@ impl<'a> Clone for LinkedChildren<'a> {
 }
 
 // The length of a child's text. It ends where the next one begins.
-fn len_of_child(node: &SyntaxNode, index: usize) -> usize
+pub(crate) fn len_of_child(node: &SyntaxNode, index: usize) -> usize
     requires { index < length (trees node.now.children) }
     ensures more { length (text_of_all (take (index + 1) (trees node.now.children)))
         ≡ length (text_of_all (take index (trees node.now.children))) + result }

@@ -9,6 +9,7 @@ ghost use Rattle.typst_linked.specs.LeafAt.{reaches_cursor, covers_cursor, begin
 ghost use Rattle.typst_linked.specs.LeafLooks.{HasWay, HasLookEachCover};
 ghost use Rattle.typst_linked.specs.declared.cursor.Side.TheVariants.{Before};
 
+use crate::endings::child_ending;
 use crate::halving::{first_ending, last_at_once};
 use crate::looks::Looks;
 use crate::node::LinkedNode;
@@ -75,6 +76,8 @@ impl<'a> LinkedNode<'a> {
     /// For [`Side::Before`] where there is no such byte in this node's text, it is the last node without children, if
     /// that begins at the cursor. Trivia and errors aren't skipped. If this node has no children, it is asked alone, and
     /// then only its end counts. It fails only where memory runs out.
+    ///
+    /// On the way down it goes through up to ten children, and halves among more.
     pub fn leaf_at(
         &self,
         alloc: Global,
@@ -83,7 +86,23 @@ impl<'a> LinkedNode<'a> {
     ) -> Result<Option<Self>, AllocError>
         ensures { IfOk result (λ r. r ≡ leaf_place side cursor self.now) }
     {
+        if !self.get().child_slice().is_empty() && side.covers(cursor, &self.range()) {
+            return Ok(Some(self.clone()?.into_covered(alloc, cursor, side)?));
+        }
         self.leaf_at_counted(alloc, cursor, side, &mut Looks::new())
+    }
+
+    // The node without children that covers the cursor, below one that does.
+    fn into_covered(self, alloc: Global, cursor: usize, side: Side) -> Result<Self, AllocError>
+        requires { CoversCursor side cursor self }
+        ensures { IfOk result (IsCoveringBelow side cursor self.entry) }
+    {
+        let end = side.least_end(cursor) - self.offset();
+        let Some(part) = child_ending(self.get(), end) else {
+            return Ok(self);
+        };
+        let child = self.into_part(alloc, part)?;
+        child.into_covered(alloc, cursor, side)
     }
 
     /// The same, and `looks` then holds how many ends of children this call read, also where memory was refused: at most
@@ -119,7 +138,7 @@ impl<'a> LinkedNode<'a> {
         Ok(None)
     }
 
-    // The node without children that covers the cursor, below one that does.
+    // The same as by `into_covered`, and how many ends it read.
     fn into_covering(
         self,
         alloc: Global,

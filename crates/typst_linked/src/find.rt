@@ -9,8 +9,9 @@ ghost use Rattle.typst_linked.specs.Ranges.{begin_of, FindsRange};
 ghost use Rattle.typst_linked.specs.Own.{FindsOwn};
 ghost use Rattle.typst_linked.specs.Finds.{FindsNumber, FindsSpan, HasNumberBelow, AreLooksFor, AreLooksForSpan, HasLookEachStep, HasLookEachStepFor};
 
+use crate::endings::child_ending;
 use crate::floor::Part;
-use crate::halving::{first_ending, last_up_to};
+use crate::halving::last_up_to;
 use crate::looks::Looks;
 use crate::node::LinkedNode;
 use std::alloc::{AllocError, Global};
@@ -137,9 +138,8 @@ fn first_cover(node: &SyntaxNode, range: Range<usize>, start: usize, end: usize)
     if node.child_slice().is_empty() {
         return None;
     }
-    let mut looks = Looks::new();
     let goal = end.saturating_sub(range.start);
-    let Some(part) = first_ending(node, goal, &mut looks) else {
+    let Some(part) = child_ending(node, goal) else {
         return None;
     };
     if range.start + part.begin <= start {

@@ -55,7 +55,7 @@ pub(crate) fn first_ending(node: &SyntaxNode, goal: usize, looks: &mut Looks) ->
     let mut begin = 0;
     while low < high {
         let middle = low + (high - low) / 2;
-        let end = looks.end_after(node, low, begin, middle);
+        let end = looks.end_of(node, middle);
         if end < goal {
             begin = end;
             low = middle + 1;
@@ -78,7 +78,7 @@ pub(crate) fn last_at_once(node: &SyntaxNode, looks: &mut Looks) -> Option<Part>
     ensures few { looks.new ≤ looks.old + length (trees node.now.children) }
 {
     let last = node.child_slice().len() - 1;
-    if last > 0 && looks.end_after(node, 0, 0, last - 1) > 0 {
+    if last > 0 && looks.end_of(node, last - 1) > 0 {
         return None;
     }
     Some(Part {

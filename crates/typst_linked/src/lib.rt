@@ -22,6 +22,7 @@ pub use preorder::LinkedPreorder;
 
 mod children;
 mod cursor;
+mod endings;
 mod find;
 mod floor;
 mod halving;

@@ -58,22 +58,14 @@ impl Looks {
         node.span().number()
     }
 
-    // Reads the end of a node's child and counts it, where it is known where the text of an earlier child begins.
-    pub(crate) fn end_after(
-        &mut self,
-        node: &SyntaxNode,
-        first: usize,
-        begin: usize,
-        index: usize,
-    ) -> usize
+    // Reads the end of a node's child and counts it.
+    pub(crate) fn end_of(&mut self, node: &SyntaxNode, index: usize) -> usize
         requires room { self.old + 1 < 2 ^ 64 }
-        requires order { first ≤ index }
         requires child { index < length (trees node.now.children) }
-        requires begin { begin ≡ length (text_of_all (take first (trees node.now.children))) }
         ensures end { result ≡ length (text_of_all (take (index + 1) (trees node.now.children))) }
         ensures counted { self.new ≡ self.old + 1 }
     {
         self.count += 1;
-        node.child_end_after(first, begin, index)
+        node.child_end(index)
     }
 }

@@ -189,21 +189,16 @@ fn joined_len(nodes: &[SyntaxNode]) -> usize
 }
 
 impl InnerNode {
-    /// Where the text of a child ends: it is read where it is kept, and else counted from where an earlier one begins or from
-    /// the end of all, whichever is nearer.
-    fn child_end(&self, first: usize, begin: usize, index: usize) -> usize
+    /// Where the text of a child ends: it is read where it is kept, and else counted from the nearer end of the list.
+    fn child_end(&self, index: usize) -> usize
         requires measured { IsMeasured self.now }
-        requires order { first ≤ index }
         requires index { index < length self.now.children.items }
-        requires begin { begin ≡ length (text_of_all (take first self.now.children.items)) }
         ensures { result ≡ length (text_of_all (take (index + 1) self.now.children.items)) }
     {
         let len = self.len;
         match self.ends.get(index) {
             Some(end) => end,
-            None if index - first < self.children.len() - index => {
-                begin + joined_len(&self.children[first..index + 1])
-            }
+            None if index < self.children.len() - index => joined_len(&self.children[0..index + 1]),
             None => len - joined_len(&self.children[index + 1..]),
         }
     }
@@ -387,22 +382,8 @@ impl SyntaxNode {
         requires { index < length (trees self.now.children) }
         ensures { result ≡ length (text_of_all (take (index + 1) (trees self.now.children))) }
     {
-        self.child_end_after(0, 0, index)
-    }
-
-    /// The same, where it is known where the text of that child or of an earlier one begins: `first` is its child index, and
-    /// `begin` is in bytes from the beginning of this node's text, as `child_end(first - 1)` answers it, or 0 for the first. In a
-    /// node of up to ten children it is counted from there or from the end, whichever is nearer; in one of more it is read as by
-    /// `child_end`.
-    #[tactic(auto, using(crate::proofs::Trees::trees_of_forest))]
-    pub fn child_end_after(&self, first: usize, begin: usize, index: usize) -> usize
-        requires order { first ≤ index }
-        requires index { index < length (trees self.now.children) }
-        requires begin { begin ≡ length (text_of_all (take first (trees self.now.children))) }
-        ensures { result ≡ length (text_of_all (take (index + 1) (trees self.now.children))) }
-    {
         match &self.node {
-            Node::Inner(_, _, inner) => inner.child_end(first, begin, index),
+            Node::Inner(_, _, inner) => inner.child_end(index),
             Node::Short(..) | Node::Long(..) | Node::Leaf(..) | Node::Error(_) => unreachable!(),
         }
     }

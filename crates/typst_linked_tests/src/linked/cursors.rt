@@ -240,22 +240,10 @@ pub(crate) fn thousand_texts(alloc: Global) -> Result<SyntaxNode, DrawingError> 
 }
 
 #[test]
-fn an_end_is_added_up_from_an_earlier_child(rt: HostRuntime) -> Result<(), Fail> {
-    let tree = drawn(rt.alloc(), "Markup[ Text:ab Text:c Text:def ]")?;
-    assert_eq!(rt; tree.child_slice().len(), 3);
-    let begin = tree.child_end(0);
-    assert_eq!(rt; (begin, tree.child_end_after(1, begin, 1)), (2, 3));
-    assert_eq!(rt; tree.child_end_after(1, begin, 2), 6);
-    Ok(())
-}
-
-#[test]
 fn each_offset_of_a_thousand_leaves_is_found_by_halving(rt: HostRuntime) -> Result<(), Fail> {
     let tree = thousand_texts(rt.alloc())?;
     assert_eq!(rt; tree.child_slice().len(), 1000);
     assert_eq!(rt; (tree.child_end(499), tree.child_end(999)), (1000, 2000));
-    let begin = tree.child_end(499);
-    assert_eq!(rt; tree.child_end_after(500, begin, 999), 2000);
     assert!(rt; are_found(rt.alloc(), &tree, 2002, 10)?);
     Ok(())
 }

@@ -11,7 +11,7 @@ loop-low-preserved-then-end-goal c =
     record {
       ordered = omega arith;
       within = omega arith;
-      begin = c.end_after-end.ensures.end;
+      begin = c.end_of-end.ensures.end;
       before = λ p. c.if-end-goal.true;
       behind = c.loop-low.invariant.behind;
       cost = omega (arith, digits_half (high - (middle + 1)) (high - low) (omega arith) (omega arith));
@@ -30,7 +30,7 @@ loop-low-preserved c =
       within = omega arith;
       begin = c.loop-low.invariant.begin;
       before = c.loop-low.invariant.before;
-      behind = λ p. omega (arith, c.end_after-end.ensures.end, c.if-end-goal.false);
+      behind = λ p. omega (arith, c.end_of-end.ensures.end, c.if-end-goal.false);
       cost = omega (arith, digits_half (middle - low) (high - low) (omega arith) (omega arith));
       few = omega arith;
       grows = omega arith;

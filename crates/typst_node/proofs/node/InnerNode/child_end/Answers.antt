@@ -16,24 +16,18 @@ get-requires c = within_ends c.args.self.now.ends c.args.self.now.children.items
 pub joined_len-requires : goal.joined_len-requires
 joined_len-requires c =
     let items = c.args.self.now.children.items in
-    let part = same_part c.deref.result.now items c.args.first (c.args.index + 1) c.deref.ensures.value in
-    omega (arith, text_front items (c.args.index + 1), text_parts items c.args.first (c.args.index + 1) (omega arith), c.requires.measured.len, part)
+    let part = same_part c.deref.result.now items 0 (c.args.index + 1) c.deref.ensures.value in
+    omega (arith, text_front items (c.args.index + 1), text_parts items 0 (c.args.index + 1) (omega arith), c.requires.measured.len, part)
 
 pub returns-in-Some : goal.returns-in-Some
 returns-in-Some c = kept_end_is c.args.self.now.ends c.args.self.now.children.items c.args.index c.in-Some.end c.requires.index c.requires.measured.ends
     (subst (λ r. MatchOption c.args.self.now.ends (r ≡ None) (λ ends. r ≡ Some (slice_index ends c.args.index))) c.in-Some.is c.get.ensures)
 
-pub overflow_add-result : goal.overflow_add-result
-overflow_add-result c =
-    let items = c.args.self.now.children.items in
-    let part = same_part c.deref.result.now items c.args.first (c.args.index + 1) c.deref.ensures.value in
-    omega (arith, text_front items (c.args.index + 1), text_parts items c.args.first (c.args.index + 1) (omega arith), c.requires.measured.len, part)
-
 pub returns-in-None : goal.returns-in-None
 returns-in-None c =
     let items = c.args.self.now.children.items in
-    let part = same_part c.deref.result.now items c.args.first (c.args.index + 1) c.deref.ensures.value in
-    omega (arith, text_parts items c.args.first (c.args.index + 1) (omega arith), part)
+    let part = same_part c.deref.result.now items 0 (c.args.index + 1) c.deref.ensures.value in
+    omega (arith, text_parts items 0 (c.args.index + 1) (omega arith), part)
 
 -- the text of a beginning and that of the rest, read from another list that is the same
 rest_of : (ts us : List Tree) (first : ℕ) → ts ≡ us → first ≤ length us → length (text_of_all (take first us)) + length (text_of_all (slice_range ts first (length ts))) ≡ length (text_of_all us)
