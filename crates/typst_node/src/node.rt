@@ -10,7 +10,6 @@ ghost use Rattle.typst_node.specs.View.{warnings_in, IsMeasured};
 
 use crate::diagnosis::Diagnosis;
 use crate::node::child_ends::ChildEnds;
-use crate::node::warnings::Warnings;
 use crate::short_text::ShortText;
 use std::alloc::{AllocError, Global};
 use std::marker::Model;
@@ -36,7 +35,6 @@ pub mod spanless;
 pub mod synthesize;
 mod trim;
 pub mod warn;
-mod warnings;
 mod window;
 
 /// A node of a syntax tree: a leaf, an inner node or an error, under any number of warnings.
@@ -76,7 +74,8 @@ struct InnerNode {
     // The bound: above every number of the subtree, once it is numbered.
     upper: u64,
     children: Vec<SyntaxNode>,
-    warnings: Warnings,
+    // From the innermost to the outermost.
+    warnings: Vec<Warning>,
     // Where the texts of the children end, unless they are few.
     ends: ChildEnds,
 }
@@ -212,7 +211,7 @@ impl Node {
         match self {
             Node::Short(..) | Node::Long(..) => &[],
             Node::Leaf(_, leaf) => &leaf.warnings,
-            Node::Inner(_, _, inner) => inner.warnings.as_slice(),
+            Node::Inner(_, _, inner) => &inner.warnings,
             Node::Error(error) => &error.warnings,
         }
     }

@@ -5,7 +5,6 @@ ghost use Rattle.typst_node.specs.Count.{SumsFit};
 ghost use Rattle.typst_node.specs.declared.node.build.InnerError.TheVariants.{Overflow, Memory};
 
 use crate::node::inner::measured;
-use crate::node::warnings::Warnings;
 use crate::node::{InnerNode, Node, SyntaxNode};
 use crate::short_text::{LONGEST, ShortText};
 use std::alloc::{AllocError, AllocFailed, Global};
@@ -93,7 +92,7 @@ impl SyntaxNode {
             upper: 0,
             children,
             ends,
-            warnings: Warnings::none(),
+            warnings: Vec::new(alloc),
         };
         Ok(SyntaxNode {
             node: Node::Inner(kind, sums.len, Box::new(alloc, inner)?),
