@@ -16,7 +16,7 @@ most_le-count [] = omega arith
 most_le-count (t ∷ ts) = omega (arith, most_le-count ts, length-append (preorder t.children) (preorder (forest ts)))
 
 pub children_are_smaller : (n : Node) → max (deep-Node n) 0 ≤ suc (count_of_all (below n))
-children_are_smaller (Short kind text) = omega arith
+children_are_smaller (Short kind len bytes) = omega arith
 children_are_smaller (Long kind b) = omega arith
 children_are_smaller (Leaf kind b) = omega arith
 children_are_smaller (Inner kind len b) = omega (arith, most_le-count b.value.children.items)

@@ -1,5 +1,5 @@
 -- What a node is seen as, and what is kept in it.
-use Rattle.std.specs.Prelude.{◌≡◌, ◌≢◌, suc, List, [], length, map, reverse, string_bytes}
+use Rattle.std.specs.Prelude.{◌≡◌, ◌≢◌, ◌≤◌, ℕ, suc, List, [], length, map, take, reverse, string_bytes, IsUtf8}
 use Rattle.std.specs.List.{list_any}
 use Rattle.typst_base.specs.declared.kind.SyntaxKind.TheVariants as kinds
 use Rattle.typst_node.specs.Tree.{HintText, WarningText, Content, AsLeaf, AsError, AsInner, Tree, forest}
@@ -26,7 +26,7 @@ abbrev pub shown_warnings : List Warning → List WarningText
 shown_warnings ws = reverse (map warning_text ws)
 
 abbrev pub content : Node → Content
-content (Short kind text) = AsLeaf kind text
+content (Short kind len bytes) = AsLeaf kind (take len bytes)
 content (Long kind b) = AsLeaf kind (string_bytes b.value)
 content (Leaf kind b) = AsLeaf kind (string_bytes b.value.text)
 content (Inner kind len b) = AsInner kind b.value.upper
@@ -34,7 +34,7 @@ content (Error b) = AsError (string_bytes b.value.text) (string_bytes b.value.me
 
 -- the warnings as they are kept, innermost first
 abbrev pub warnings_in : Node → List Warning
-warnings_in (Short kind text) = []
+warnings_in (Short kind len bytes) = []
 warnings_in (Long kind b) = []
 warnings_in (Leaf kind b) = b.value.warnings.items
 warnings_in (Inner kind len b) = b.value.warnings.items
@@ -42,7 +42,7 @@ warnings_in (Error b) = b.value.warnings.items
 
 -- the node's children
 abbrev pub below : Node → List Tree
-below (Short kind text) = []
+below (Short kind len bytes) = []
 below (Long kind b) = []
 below (Leaf kind b) = []
 below (Inner kind len b) = b.value.children.items
@@ -62,8 +62,13 @@ pub record IsMeasured (inner : InnerNode) : Type 0 where
   pub warnings : inner.diagnosis.warnings ≡ list_any is_warned (preorder (forest inner.children.items))
   pub ends : AreEnds inner.ends inner.children.items
 
+-- so many of the bytes are a text that fits a leaf itself
+pub record IsShort (len : ℕ) (bytes : List ℕ) : Type 0 where
+  pub fits : len ≤ 21
+  pub text : IsUtf8 (take len bytes)
+
 abbrev pub IsKept : Node → Type 0
-IsKept (Short kind text) = kind ≢ kinds.Error
+IsKept (Short kind len bytes) = (kind ≢ kinds.Error) × IsShort len bytes
 IsKept (Long kind b) = kind ≢ kinds.Error
 IsKept (Leaf kind b) = kind ≢ kinds.Error
 IsKept (Inner kind len b) = (kind ≢ kinds.Error) × ((len ≡ b.value.len) × IsMeasured b.value)

@@ -10,7 +10,7 @@ ghost use Rattle.typst_node.specs.View.{warnings_in, IsMeasured};
 
 use crate::diagnosis::Diagnosis;
 use crate::node::child_ends::ChildEnds;
-use crate::short_text::ShortText;
+use crate::short_text::{LONGEST, len_in, text_in};
 use std::alloc::{AllocError, Global};
 use std::marker::Model;
 use std::{mem, slice};
@@ -51,8 +51,9 @@ pub struct SyntaxNode {
 #[cycle(node)]
 #[derive(Drop)]
 enum Node {
-    // A leaf without warnings that holds its text itself.
-    Short(SyntaxKind, ShortText),
+    // A leaf without warnings that holds its text itself: how many of the bytes are the text's, and the bytes. They stand here one
+    // by one, not in a struct of their own, since the compiler then moves a node as one piece, and else as four that overlap.
+    Short(SyntaxKind, u8, [u8; LONGEST]),
     // A leaf without warnings whose text is longer.
     Long(SyntaxKind, Box<String>),
     // A leaf that got warnings. The kinds of leaves and inner nodes stand here, at one place, so that they are read without a box.
@@ -225,7 +226,7 @@ impl SyntaxNode {
         ensures error { (result ≡ Error) ↔ IsTrue (is_error self.now.label) }
     {
         match &self.node {
-            Node::Short(kind, _) => *kind,
+            Node::Short(kind, ..) => *kind,
             Node::Long(kind, _) => *kind,
             Node::Leaf(kind, _) => *kind,
             Node::Inner(kind, _, _) => *kind,
@@ -279,7 +280,7 @@ impl SyntaxNode {
         ensures { result ≡ length (text self.now) }
     {
         match &self.node {
-            Node::Short(_, text) => text.len(),
+            Node::Short(_, len, bytes) => len_in(*len, bytes),
             Node::Long(_, text) => text.len(),
             Node::Leaf(_, leaf) => leaf.text.len(),
             Node::Inner(_, len, _) => *len,
@@ -317,7 +318,7 @@ impl SyntaxNode {
         ensures { result.now ≡ own_text self.now.label }
     {
         match &self.node {
-            Node::Short(_, text) => text.as_str(),
+            Node::Short(_, len, bytes) => text_in(*len, bytes),
             Node::Long(_, text) => text.as_str(),
             Node::Leaf(_, leaf) => leaf.text.as_str(),
             Node::Inner(..) => "",
@@ -339,7 +340,7 @@ impl SyntaxNode {
         ensures { OnOk result (string_bytes out.new ≡ string_bytes out.old ++ text self.now) }
     {
         match &self.node {
-            Node::Short(_, text) => out.push_str(text.as_str()),
+            Node::Short(_, len, bytes) => out.push_str(text_in(*len, bytes)),
             Node::Long(_, text) => out.push_str(text.as_str()),
             Node::Leaf(_, leaf) => out.push_str(leaf.text.as_str()),
             Node::Inner(_, _, inner) => {

@@ -1,64 +1,32 @@
 //! Short texts, which take no memory of their own.
 ghost use Rattle.std.specs.Prelude.{◌≡◌, ◌≤◌, length, take};
-
-use std::marker::Model;
+ghost use Rattle.typst_node.specs.View.{IsShort};
 
 /// The length of the longest short text in bytes.
 pub(crate) const LONGEST: usize = 21;
 
-/// A text of at most 21 bytes. In contracts it is the list of its bytes.
-#[derive(Drop)]
-pub(crate) struct ShortText {
-    // How many of the bytes are the text's. Those after them say nothing.
-    len: u8,
-    bytes: [u8; 21],
+/// The bytes of a text of at most `LONGEST` bytes, with zeros behind them.
+pub(crate) fn bytes_of(text: &str) -> [u8; LONGEST]
+    requires { length text.now ≤ 21 }
+    ensures { take (length text.now) result ≡ text.now }
+{
+    let mut bytes = [0; LONGEST];
+    bytes[..text.len()].copy_from_slice(text.as_bytes());
+    bytes
 }
 
-impl Model for ShortText {
-    ghost use Rattle.std.specs.Prelude.{ℕ, List, take, ◌≤◌, IsUtf8};
-
-    ghost Value = { List ℕ };
-
-    ghost view = { λ a. take a.len a.bytes };
-
-    ghost invariant = { λ a. (a.len ≤ 21) × IsUtf8 (take a.len a.bytes) };
+/// The text that so many of the bytes are. Those after them say nothing.
+pub(crate) fn text_in(len: u8, bytes: &[u8; LONGEST]) -> &str
+    requires { IsShort len bytes.now }
+    ensures { result.now ≡ take len bytes.now }
+{
+    unsafe { std::str::from_utf8_unchecked(&bytes[..len as usize]) }
 }
 
-impl ShortText {
-    /// A copy of a text of at most `LONGEST` bytes.
-    pub(crate) fn new(text: &str) -> ShortText
-        requires { length text.now ≤ 21 }
-        ensures { result ≡ text.now }
-    {
-        let mut bytes = [0; 21];
-        bytes[..text.len()].copy_from_slice(text.as_bytes());
-        ShortText {
-            len: text.len() as u8,
-            bytes,
-        }
-    }
-
-    /// The text.
-    pub(crate) fn as_str(&self) -> &str
-        ensures { result.now ≡ self.now }
-    {
-        unsafe { std::str::from_utf8_unchecked(&self.bytes[..self.len as usize]) }
-    }
-
-    /// The text's length in bytes.
-    pub(crate) fn len(&self) -> usize
-        ensures { result ≡ length self.now }
-    {
-        self.len as usize
-    }
-
-    /// The same text.
-    pub(crate) fn copy(&self) -> ShortText
-        ensures { result ≡ self.now }
-    {
-        ShortText {
-            len: self.len,
-            bytes: self.bytes,
-        }
-    }
+/// The length in bytes of the text that so many of the bytes are.
+pub(crate) fn len_in(len: u8, bytes: &[u8; LONGEST]) -> usize
+    requires { IsShort len bytes.now }
+    ensures { result ≡ length (take len bytes.now) }
+{
+    len as usize
 }

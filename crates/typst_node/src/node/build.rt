@@ -6,7 +6,7 @@ ghost use Rattle.typst_node.specs.declared.node.build.InnerError.TheVariants.{Ov
 
 use crate::node::inner::measured;
 use crate::node::{InnerNode, Node, SyntaxNode};
-use crate::short_text::{LONGEST, ShortText};
+use crate::short_text::{LONGEST, bytes_of};
 use std::alloc::{AllocError, AllocFailed, Global};
 use thiserror::Error;
 use typst_base::{Span, SyntaxKind};
@@ -48,7 +48,7 @@ impl SyntaxNode {
         ensures succeeds { length text.now ≤ 21 → IsOk result }
     {
         let node = if text.len() <= LONGEST {
-            Node::Short(kind, ShortText::new(text))
+            Node::Short(kind, text.len() as u8, bytes_of(text))
         } else {
             let text = String::from_str(alloc, text)?;
             Node::Long(kind, Box::new(alloc, text)?)
@@ -66,7 +66,7 @@ impl SyntaxNode {
         ensures { result ≡ leaf_tree kind [] }
     {
         SyntaxNode {
-            node: Node::Short(kind, ShortText::new("")),
+            node: Node::Short(kind, 0, [0; LONGEST]),
             span: Span::detached(),
         }
     }
@@ -107,7 +107,7 @@ impl Default for SyntaxNode {
 
     fn default() -> Self {
         SyntaxNode {
-            node: Node::Short(SyntaxKind::End, ShortText::new("")),
+            node: Node::Short(SyntaxKind::End, 0, [0; LONGEST]),
             span: Span::detached(),
         }
     }

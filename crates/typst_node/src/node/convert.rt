@@ -26,7 +26,7 @@ impl SyntaxNode {
         ensures { self.new ≡ of_kind kind self.old }
     {
         match &mut self.node {
-            Node::Short(old, _) => *old = kind,
+            Node::Short(old, ..) => *old = kind,
             Node::Long(old, _) => *old = kind,
             Node::Leaf(old, _) => *old = kind,
             Node::Inner(old, _, _) => *old = kind,

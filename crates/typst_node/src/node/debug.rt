@@ -1,5 +1,6 @@
 // Nodes in one line, for programmers.
 use crate::node::{ErrorNode, Hint, Node, SyntaxNode, Warning};
+use crate::short_text::text_in;
 use std::fmt;
 use typst_base::SubRange;
 
@@ -28,7 +29,7 @@ impl SyntaxNode {
             self.write_warning(f, &warnings[count - 1 - done])?;
         }
         match &self.node {
-            Node::Short(kind, text) => write!(f, "{kind:?}: {:?}", text.as_str())?,
+            Node::Short(kind, len, bytes) => write!(f, "{kind:?}: {:?}", text_in(*len, bytes))?,
             Node::Long(kind, text) => write!(f, "{kind:?}: {:?}", text.as_str())?,
             Node::Leaf(kind, leaf) => write!(f, "{kind:?}: {:?}", leaf.text)?,
             Node::Error(error) => self.write_error(f, error)?,
@@ -115,7 +116,7 @@ impl SyntaxNode {
     /// Whether a character of the node's text begins at this byte, or the text ends there.
     fn is_boundary(&self, at: usize) -> bool {
         match &self.node {
-            Node::Short(_, text) => text.as_str().is_char_boundary(at),
+            Node::Short(_, len, bytes) => text_in(*len, bytes).is_char_boundary(at),
             Node::Long(_, text) => text.as_str().is_char_boundary(at),
             Node::Leaf(_, leaf) => leaf.text.as_str().is_char_boundary(at),
             Node::Error(error) => error.text.as_str().is_char_boundary(at),
@@ -140,7 +141,7 @@ impl SyntaxNode {
         end: usize,
     ) -> fmt::Result {
         match &self.node {
-            Node::Short(_, text) => write_escaped(f, text.as_str(), start, end),
+            Node::Short(_, len, bytes) => write_escaped(f, text_in(*len, bytes), start, end),
             Node::Long(_, text) => write_escaped(f, text.as_str(), start, end),
             Node::Leaf(_, leaf) => write_escaped(f, leaf.text.as_str(), start, end),
             Node::Error(error) => write_escaped(f, error.text.as_str(), start, end),

@@ -1,9 +1,10 @@
 // Equality of whole trees.
 ghost use Rattle.std.specs.Prelude.{◌≡◌, ◌↔◌, IsTrue};
-ghost use Rattle.typst_node.specs.View.{content, below};
+ghost use Rattle.typst_node.specs.View.{content, below, IsKept};
 
 use crate::node::spanless::{same_hints, same_kind, same_warnings};
 use crate::node::{Node, SyntaxNode};
+use crate::short_text::text_in;
 use typst_base::Span;
 
 fn same_span(span: Span, other: Span) -> bool
@@ -28,10 +29,12 @@ impl SyntaxNode {
 impl Node {
     #[cycle(same)]
     fn same(&self, other: &Node) -> bool
+        requires kept { IsKept self.now }
+        requires other { IsKept other.now }
         ensures { IsTrue result ↔ ((content self.now ≡ content other.now) × (below self.now ≡ below other.now)) }
     {
         match self {
-            Node::Short(kind, text) => other.is_leaf_of(*kind, text.as_str()),
+            Node::Short(kind, len, bytes) => other.is_leaf_of(*kind, text_in(*len, bytes)),
             Node::Long(kind, text) => other.is_leaf_of(*kind, text.as_str()),
             Node::Leaf(kind, leaf) => other.is_leaf_of(*kind, leaf.text.as_str()),
             Node::Inner(kind, _, inner) => match other {

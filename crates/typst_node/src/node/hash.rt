@@ -2,9 +2,10 @@
 ghost use Rattle.std.specs.Prelude.{◌≡◌, fold, map, reverse};
 ghost use Rattle.typst_node.specs.Hashed.{sub_range_input, hint_input, hints_input, warning_input, warnings_input, content_input, span_input, label_input, tree_input};
 ghost use Rattle.typst_node.specs.Tree.{AsLeaf};
-ghost use Rattle.typst_node.specs.View.{hint_text, warning_text, content};
+ghost use Rattle.typst_node.specs.View.{hint_text, warning_text, content, IsKept};
 
 use crate::node::{Hint, Node, SyntaxNode, Warning};
+use crate::short_text::text_in;
 use std::hash::{Hash, Hasher};
 use typst_base::{Span, SubRange, SyntaxKind};
 
@@ -72,10 +73,11 @@ fn feed_leaf<H: Hasher>(kind: SyntaxKind, text: &str, state: &mut H)
 impl Node {
     /// Feeds what the node is without its children.
     fn feed_content<H: Hasher>(&self, state: &mut H)
+        requires { IsKept self.now }
         ensures { state.new ≡ fold H.write state.old (content_input (content self.now)) }
     {
         match self {
-            Node::Short(kind, text) => feed_leaf(*kind, text.as_str(), state),
+            Node::Short(kind, len, bytes) => feed_leaf(*kind, text_in(*len, bytes), state),
             Node::Long(kind, text) => feed_leaf(*kind, text.as_str(), state),
             Node::Leaf(kind, leaf) => feed_leaf(*kind, leaf.text.as_str(), state),
             Node::Error(error) => {

@@ -11,6 +11,7 @@ use crate::diagnosis::Diagnosis;
 use crate::node::build::InnerError;
 use crate::node::child_ends::{ChildEnds, FEW};
 use crate::node::{Node, SyntaxNode};
+use crate::short_text::len_in;
 use std::alloc::{AllocError, Global};
 
 /// The sums of a list of children, with their parent counted in.
@@ -39,7 +40,7 @@ impl SyntaxNode {
         ensures warnings { result.diagnosis.warnings ≡ has_warning self.now }
     {
         let (len, descendants, errors, warnings) = match &self.node {
-            Node::Short(_, text) => (text.len(), 1, false, false),
+            Node::Short(_, len, bytes) => (len_in(*len, bytes), 1, false, false),
             Node::Long(_, text) => (text.len(), 1, false, false),
             Node::Leaf(_, leaf) => (leaf.text.len(), 1, false, !leaf.warnings.is_empty()),
             Node::Inner(_, len, inner) => (

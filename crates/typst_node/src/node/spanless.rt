@@ -2,9 +2,10 @@
 ghost use Rattle.std.specs.Prelude.{◌≡◌, ◌↔◌, IsTrue, map, string_bytes};
 ghost use Rattle.typst_node.specs.Plain.{plain, unbounded};
 ghost use Rattle.typst_node.specs.Tree.{AsLeaf};
-ghost use Rattle.typst_node.specs.View.{hint_text, warning_text, content, below};
+ghost use Rattle.typst_node.specs.View.{hint_text, warning_text, content, below, IsKept};
 
 use crate::node::{Hint, Node, SyntaxNode, Warning};
+use crate::short_text::text_in;
 use typst_base::SyntaxKind;
 
 pub(super) fn same_kind(kind: SyntaxKind, other: SyntaxKind) -> bool
@@ -58,10 +59,11 @@ pub(super) fn same_warnings(warnings: &[Warning], others: &[Warning]) -> bool
 impl Node {
     /// Whether this is a leaf of that kind with that text, wherever the text is kept.
     pub(super) fn is_leaf_of(&self, kind: SyntaxKind, text: &str) -> bool
+        requires { IsKept self.now }
         ensures { IsTrue result ↔ (content self.now ≡ AsLeaf kind text.now) }
     {
         match self {
-            Node::Short(own, own_text) => same_kind(*own, kind) && own_text.as_str() == text,
+            Node::Short(own, len, bytes) => same_kind(*own, kind) && text_in(*len, bytes) == text,
             Node::Long(own, own_text) => same_kind(*own, kind) && own_text.as_str() == text,
             Node::Leaf(own, leaf) => same_kind(*own, kind) && leaf.text.as_str() == text,
             Node::Inner(..) | Node::Error(_) => false,
@@ -79,12 +81,14 @@ impl SyntaxNode {
     {
         match &self.node {
             // It has no warnings, so what equals it has none.
-            Node::Short(kind, text) => match &other.node {
-                Node::Short(other_kind, other_text) => {
-                    same_kind(*kind, *other_kind) && text.as_str() == other_text.as_str()
+            Node::Short(kind, len, bytes) => match &other.node {
+                Node::Short(other_kind, other_len, other_bytes) => {
+                    same_kind(*kind, *other_kind)
+                        && text_in(*len, bytes) == text_in(*other_len, other_bytes)
                 }
                 Node::Long(..) | Node::Leaf(..) | Node::Inner(..) | Node::Error(_) => {
-                    other.node.is_leaf_of(*kind, text.as_str()) && other.node.warnings().is_empty()
+                    other.node.is_leaf_of(*kind, text_in(*len, bytes))
+                        && other.node.warnings().is_empty()
                 }
             },
             Node::Long(..) | Node::Leaf(..) | Node::Inner(..) | Node::Error(_) => {
@@ -98,10 +102,12 @@ impl SyntaxNode {
 impl Node {
     #[cycle(alike)]
     fn spanless_eq(&self, other: &Node) -> bool
+        requires kept { IsKept self.now }
+        requires other { IsKept other.now }
         ensures { IsTrue result ↔ ((unbounded (content self.now) ≡ unbounded (content other.now)) × (map plain (below self.now) ≡ map plain (below other.now))) }
     {
         match self {
-            Node::Short(kind, text) => other.is_leaf_of(*kind, text.as_str()),
+            Node::Short(kind, len, bytes) => other.is_leaf_of(*kind, text_in(*len, bytes)),
             Node::Long(kind, text) => other.is_leaf_of(*kind, text.as_str()),
             Node::Leaf(kind, leaf) => other.is_leaf_of(*kind, leaf.text.as_str()),
             Node::Inner(kind, _, inner) => match other {

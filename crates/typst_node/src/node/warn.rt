@@ -5,6 +5,7 @@ ghost use Rattle.typst_node.specs.Warnings.{part_for, warned, warning, FitsRange
 ghost use Rattle.typst_node.specs.View.{below, content, hint_text, shown_warnings, warning_text, warnings_in, IsKept};
 
 use crate::node::{ErrorNode, Hint, LeafNode, Node, SyntaxNode, Warning};
+use crate::short_text::text_in;
 use std::alloc::{AllocError, Global};
 use std::mem;
 use std::ops::Range;
@@ -202,13 +203,13 @@ impl Node {
             ≡ warning_text warning ∷ shown_warnings (warnings_in self.old)) }
         ensures err { OnErr result (shown_warnings (warnings_in self.new) ≡ shown_warnings (warnings_in self.old)) }
     {
+        if let Node::Short(kind, len, bytes) = &*self {
+            let text = String::from_str(alloc, text_in(*len, bytes))?;
+            *self = Node::Leaf(*kind, LeafNode::warned(alloc, text, warning)?);
+            return Ok(());
+        }
         match self {
-            Node::Short(kind, text) => {
-                let text = String::from_str(alloc, text.as_str())?;
-                let leaf = LeafNode::warned(alloc, text, warning)?;
-                *self = Node::Leaf(*kind, leaf);
-                Ok(())
-            }
+            Node::Short(..) => unreachable!(),
             Node::Long(kind, text) => {
                 let mut leaf = LeafNode::warned(alloc, String::new(alloc), warning)?;
                 mem::swap(&mut leaf.text, text);
