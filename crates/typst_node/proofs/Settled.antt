@@ -3,7 +3,7 @@ use Rattle.std.proofs.Common.{◌≡◌, ℕ, suc, zero, ◌+◌, ◌-◌, ◌<�
 use Rattle.std.proofs.lemmas.List.{take-append-drop, take_more, take_more_set, take_at, drop_at, take-set, drop-set}
 use Rattle.std.proofs.Math.Seq.{take-add}
 use Rattle.std.proofs.lemmas.List.Folds.{list_any-append, drop_split}
-use Rattle.std.specs.Prelude.{slice_range}
+use Rattle.std.specs.Prelude.{slice_range, IsTrue}
 use Rattle.std.specs.List.{list_any, AllByRecursion, splice}
 use Rattle.typst_node.specs.Tree.{Label, Tree, forest}
 use Rattle.typst_node.specs.Preorder.{preorder}
@@ -135,6 +135,28 @@ ends_whole es tail ts from to added order inside same is left =
     let parts : length (text_of_all (take from ts)) + added ≡ 0 + length (text_of_all (take to ts)) = omega (arith, text_parts ts from to order) in
     (λ i. same i ++ (left ∙ (ap (λ n. ends_from n (drop to ts)) parts ∙ sym (drop_ends 0 ts to inside))) i) ∙ take-append-drop to (ends_from 0 ts)
 
+-- the end of a single child is that of what stood there, where their lengths are the same
+pub one_end : (es : List ℕ) (ts : List Tree) (from to added : ℕ) → from ≤ to → to ≤ length ts → to ≡ suc from → added ≡ length (text_of_all (slice_range ts from to))
+    → take to es ≡ take from (ends_from 0 ts) ++ (length (text_of_all (take from ts)) + added) ∷ [] → take to es ≡ take to (ends_from 0 ts)
+one_end es ts from to added order inside one is same =
+    let there : from < length ts = omega arith in
+    let more : from < length (ends_from 0 ts) = omega (arith, length_of_ends 0 ts) in
+    let end : length (text_of_all (take from ts)) + added ≡ get_or (ends_from 0 ts) from 0 =
+        omega (arith, text_parts ts from to order, is, ap (λ n. length (text_of_all (take n ts))) (let e : from + 1 ≡ to = omega arith in e)) ∙ sym (child_end_is ts from 0 there) in
+    same ∙ (ap (λ e. take from (ends_from 0 ts) ++ e ∷ []) end
+    ∙ (sym (take_more (ends_from 0 ts) from 0 more) ∙ ap (λ n. take n (ends_from 0 ts)) (let e : from + 1 ≡ to = omega arith in e)))
+
+-- where one child stands in the place of one of the same length, the ends are right
+pub ends_stay : (kept : Option (List ℕ)) (ts : List Tree) (from to : ℕ) (stay : Bool) (gone added : ℕ) → to ≡ suc from → to ≤ length ts → IsTrue stay → gone ≡ added
+    → added ≡ length (text_of_all (slice_range ts from to)) → AreStale from to stay gone kept ts → AreEnds kept ts
+ends_stay None ts from to stay gone added one inside s same is few = few
+ends_stay (Some ends) ts from to stay gone added one inside s same is stale =
+    let order : from ≤ to = omega arith in
+    let before : take to ends ≡ take to (ends_from 0 ts) =
+        one_end ends ts from to added order inside one is (stale.one s one ∙ ap (λ n. take from (ends_from 0 ts) ++ (length (text_of_all (take from ts)) + n) ∷ []) same) in
+    sym (take-append-drop to ends)
+    ∙ ends_whole ends (drop to ends) ts from to added order inside before is (stale.behind ∙ ap (λ n. ends_from (length (text_of_all (take from ts)) + n) (drop to ts)) same)
+
 -- the ends of a beginning
 take_ends : (at n : ℕ) (ts : List Tree) → take n (ends_from at ts) ≡ ends_from at (take n ts)
 take_ends at zero ts = refl
@@ -179,13 +201,14 @@ place_for_one (Some ends) ts i h same = record {
   len = omega (arith, ap length same, length_of_ends 0 ts);
   before = ap (take i) same;
   behind = ap (drop (i + 1)) same;
+  stay = λ e. same;
 }
 
 -- an inner node whose children were exchanged, and whose list of ends has place for theirs
 module _ (old new : InnerNode) (ys : List Tree) (from to : ℕ) (gone : Sums) (order : from ≤ to) (inside : to ≤ length old.children.items) (measured : IsMeasured old)
     (is_gone : AreSums gone (slice_range old.children.items from to)) (children : new.children.items ≡ splice old.children.items from to ys)
     (len : new.len ≡ old.len) (descendants : new.descendants ≡ old.descendants) (diagnosis : new.diagnosis ≡ old.diagnosis)
-    (places : HavePlace from to (length ys) new.ends old.children.items) where
+    (places : HavePlace from to (length ys) new.ends old.children.items) (stay : Bool) (stays : IsTrue stay → length ys ≡ to - from) where
   front : take from new.children.items ≡ take from old.children.items
   front = ap (take from) children ∙ splice_front old.children.items ys from to order inside
 
@@ -208,7 +231,17 @@ module _ (old new : InnerNode) (ys : List Tree) (from to : ℕ) (gone : Sums) (o
   many : length new.children.items + (to - from) ≡ length old.children.items + length ys
   many = omega (arith, ap length children, length_splice old.children.items ys from to order inside)
 
-  stale_ends : (kept : Option (List ℕ)) → HavePlace from to (length ys) kept old.children.items → AreStale from (from + length ys) gone.len kept new.children.items
+  -- the end of a single child that another one took the place of
+  old_end : to ≡ suc from → take (suc from) (ends_from 0 old.children.items) ≡ take from (ends_from 0 old.children.items) ++ (length (text_of_all (take from old.children.items)) + gone.len) ∷ []
+  old_end one =
+      let there : from < length old.children.items = omega (arith, one, inside) in
+      let more : from < length (ends_from 0 old.children.items) = omega (arith, length_of_ends 0 old.children.items) in
+      let end : get_or (ends_from 0 old.children.items) from 0 ≡ length (text_of_all (take from old.children.items)) + gone.len =
+          child_end_is old.children.items from 0 there ∙ omega (arith, text_parts old.children.items from to order, is_gone.len, ap (λ n. length (text_of_all (take n old.children.items))) (let e : from + 1 ≡ to = omega arith in e)) in
+      ap (λ n. take n (ends_from 0 old.children.items)) (let e : suc from ≡ from + 1 = omega arith in e)
+      ∙ (take_more (ends_from 0 old.children.items) from 0 more ∙ ap (λ e. take from (ends_from 0 old.children.items) ++ e ∷ []) end)
+
+  stale_ends : (kept : Option (List ℕ)) → HavePlace from to (length ys) kept old.children.items → AreStale from (from + length ys) stay gone.len kept new.children.items
   stale_ends None few = omega (arith, many, few)
   stale_ends (Some ends) place =
       let text_front : length (text_of_all (take from new.children.items)) ≡ length (text_of_all (take from old.children.items)) = ap (λ ts. length (text_of_all ts)) front in
@@ -216,9 +249,14 @@ module _ (old new : InnerNode) (ys : List Tree) (from to : ℕ) (gone : Sums) (o
         many = omega (arith, many, place.len);
         before = place.before ∙ (take_ends 0 from old.children.items ∙ (ap (ends_from 0) (sym front) ∙ sym (take_ends 0 from new.children.items)));
         behind = place.behind ∙ (drop_ends 0 old.children.items to inside ∙ (λ i. ends_from (begins text_front i) (sym back i)));
+        one = λ s e.
+            let same_front : take from (ends_from 0 old.children.items) ≡ take from (ends_from 0 new.children.items) =
+                take_ends 0 from old.children.items ∙ (ap (ends_from 0) (sym front) ∙ sym (take_ends 0 from new.children.items)) in
+            (λ i. take (e i) (place.stay (stays s) i))
+            ∙ (old_end (omega (arith, stays s, e)) ∙ (λ i. same_front i ++ (sym text_front i + gone.len) ∷ []));
       }
 
-  pub put_stale : IsStale from (from + length ys) gone new
+  pub put_stale : IsStale from (from + length ys) stay gone new
   put_stale =
       let texts = splice_text old.children.items ys from to order in
       let counts = splice_count old.children.items ys from to order in

@@ -249,6 +249,7 @@ impl Ends {
         ensures before { OnOk result (take from self.new ≡ take from self.old) }
         ensures behind { OnOk result (drop (from + many) self.new ≡ drop to self.old) }
         ensures err { OnErr result (self.new ≡ self.old) }
+        ensures stay { many ≡ to - from → self.new ≡ self.old }
         ensures succeeds { many ≤ to - from → IsOk result }
     {
         if many == to - from {

@@ -166,22 +166,27 @@ impl ChildEnds {
     }
 
     /// Writes where the texts of the children from `from` up to `to` end, and moves the ends after them by the
-    /// difference of what stood there and what stands there now.
+    /// difference of what stood there and what stands there now. `stay` says that as many children came as went: where one of the
+    /// same length stands in the place of one, no end is read or written.
     pub(crate) fn settle(
         &mut self,
         children: &[SyntaxNode],
         from: usize,
         to: usize,
+        stay: bool,
         gone: usize,
         added: usize,
     )
-        requires stale { AreStale from to gone self.old children.now }
+        requires stale { AreStale from to stay gone self.old children.now }
         requires window { from ≤ to }
         requires inside { to ≤ length children.now }
         requires fits { length (text_of_all children.now) < 2 ^ 64 }
         requires added { added ≡ length (text_of_all (slice_range children.now from to)) }
         ensures { AreEnds self.new children.now }
     {
+        if stay && to - from == 1 && gone == added {
+            return;
+        }
         if let Some(ends) = &mut self.kept {
             settle_ends(ends, children, from, to, gone, added);
         }

@@ -133,11 +133,12 @@ impl InnerNode {
         ensures succeeds { length others.items ≤ to - from → IsOk result }
     {
         let many = others.len();
+        let stay = many == to - from;
         self.make_room(many.saturating_sub(to - from))?;
         let alloc = *self.children.allocator();
         self.ends.make_place(alloc, &self.children, from, to, many)?;
         exchange(&mut self.children, from, to, others)?;
-        self.settle(from, from + many, &change.gone, &change.added);
+        self.settle(from, from + many, stay, &change.gone, &change.added);
         Ok(())
     }
 

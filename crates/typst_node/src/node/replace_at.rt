@@ -124,7 +124,7 @@ impl InnerNode {
         let gone = sums_of_one(&self.children[index]);
         self.children[index].replace_below(path, errand);
         let added = sums_of_one(&self.children[index]);
-        self.settle(index, index + 1, &gone, &added);
+        self.settle(index, index + 1, true, &gone, &added);
     }
 }
 

@@ -64,13 +64,20 @@ fn diagnosis_after(
 
 impl InnerNode {
     /// Corrects lengths, counts, diagnosis and ends after the children from `from` up to `to` came there: `gone` are
-    /// the sums of those that are counted in their place, `added` are their own.
+    /// the sums of those that are counted in their place, `added` are their own, and `stay` says that they are as many.
     #[tactic(auto, using(crate::proofs::Opens::part_count, crate::proofs::Opens::part_text))]
     #[inline(never)]
-    pub(super) fn settle(&mut self, from: usize, to: usize, gone: &Sums, added: &Sums)
+    pub(super) fn settle(
+        &mut self,
+        from: usize,
+        to: usize,
+        stay: bool,
+        gone: &Sums,
+        added: &Sums,
+    )
         requires window { from ≤ to }
         requires inside { to ≤ length self.old.children.items }
-        requires stale { IsStale from to gone.now self.old }
+        requires stale { IsStale from to stay gone.now self.old }
         requires added { AreSums added.now (slice_range self.old.children.items from to) }
         requires fits { SumsFit self.old.children.items }
         ensures measured { IsMeasured self.new }
@@ -89,6 +96,6 @@ impl InnerNode {
             added.diagnosis,
         );
         self.ends
-            .settle(&self.children, from, to, gone.len, added.len);
+            .settle(&self.children, from, to, stay, gone.len, added.len);
     }
 }

@@ -1,4 +1,4 @@
-use Rattle.std.proofs.Common.{◌≡◌, ℕ, ◌+◌, ◌<◌, List, [], ◌∷◌, length, set, get_or, refl, sym, ap, subst, ◌∙◌, arith, rules}
+use Rattle.std.proofs.Common.{◌≡◌, true, ℕ, ◌+◌, ◌<◌, List, [], ◌∷◌, length, set, get_or, refl, sym, ap, subst, ◌∙◌, arith, rules}
 use Rattle.std.proofs.lemmas.Grind.{common_steps}
 use Rattle.std.proofs.lemmas.List.{length-set}
 use Rattle.std.specs.Box.{with_value}
@@ -47,7 +47,7 @@ InnerNode::replace_in-settle-requires-clause-stale t c =
     let one : c.index.result.now ∷ [] ≡ slice_range items i (i + 1) = ap (λ x. x ∷ []) c.index.ensures ∙ slice_one items i c.index.result.now c.requires.index in
     put_stale c.args.self.now _ (child ∷ []) i (i + 1) c.sums_of_one-gone.result (omega arith) (omega (arith, c.requires.index)) c.requires.measured
     (subst (λ (ts : List Tree). AreSums c.sums_of_one-gone.result ts) one c.sums_of_one-gone.ensures) (set_splice items i child c.requires.index) refl refl refl
-    (place_for_one c.args.self.now.ends items i c.requires.index c.requires.measured.ends)
+    (place_for_one c.args.self.now.ends items i c.requires.index c.requires.measured.ends) true (λ _. omega arith)
 
 pub InnerNode::replace_in-settle-requires-clause-added : goal.InnerNode::replace_in-settle-requires-clause-added
 InnerNode::replace_in-settle-requires-clause-added t c =

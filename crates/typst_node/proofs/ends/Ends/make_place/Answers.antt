@@ -99,6 +99,7 @@ returns c =
       behind = ap (drop behind) now
           ∙ (place_behind starts within placed after c.args.from c.args.to c.args.many n blocks c.requires.window inside moved in_all enough before rest front recounted ∙ ap (drop c.args.to) c.self.view_is);
       err = tt;
+      stay = λ same. absurd (c.if-many-to.false same);
       succeeds = λ fewer. refl;
     }
 
