@@ -142,7 +142,7 @@ one_end es ts from to added order inside one is same =
     let there : from < length ts = omega arith in
     let more : from < length (ends_from 0 ts) = omega (arith, length_of_ends 0 ts) in
     let end : length (text_of_all (take from ts)) + added ≡ get_or (ends_from 0 ts) from 0 =
-        omega (arith, text_parts ts from to order, is, ap (λ n. length (text_of_all (take n ts))) (let e : from + 1 ≡ to = omega arith in e)) ∙ sym (child_end_is ts from 0 there) in
+    omega (arith, text_parts ts from to order, is, ap (λ n. length (text_of_all (take n ts))) (let e : from + 1 ≡ to = omega arith in e)) ∙ sym (child_end_is ts from 0 there) in
     same ∙ (ap (λ e. take from (ends_from 0 ts) ++ e ∷ []) end
     ∙ (sym (take_more (ends_from 0 ts) from 0 more) ∙ ap (λ n. take n (ends_from 0 ts)) (let e : from + 1 ≡ to = omega arith in e)))
 
@@ -153,7 +153,7 @@ ends_stay None ts from to stay gone added one inside s same is few = few
 ends_stay (Some ends) ts from to stay gone added one inside s same is stale =
     let order : from ≤ to = omega arith in
     let before : take to ends ≡ take to (ends_from 0 ts) =
-        one_end ends ts from to added order inside one is (stale.one s one ∙ ap (λ n. take from (ends_from 0 ts) ++ (length (text_of_all (take from ts)) + n) ∷ []) same) in
+    one_end ends ts from to added order inside one is (stale.one s one ∙ ap (λ n. take from (ends_from 0 ts) ++ (length (text_of_all (take from ts)) + n) ∷ []) same) in
     sym (take-append-drop to ends)
     ∙ ends_whole ends (drop to ends) ts from to added order inside before is (stale.behind ∙ ap (λ n. ends_from (length (text_of_all (take from ts)) + n) (drop to ts)) same)
 
@@ -237,7 +237,7 @@ module _ (old new : InnerNode) (ys : List Tree) (from to : ℕ) (gone : Sums) (o
       let there : from < length old.children.items = omega (arith, one, inside) in
       let more : from < length (ends_from 0 old.children.items) = omega (arith, length_of_ends 0 old.children.items) in
       let end : get_or (ends_from 0 old.children.items) from 0 ≡ length (text_of_all (take from old.children.items)) + gone.len =
-          child_end_is old.children.items from 0 there ∙ omega (arith, text_parts old.children.items from to order, is_gone.len, ap (λ n. length (text_of_all (take n old.children.items))) (let e : from + 1 ≡ to = omega arith in e)) in
+      child_end_is old.children.items from 0 there ∙ omega (arith, text_parts old.children.items from to order, is_gone.len, ap (λ n. length (text_of_all (take n old.children.items))) (let e : from + 1 ≡ to = omega arith in e)) in
       ap (λ n. take n (ends_from 0 old.children.items)) (let e : suc from ≡ from + 1 = omega arith in e)
       ∙ (take_more (ends_from 0 old.children.items) from 0 more ∙ ap (λ e. take from (ends_from 0 old.children.items) ++ e ∷ []) end)
 
@@ -251,7 +251,7 @@ module _ (old new : InnerNode) (ys : List Tree) (from to : ℕ) (gone : Sums) (o
         behind = place.behind ∙ (drop_ends 0 old.children.items to inside ∙ (λ i. ends_from (begins text_front i) (sym back i)));
         one = λ s e.
             let same_front : take from (ends_from 0 old.children.items) ≡ take from (ends_from 0 new.children.items) =
-                take_ends 0 from old.children.items ∙ (ap (ends_from 0) (sym front) ∙ sym (take_ends 0 from new.children.items)) in
+            take_ends 0 from old.children.items ∙ (ap (ends_from 0) (sym front) ∙ sym (take_ends 0 from new.children.items)) in
             (λ i. take (e i) (place.stay (stays s) i))
             ∙ (old_end (omega (arith, stays s, e)) ∙ (λ i. same_front i ++ (sym text_front i + gone.len) ∷ []));
       }

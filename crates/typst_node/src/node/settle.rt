@@ -67,14 +67,7 @@ impl InnerNode {
     /// the sums of those that are counted in their place, `added` are their own, and `stay` says that they are as many.
     #[tactic(auto, using(crate::proofs::Opens::part_count, crate::proofs::Opens::part_text))]
     #[inline(never)]
-    pub(super) fn settle(
-        &mut self,
-        from: usize,
-        to: usize,
-        stay: bool,
-        gone: &Sums,
-        added: &Sums,
-    )
+    pub(super) fn settle(&mut self, from: usize, to: usize, stay: bool, gone: &Sums, added: &Sums)
         requires window { from ≤ to }
         requires inside { to ≤ length self.old.children.items }
         requires stale { IsStale from to stay gone.now self.old }
