@@ -8,48 +8,48 @@ use Rattle.std.proofs.lemmas.List.{append-nil, get_or_append_left, get_or-append
 use Rattle.std.specs.List.{AllByRecursion}
 use Rattle.std.specs.Prelude.{if◌then◌else◌, Result, Ok, Err, IsOk, is_ok, Option, Some, None, Box}
 use Rattle.std.specs.Global.{Global}
-use Rattle.typst_node.specs.Ends.{ends_seen, starts_in, IsTight}
+use Rattle.typst_node.specs.Ends.{ends_seen, starts_in, IsTight, moved}
 use Rattle.typst_node.specs.EndsLength.{length-ends_seen}
 
-pub seen_from : (starts : List ℕ) (place : ℕ) (es : List ℕ) (i : ℕ) → i < length es → get_or (ends_seen starts place es) i 0 ≡ (get_or starts ((place + i) / 256) 0 + get_or es i 0) % 2 ^ 64
+pub seen_from : (starts : List ℕ) (place : ℕ) (es : List ℕ) (i : ℕ) → i < length es → get_or (ends_seen starts place es) i 0 ≡ (get_or starts ((place + i) / 256) 0 + get_or es i 0) % 2 ^ 32
 seen_from starts place [] i h = absurd (omega arith)
-seen_from starts place (e ∷ es) zero h = let same : place ≡ place + zero = omega arith in ap (λ n. (get_or starts (n / 256) 0 + e) % 2 ^ 64) same
+seen_from starts place (e ∷ es) zero h = let same : place ≡ place + zero = omega arith in ap (λ n. (get_or starts (n / 256) 0 + e) % 2 ^ 32) same
 seen_from starts place (e ∷ es) (suc i) h =
     let same : suc place + i ≡ place + suc i = omega arith in
-    seen_from starts (suc place) es i (omega arith) ∙ ap (λ n. (get_or starts (n / 256) 0 + get_or es i 0) % 2 ^ 64) same
+    seen_from starts (suc place) es i (omega arith) ∙ ap (λ n. (get_or starts (n / 256) 0 + get_or es i 0) % 2 ^ 32) same
 
 -- the end at a place
-pub seen_at : (starts es : List ℕ) (i : ℕ) → i < length es → get_or (ends_seen starts 0 es) i 0 ≡ (get_or starts (i / 256) 0 + get_or es i 0) % 2 ^ 64
+pub seen_at : (starts es : List ℕ) (i : ℕ) → i < length es → get_or (ends_seen starts 0 es) i 0 ≡ (get_or starts (i / 256) 0 + get_or es i 0) % 2 ^ 32
 seen_at starts es i h =
     let same : 0 + i ≡ i = omega arith in
-    seen_from starts 0 es i h ∙ ap (λ n. (get_or starts (n / 256) 0 + get_or es i 0) % 2 ^ 64) same
+    seen_from starts 0 es i h ∙ ap (λ n. (get_or starts (n / 256) 0 + get_or es i 0) % 2 ^ 32) same
 
-seen_set : (starts : List ℕ) (place : ℕ) (es : List ℕ) (i e : ℕ) → ends_seen starts place (set es i e) ≡ set (ends_seen starts place es) i ((get_or starts ((place + i) / 256) 0 + e) % 2 ^ 64)
+seen_set : (starts : List ℕ) (place : ℕ) (es : List ℕ) (i e : ℕ) → ends_seen starts place (set es i e) ≡ set (ends_seen starts place es) i ((get_or starts ((place + i) / 256) 0 + e) % 2 ^ 32)
 seen_set starts place [] i e = refl
 seen_set starts place (x ∷ es) zero e =
     let same : place ≡ place + zero = omega arith in
-    ap (λ n. ((get_or starts (n / 256) 0 + e) % 2 ^ 64) ∷ ends_seen starts (suc place) es) same
+    ap (λ n. ((get_or starts (n / 256) 0 + e) % 2 ^ 32) ∷ ends_seen starts (suc place) es) same
 seen_set starts place (x ∷ es) (suc i) e =
     let same : suc place + i ≡ place + suc i = omega arith in
-    ap (λ ys. ((get_or starts (place / 256) 0 + x) % 2 ^ 64) ∷ ys)
-    (seen_set starts (suc place) es i e ∙ ap (λ n. set (ends_seen starts (suc place) es) i ((get_or starts (n / 256) 0 + e) % 2 ^ 64)) same)
+    ap (λ ys. ((get_or starts (place / 256) 0 + x) % 2 ^ 32) ∷ ys)
+    (seen_set starts (suc place) es i e ∙ ap (λ n. set (ends_seen starts (suc place) es) i ((get_or starts (n / 256) 0 + e) % 2 ^ 32)) same)
 
 -- the difference to where the block begins is written for an end
-pub written : (start end : ℕ) → start < 2 ^ 64 → end < 2 ^ 64 → (start + (end + (2 ^ 64 - start)) % 2 ^ 64) % 2 ^ 64 ≡ end
+pub written : (start end : ℕ) → start < 2 ^ 32 → end < 2 ^ 32 → (start + (end + (2 ^ 32 - start)) % 2 ^ 32) % 2 ^ 32 ≡ end
 written start end a b = omega arith
 
-pub seen-write : (starts es : List ℕ) (i start end : ℕ) → start < 2 ^ 64 → end < 2 ^ 64 → start ≡ get_or starts (i / 256) 0 → ends_seen starts 0 (set es i ((end + (2 ^ 64 - start)) % 2 ^ 64)) ≡ set (ends_seen starts 0 es) i end
+pub seen-write : (starts es : List ℕ) (i start end : ℕ) → start < 2 ^ 32 → end < 2 ^ 32 → start ≡ get_or starts (i / 256) 0 → ends_seen starts 0 (set es i ((end + (2 ^ 32 - start)) % 2 ^ 32)) ≡ set (ends_seen starts 0 es) i end
 seen-write starts es i start end a b is =
-    let d : ℕ = (end + (2 ^ 64 - start)) % 2 ^ 64 in
+    let d : ℕ = (end + (2 ^ 32 - start)) % 2 ^ 32 in
     let same : 0 + i ≡ i = omega arith in
-    seen_set starts 0 es i d ∙ (λ j. set (ends_seen starts 0 es) i ((get_or starts (same j / 256) 0 + d) % 2 ^ 64))
-    ∙ ap (λ n. set (ends_seen starts 0 es) i n) (ap (λ s. (s + d) % 2 ^ 64) (sym is) ∙ written start end a b)
+    seen_set starts 0 es i d ∙ (λ j. set (ends_seen starts 0 es) i ((get_or starts (same j / 256) 0 + d) % 2 ^ 32))
+    ∙ ap (λ n. set (ends_seen starts 0 es) i n) (ap (λ s. (s + d) % 2 ^ 32) (sym is) ∙ written start end a b)
 
 -- ends that are counted from the beginning of all
-pub seen_plain : (starts : List ℕ) (place : ℕ) (es : List ℕ) → ((k : ℕ) → get_or starts k 0 ≡ 0) → ((k d : ℕ) → k < length es → get_or es k d < 2 ^ 64) → ends_seen starts place es ≡ es
+pub seen_plain : (starts : List ℕ) (place : ℕ) (es : List ℕ) → ((k : ℕ) → get_or starts k 0 ≡ 0) → ((k d : ℕ) → k < length es → get_or es k d < 2 ^ 32) → ends_seen starts place es ≡ es
 seen_plain starts place [] none fits = refl
 seen_plain starts place (e ∷ es) none fits =
-    let one : (get_or starts (place / 256) 0 + e) % 2 ^ 64 ≡ e = omega (arith, none (place / 256), fits 0 0 (omega arith)) in
+    let one : (get_or starts (place / 256) 0 + e) % 2 ^ 32 ≡ e = omega (arith, none (place / 256), fits 0 0 (omega arith)) in
     (λ i. one i ∷ seen_plain starts (suc place) es none (λ k d h. fits (suc k) d (omega arith)) i)
 
 zeros : (n k : ℕ) → get_or (replicate n zero) k zero ≡ zero
@@ -64,12 +64,12 @@ none_begins n (suc k) = zeros n k
 -- ends under two lists of beginnings that are the same at their blocks
 pub seen_alike : (starts others : List ℕ) (place : ℕ) (es : List ℕ) → ((k : ℕ) → get_or starts k 0 ≡ get_or others k 0) → ends_seen starts place es ≡ ends_seen others place es
 seen_alike starts others place [] same = refl
-seen_alike starts others place (e ∷ es) same = (λ i. ((same (place / 256) i + e) % 2 ^ 64) ∷ seen_alike starts others (suc place) es same i)
+seen_alike starts others place (e ∷ es) same = (λ i. ((same (place / 256) i + e) % 2 ^ 32) ∷ seen_alike starts others (suc place) es same i)
 
 pub take-seen : (starts : List ℕ) (place n : ℕ) (es : List ℕ) → take n (ends_seen starts place es) ≡ ends_seen starts place (take n es)
 take-seen starts place zero es = refl
 take-seen starts place (suc n) [] = refl
-take-seen starts place (suc n) (e ∷ es) = ap (λ ys. ((get_or starts (place / 256) 0 + e) % 2 ^ 64) ∷ ys) (take-seen starts (suc place) n es)
+take-seen starts place (suc n) (e ∷ es) = ap (λ ys. ((get_or starts (place / 256) 0 + e) % 2 ^ 32) ∷ ys) (take-seen starts (suc place) n es)
 
 -- a list of beginnings with blocks after it that begin at 0
 pub with_zeros : (starts : List ℕ) (n k : ℕ) → get_or (starts ++ replicate n zero) k zero ≡ get_or starts k zero
@@ -88,14 +88,11 @@ within_taken starts first (suc k) h = within starts first k (omega arith)
     within (x ∷ xs) (suc n) (suc k) h = within xs n k (omega arith)
 
 -- numbers that wrap
-pub raised_within : (s w by : ℕ) → (s + (w + by) % 2 ^ 64) % 2 ^ 64 ≡ ((s + w) % 2 ^ 64 + by) % 2 ^ 64
+pub raised_within : (s w by : ℕ) → (s + (w + by) % 2 ^ 32) % 2 ^ 32 ≡ ((s + w) % 2 ^ 32 + by) % 2 ^ 32
 raised_within s w by = omega arith
 
-pub raised_start : (s w by : ℕ) → ((s + by) % 2 ^ 64 + w) % 2 ^ 64 ≡ ((s + w) % 2 ^ 64 + by) % 2 ^ 64
+pub raised_start : (s w by : ℕ) → ((s + by) % 2 ^ 32 + w) % 2 ^ 32 ≡ ((s + w) % 2 ^ 32 + by) % 2 ^ 32
 raised_start s w by = omega arith
-
-pub raised_to : (e gone added : ℕ) → gone < 2 ^ 64 → gone ≤ e → e - gone + added < 2 ^ 64 → (e + (added + (2 ^ 64 - gone)) % 2 ^ 64) % 2 ^ 64 ≡ e - gone + added
-raised_to e gone added a b c = omega arith
 
 at_each : (P : ℕ → Type 0) (es : List ℕ) → AllByRecursion P es → (k : ℕ) → k < length es → P (get_or es k 0)
 at_each P [] all k h = absurd (omega arith)
@@ -105,30 +102,30 @@ at_each P (e ∷ es) all (suc k) h = at_each P es all.1 k (omega arith)
 -- The rest of a block is raised, and where later blocks begin.
 module _ (starts others before after : List ℕ) (from stop by : ℕ) (many : length after ≡ length before) (blocks : length starts ≡ length before / 256)
     (same_block : (k : ℕ) → from ≤ k → k < stop → k / 256 ≡ from / 256) (later_block : (k : ℕ) → stop ≤ k → k < length before → from / 256 < k / 256)
-    (raised : (k : ℕ) → from ≤ k → k < stop → get_or after k 0 ≡ (get_or before k 0 + by) % 2 ^ 64)
+    (raised : (k : ℕ) → from ≤ k → k < stop → get_or after k 0 ≡ (get_or before k 0 + by) % 2 ^ 32)
     (front : (k : ℕ) → k < from → get_or after k 0 ≡ get_or before k 0) (back : (k : ℕ) → stop ≤ k → get_or after k 0 ≡ get_or before k 0)
     (begins : (k : ℕ) → k < from / 256 → get_or others k 0 ≡ get_or starts k 0)
-    (moved : (k : ℕ) → from / 256 ≤ k → k < length starts → get_or others k 0 ≡ (get_or starts k 0 + by) % 2 ^ 64) where
+    (moved : (k : ℕ) → from / 256 ≤ k → k < length starts → get_or others k 0 ≡ (get_or starts k 0 + by) % 2 ^ 32) where
   low : (block : ℕ) → block ≤ from / 256 → get_or (0 ∷ others) block 0 ≡ get_or (0 ∷ starts) block 0
   low zero h = refl
   low (suc block) h = begins block h
 
-  high : (block : ℕ) → from / 256 < block → block ≤ length starts → get_or (0 ∷ others) block 0 ≡ (get_or (0 ∷ starts) block 0 + by) % 2 ^ 64
+  high : (block : ℕ) → from / 256 < block → block ≤ length starts → get_or (0 ∷ others) block 0 ≡ (get_or (0 ∷ starts) block 0 + by) % 2 ^ 32
   high zero h j = absurd (omega arith)
   high (suc block) h j = moved block (omega arith) (omega arith)
 
   pub stays : (k : ℕ) → k < length before → k < from → get_or (ends_seen (0 ∷ others) 0 after) k 0 ≡ get_or (ends_seen (0 ∷ starts) 0 before) k 0
   stays k h j =
-      seen_at (0 ∷ others) after k (omega arith) ∙ ((λ i. (low (k / 256) (omega arith) i + front k j i) % 2 ^ 64) ∙ sym (seen_at (0 ∷ starts) before k h))
+      seen_at (0 ∷ others) after k (omega arith) ∙ ((λ i. (low (k / 256) (omega arith) i + front k j i) % 2 ^ 32) ∙ sym (seen_at (0 ∷ starts) before k h))
 
-  pub rises : (k : ℕ) → k < length before → from ≤ k → get_or (ends_seen (0 ∷ others) 0 after) k 0 ≡ (get_or (ends_seen (0 ∷ starts) 0 before) k 0 + by) % 2 ^ 64
-  rises k h j = seen_at (0 ∷ others) after k (omega arith) ∙ (by_part (cases_lt k stop) ∙ ap (λ e. (e + by) % 2 ^ 64) (sym (seen_at (0 ∷ starts) before k h)))
+  pub rises : (k : ℕ) → k < length before → from ≤ k → get_or (ends_seen (0 ∷ others) 0 after) k 0 ≡ (get_or (ends_seen (0 ∷ starts) 0 before) k 0 + by) % 2 ^ 32
+  rises k h j = seen_at (0 ∷ others) after k (omega arith) ∙ (by_part (cases_lt k stop) ∙ ap (λ e. (e + by) % 2 ^ 32) (sym (seen_at (0 ∷ starts) before k h)))
     where
-      by_part : (k < stop) ⊎ (stop ≤ k) → (get_or (0 ∷ others) (k / 256) 0 + get_or after k 0) % 2 ^ 64 ≡ ((get_or (0 ∷ starts) (k / 256) 0 + get_or before k 0) % 2 ^ 64 + by) % 2 ^ 64
+      by_part : (k < stop) ⊎ (stop ≤ k) → (get_or (0 ∷ others) (k / 256) 0 + get_or after k 0) % 2 ^ 32 ≡ ((get_or (0 ∷ starts) (k / 256) 0 + get_or before k 0) % 2 ^ 32 + by) % 2 ^ 32
       by_part (inl here) =
           let e : k / 256 ≤ from / 256 = omega (arith, same_block k j here) in
-          (λ i. (low (k / 256) e i + raised k j here i) % 2 ^ 64) ∙ raised_within (get_or (0 ∷ starts) (k / 256) 0) (get_or before k 0) by
-      by_part (inr there) = (λ i. (high (k / 256) (later_block k there h) (omega arith) i + back k there i) % 2 ^ 64) ∙ raised_start (get_or (0 ∷ starts) (k / 256) 0) (get_or before k 0) by
+          (λ i. (low (k / 256) e i + raised k j here i) % 2 ^ 32) ∙ raised_within (get_or (0 ∷ starts) (k / 256) 0) (get_or before k 0) by
+      by_part (inr there) = (λ i. (high (k / 256) (later_block k there h) (omega arith) i + back k there i) % 2 ^ 32) ∙ raised_start (get_or (0 ∷ starts) (k / 256) 0) (get_or before k 0) by
 
 pub where_ok : {E : Type 0} {X : Type 0} (r : Result (Unit {0}) E) (a b : X) → IsOk r → (if is_ok r then a else b) ≡ a
 where_ok (Ok x) a b h = refl
@@ -144,23 +141,21 @@ lighter None many tight is = omega arith
 lighter (Some starts) many tight is = omega (arith, tight, is)
 
 -- Numbers of which all from a place on are raised by a difference, which wraps.
-module _ (old new : List ℕ) (from gone added : ℕ) (many : length new ≡ length old) (small : gone < 2 ^ 64)
+module _ (old new : List ℕ) (from gone added : ℕ) (many : length new ≡ length old)
     (before : (k : ℕ) → k < from → get_or new k 0 ≡ get_or old k 0)
-    (behind : (k : ℕ) → from ≤ k → k < length old → get_or new k 0 ≡ (get_or old k 0 + (added + (2 ^ 64 - gone)) % 2 ^ 64) % 2 ^ 64) where
+    (behind : (k : ℕ) → from ≤ k → k < length old → get_or new k 0 ≡ moved gone added (get_or old k 0)) where
   pub rest_stays : take from new ≡ take from old
   rest_stays =
       same_number_lists (take from new) (take from old) (omega (arith, many, length-take from new, length-take from old))
       (λ k h. let inner : k < from = omega (arith, length-take from new) in get_or-take from new k 0 inner ∙ (before k inner ∙ sym (get_or-take from old k 0 inner)))
 
-  pub rest_moves : AllByRecursion (λ e. (gone ≤ e) × (e - gone + added < 2 ^ 64)) (drop from old) → drop from new ≡ map (λ e. e - gone + added) (drop from old)
-  rest_moves all =
-      same_number_lists (drop from new) (map (λ e. e - gone + added) (drop from old)) (omega (arith, many, length-drop from new, length-drop from old, length-map (drop from old) (λ e. e - gone + added)))
+  pub rest_moves : drop from new ≡ map (moved gone added) (drop from old)
+  rest_moves =
+      same_number_lists (drop from new) (map (moved gone added) (drop from old)) (omega (arith, many, length-drop from new, length-drop from old, length-map (drop from old) (moved gone added)))
       (λ k h. let inner : k < length (drop from old) = omega (arith, many, length-drop from new, length-drop from old) in
-      let there = at_each (λ e. (gone ≤ e) × (e - gone + added < 2 ^ 64)) (drop from old) all k inner in
       get_or-drop from new k 0
       ∙ (behind (from + k) (omega arith) (omega (arith, length-drop from old))
-      ∙ (ap (λ e. (e + (added + (2 ^ 64 - gone)) % 2 ^ 64) % 2 ^ 64) (sym (get_or-drop from old k 0))
-      ∙ (raised_to (get_or (drop from old) k 0) gone added small there.0 there.1 ∙ sym (get_or-map (λ e. e - gone + added) (drop from old) k 0 0 inner)))))
+      ∙ (ap (moved gone added) (sym (get_or-drop from old k 0)) ∙ sym (get_or-map (moved gone added) (drop from old) k 0 0 inner))))
 
 -- The rest of a list is 0.
 pub cleared : (old new : List ℕ) (from : ℕ) → from ≤ length old → length new ≡ length old
@@ -188,7 +183,7 @@ seen_trimmed starts first es enough =
     same_number_lists (ends_seen (0 ∷ take first starts) 0 es) (ends_seen (0 ∷ starts) 0 es) (length-ends_seen (0 ∷ take first starts) 0 es ∙ sym (length-ends_seen (0 ∷ starts) 0 es))
     (λ k h. let inside : k < length es = omega (arith, length-ends_seen (0 ∷ take first starts) 0 es) in
     seen_at (0 ∷ take first starts) es k inside
-    ∙ (ap (λ s. (s + get_or es k 0) % 2 ^ 64) (within_taken starts first (k / 256) (omega (arith, enough))) ∙ sym (seen_at (0 ∷ starts) es k inside)))
+    ∙ (ap (λ s. (s + get_or es k 0) % 2 ^ 32) (within_taken starts first (k / 256) (omega (arith, enough))) ∙ sym (seen_at (0 ∷ starts) es k inside)))
 
 pub seen_cut : (starts within : List ℕ) (many first : ℕ) → length (take many within) / 256 ≤ first
     → ends_seen (0 ∷ take first starts) 0 (take many within) ≡ take many (ends_seen (0 ∷ starts) 0 within)
@@ -210,8 +205,8 @@ module _ (starts within placed after : List ℕ) (from to many n first : ℕ) (o
     (before : take from placed ≡ take from within) (behind : drop (from + many) placed ≡ drop to within)
     (front : (k : ℕ) → k < from + many → get_or after k 0 ≡ get_or placed k 0)
     (recounted : (k : ℕ) → from + many ≤ k → k < length placed
-    → (get_or (0 ∷ (starts ++ replicate n zero)) (k / 256) 0 + get_or after k 0) % 2 ^ 64
-    ≡ (get_or (0 ∷ (starts ++ replicate n zero)) ((k - (from + many) + to) / 256) 0 + get_or placed k 0) % 2 ^ 64) where
+    → (get_or (0 ∷ (starts ++ replicate n zero)) (k / 256) 0 + get_or after k 0) % 2 ^ 32
+    ≡ (get_or (0 ∷ (starts ++ replicate n zero)) ((k - (from + many) + to) / 256) 0 + get_or placed k 0) % 2 ^ 32) where
   abbrev grown : List ℕ
   grown = 0 ∷ (starts ++ replicate n zero)
 
@@ -248,6 +243,6 @@ module _ (starts within placed after : List ℕ) (from to many n first : ℕ) (o
       get_or-drop (from + many) new k 0
       ∙ (seen_at grown after (from + many + k) near
       ∙ (recounted (from + many + k) (omega arith) (omega arith)
-      ∙ ((λ i. (get_or grown (stood k i / 256) 0 + item k i) % 2 ^ 64)
+      ∙ ((λ i. (get_or grown (stood k i / 256) 0 + item k i) % 2 ^ 32)
       ∙ (sym (seen_at grown within (to + k) (omega arith)) ∙ sym (get_or-drop to old k 0))))))
       ∙ ap (drop to) (seen_with_zeros starts n within))

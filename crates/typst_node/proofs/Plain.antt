@@ -1,5 +1,5 @@
 -- What is measured does not turn on spans and bounds.
-use Rattle.std.proofs.Common.{◌≡◌, ℕ, suc, ◌+◌, ◌||◌, List, [], ◌∷◌, ◌++◌, length, map, refl, sym, ap, subst, ◌∙◌}
+use Rattle.std.proofs.Common.{◌≡◌, ◌%◌, ◌^◌, ℕ, suc, ◌+◌, ◌||◌, List, [], ◌∷◌, ◌++◌, length, map, refl, sym, ap, subst, ◌∙◌}
 use Rattle.std.specs.List.{list_any}
 use Rattle.std.proofs.lemmas.List.{map-append}
 use Rattle.typst_base.specs.declared.kind.SyntaxKind.{SyntaxKind}
@@ -71,7 +71,7 @@ has_warning_plain t = ap (λ b. is_warned t.label || b) (ap (list_any is_warned)
 
 ends_plain : (at : ℕ) (ts : List Tree) → ends_from at (map plain ts) ≡ ends_from at ts
 ends_plain at [] = refl
-ends_plain at (t ∷ ts) = ap (λ s. (at + length s) ∷ ends_from (at + length s) (map plain ts)) (text_plain t) ∙ ap (λ es. (at + length (text t)) ∷ es) (ends_plain (at + length (text t)) ts)
+ends_plain at (t ∷ ts) = ap (λ s. ((at + length s) % 2 ^ 32) ∷ ends_from (at + length s) (map plain ts)) (text_plain t) ∙ ap (λ es. ((at + length (text t)) % 2 ^ 32) ∷ es) (ends_plain (at + length (text t)) ts)
 
 -- what is measured is the same of lists that are the same without spans and bounds
 module _ (ts us : List Tree) (same : map plain ts ≡ map plain us) where

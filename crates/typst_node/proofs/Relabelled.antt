@@ -1,5 +1,5 @@
 -- What is measured does not turn on labels, apart from texts, errors and whether there are warnings.
-use Rattle.std.proofs.Common.{◌≡◌, ℕ, suc, ◌+◌, ◌||◌, List, [], ◌∷◌, ◌++◌, length, map, refl, sym, ap, subst, ◌∙◌}
+use Rattle.std.proofs.Common.{◌≡◌, ◌%◌, ◌^◌, ℕ, suc, ◌+◌, ◌||◌, List, [], ◌∷◌, ◌++◌, length, map, refl, sym, ap, subst, ◌∙◌}
 use Rattle.std.specs.List.{list_any}
 use Rattle.std.proofs.lemmas.List.{map-append}
 use Rattle.typst_node.specs.Tree.{Label, Forest, none, tree, Tree, forest}
@@ -60,7 +60,7 @@ module _ (change : Label → Label) (keeps : KeepsMeasures change) where
 
   ends_relabelled : (at : ℕ) (ts : List Tree) → ends_from at (map (relabelled change) ts) ≡ ends_from at ts
   ends_relabelled at [] = refl
-  ends_relabelled at (t ∷ ts) = ap (λ s. (at + length s) ∷ ends_from (at + length s) (map (relabelled change) ts)) (text_relabelled t) ∙ ap (λ es. (at + length (text t)) ∷ es) (ends_relabelled (at + length (text t)) ts)
+  ends_relabelled at (t ∷ ts) = ap (λ s. ((at + length s) % 2 ^ 32) ∷ ends_from (at + length s) (map (relabelled change) ts)) (text_relabelled t) ∙ ap (λ es. ((at + length (text t)) % 2 ^ 32) ∷ es) (ends_relabelled (at + length (text t)) ts)
 
   -- what is measured is the same of lists whose trees are the same once relabelled
   module _ (ts us : List Tree) (same : map (relabelled change) ts ≡ map (relabelled change) us) where

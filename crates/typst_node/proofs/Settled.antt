@@ -1,5 +1,5 @@
 -- Sums, diagnoses and ends after a part of a child list was exchanged.
-use Rattle.std.proofs.Common.{◌≡◌, ℕ, suc, zero, ◌+◌, ◌-◌, ◌<◌, ◌≤◌, ◌^◌, Bool, true, false, ◌||◌, List, [], ◌∷◌, ◌++◌, length, map, take, drop, refl, sym, ap, subst, ◌∙◌, arith, append_assoc, length-append, length-take, length-drop, get_or, set, drop-cons}
+use Rattle.std.proofs.Common.{◌≡◌, ◌%◌, ℕ, suc, zero, ◌+◌, ◌-◌, ◌<◌, ◌≤◌, ◌^◌, Bool, true, false, ◌||◌, List, [], ◌∷◌, ◌++◌, length, map, take, drop, refl, sym, ap, subst, ◌∙◌, arith, append_assoc, length-append, length-take, length-drop, get_or, set, drop-cons}
 use Rattle.std.proofs.lemmas.List.{take-append-drop, take_more, take_more_set, take_at, drop_at, take-set, drop-set}
 use Rattle.std.proofs.Math.Seq.{take-add}
 use Rattle.std.proofs.lemmas.List.Folds.{list_any-append, drop_split}
@@ -9,6 +9,7 @@ use Rattle.typst_node.specs.Tree.{Label, Tree, forest}
 use Rattle.typst_node.specs.Preorder.{preorder}
 use Rattle.typst_node.specs.Text.{text, text_of_all}
 use Rattle.std.specs.Prelude.{Option, Some, None}
+use Rattle.typst_node.specs.Ends.{moved}
 use Rattle.typst_node.specs.ChildEnds.{ends_from, AreEnds, HavePlace, AreStale}
 use Rattle.typst_node.proofs.Trees.{length-text_of_all-cons, child_end_is, length_of_ends}
 use Rattle.typst_node.proofs.Opens.{length_text_append, splice_text, splice_count}
@@ -76,13 +77,13 @@ get_take zero (suc n) (x ∷ xs) d h = refl
 get_take (suc i) (suc n) (x ∷ xs) d h = get_take i n xs d (omega arith)
 
 -- where the text of the children before a place ends
-pub start_at : (es : List ℕ) (ts : List Tree) (n : ℕ) → 0 < n → n ≤ length ts → take n es ≡ take n (ends_from 0 ts) → get_or es (n - 1) 0 ≡ length (text_of_all (take n ts))
+pub start_at : (es : List ℕ) (ts : List Tree) (n : ℕ) → 0 < n → n ≤ length ts → take n es ≡ take n (ends_from 0 ts) → get_or es (n - 1) 0 ≡ length (text_of_all (take n ts)) % 2 ^ 32
 start_at es ts n some few same =
     sym (get_take (n - 1) n es 0 (omega arith)) ∙ (ap (λ ys. get_or ys (n - 1) 0) same ∙ (get_take (n - 1) n (ends_from 0 ts) 0 (omega arith)
-    ∙ (child_end_is ts (n - 1) 0 (omega arith) ∙ ap (λ m. length (text_of_all (take m ts))) (let e : n - 1 + 1 ≡ n = omega arith in e))))
+    ∙ (child_end_is ts (n - 1) 0 (omega arith) ∙ ap (λ m. length (text_of_all (take m ts)) % 2 ^ 32) (let e : n - 1 + 1 ≡ n = omega arith in e))))
 
-pub start_none : (ts : List Tree) (n : ℕ) → n ≡ 0 → 0 ≡ length (text_of_all (take n ts))
-start_none ts n e = ap (λ m. length (text_of_all (take m ts))) (sym e)
+pub start_none : (ts : List Tree) (n : ℕ) → n ≡ 0 → 0 ≡ length (text_of_all (take n ts)) % 2 ^ 32
+start_none ts n e = ap (λ m. length (text_of_all (take m ts)) % 2 ^ 32) (sym e)
 
 -- the text of one more
 pub text_more : (ts : List Tree) (i : ℕ) (d : Tree) → i < length ts → length (text_of_all (take (i + 1) ts)) ≡ length (text_of_all (take i ts)) + length (text (get_or ts i d))
@@ -93,28 +94,23 @@ pub text_front : (ts : List Tree) (i : ℕ) → length (text_of_all (take i ts))
 text_front ts i = sym (length_text_append (take i ts) (drop i ts)) ∙ ap (λ us. length (text_of_all us)) (take-append-drop i ts)
 
 -- one more end is written
-pub end_more : (es : List ℕ) (ts : List Tree) (i end : ℕ) → i < length ts → i < length es → take i es ≡ take i (ends_from 0 ts) → end ≡ length (text_of_all (take (i + 1) ts)) → take (i + 1) (set es i end) ≡ take (i + 1) (ends_from 0 ts)
+pub end_more : (es : List ℕ) (ts : List Tree) (i end : ℕ) → i < length ts → i < length es → take i es ≡ take i (ends_from 0 ts) → end ≡ length (text_of_all (take (i + 1) ts)) % 2 ^ 32 → take (i + 1) (set es i end) ≡ take (i + 1) (ends_from 0 ts)
 end_more es ts i end h k same is =
     let many : i < length (ends_from 0 ts) = omega (arith, length_of_ends 0 ts) in
     take_more_set es i end k ∙ ((λ j. same j ++ (is ∙ sym (child_end_is ts i 0 h)) j ∷ []) ∙ sym (take_more (ends_from 0 ts) i 0 many))
 
+-- an end that is moved by a difference
+moved_end : (a gone added n : ℕ) → moved gone added ((a + gone + n) % 2 ^ 32) ≡ (a + added + n) % 2 ^ 32
+moved_end a gone added n = omega arith
+
 -- ends that are moved by a difference
-pub shifted : (a gone added : ℕ) (ts : List Tree) → map (λ e. e - gone + added) (ends_from (a + gone) ts) ≡ ends_from (a + added) ts
+pub shifted : (a gone added : ℕ) (ts : List Tree) → map (moved gone added) (ends_from (a + gone) ts) ≡ ends_from (a + added) ts
 shifted a gone added [] = refl
 shifted a gone added (t ∷ ts) =
     let one : a + gone + length (text t) ≡ (a + length (text t)) + gone = omega arith in
-    let two : a + gone + length (text t) - gone + added ≡ a + added + length (text t) = omega arith in
-    let three : (a + length (text t)) + added ≡ a + added + length (text t) = omega arith in
-    (λ i. two i ∷ map (λ e. e - gone + added) (ends_from (one i) ts)) ∙ (ap (λ es. (a + added + length (text t)) ∷ es) (shifted (a + length (text t)) gone added ts) ∙ ap (λ n. (a + added + length (text t)) ∷ ends_from n ts) three)
-
--- they fit where the text does
-pub can_shift : (a gone added : ℕ) (ts : List Tree) → a + added + length (text_of_all ts) < 2 ^ 64 → AllByRecursion (λ e. (gone ≤ e) × (e - gone + added < 2 ^ 64)) (ends_from (a + gone) ts)
-can_shift a gone added [] h = tt
-can_shift a gone added (t ∷ ts) h =
-    let one : (a + length (text t)) + gone ≡ a + gone + length (text t) = omega arith in (
-      (omega arith, omega (arith, length-text_of_all-cons t ts)),
-      subst (λ n. AllByRecursion (λ e. (gone ≤ e) × (e - gone + added < 2 ^ 64)) (ends_from n ts)) one (can_shift (a + length (text t)) gone added ts (omega (arith, length-text_of_all-cons t ts))),
-    )
+    let two : (a + length (text t)) + added ≡ a + added + length (text t) = omega arith in
+    (λ i. moved_end a gone added (length (text t)) i ∷ map (moved gone added) (ends_from (one i) ts))
+    ∙ (ap (λ es. ((a + added + length (text t)) % 2 ^ 32) ∷ es) (shifted (a + length (text t)) gone added ts) ∙ ap (λ n. ((a + added + length (text t)) % 2 ^ 32) ∷ ends_from n ts) two)
 
 -- the ends of the trees after a place
 pub drop_ends : (at : ℕ) (ts : List Tree) (n : ℕ) → n ≤ length ts → drop n (ends_from at ts) ≡ ends_from (at + length (text_of_all (take n ts))) (drop n ts)
@@ -137,11 +133,11 @@ ends_whole es tail ts from to added order inside same is left =
 
 -- the end of a single child is that of what stood there, where their lengths are the same
 pub one_end : (es : List ℕ) (ts : List Tree) (from to added : ℕ) → from ≤ to → to ≤ length ts → to ≡ suc from → added ≡ length (text_of_all (slice_range ts from to))
-    → take to es ≡ take from (ends_from 0 ts) ++ (length (text_of_all (take from ts)) + added) ∷ [] → take to es ≡ take to (ends_from 0 ts)
+    → take to es ≡ take from (ends_from 0 ts) ++ ((length (text_of_all (take from ts)) + added) % 2 ^ 32) ∷ [] → take to es ≡ take to (ends_from 0 ts)
 one_end es ts from to added order inside one is same =
     let there : from < length ts = omega arith in
     let more : from < length (ends_from 0 ts) = omega (arith, length_of_ends 0 ts) in
-    let end : length (text_of_all (take from ts)) + added ≡ get_or (ends_from 0 ts) from 0 =
+    let end : (length (text_of_all (take from ts)) + added) % 2 ^ 32 ≡ get_or (ends_from 0 ts) from 0 =
     omega (arith, text_parts ts from to order, is, ap (λ n. length (text_of_all (take n ts))) (let e : from + 1 ≡ to = omega arith in e)) ∙ sym (child_end_is ts from 0 there) in
     same ∙ (ap (λ e. take from (ends_from 0 ts) ++ e ∷ []) end
     ∙ (sym (take_more (ends_from 0 ts) from 0 more) ∙ ap (λ n. take n (ends_from 0 ts)) (let e : from + 1 ≡ to = omega arith in e)))
@@ -153,7 +149,7 @@ ends_stay None ts from to stay gone added one inside s same is few = few
 ends_stay (Some ends) ts from to stay gone added one inside s same is stale =
     let order : from ≤ to = omega arith in
     let before : take to ends ≡ take to (ends_from 0 ts) =
-    one_end ends ts from to added order inside one is (stale.one s one ∙ ap (λ n. take from (ends_from 0 ts) ++ (length (text_of_all (take from ts)) + n) ∷ []) same) in
+    one_end ends ts from to added order inside one is (stale.one s one ∙ ap (λ n. take from (ends_from 0 ts) ++ ((length (text_of_all (take from ts)) + n) % 2 ^ 32) ∷ []) same) in
     sym (take-append-drop to ends)
     ∙ ends_whole ends (drop to ends) ts from to added order inside before is (stale.behind ∙ ap (λ n. ends_from (length (text_of_all (take from ts)) + n) (drop to ts)) same)
 
@@ -161,7 +157,7 @@ ends_stay (Some ends) ts from to stay gone added one inside s same is stale =
 take_ends : (at n : ℕ) (ts : List Tree) → take n (ends_from at ts) ≡ ends_from at (take n ts)
 take_ends at zero ts = refl
 take_ends at (suc n) [] = refl
-take_ends at (suc n) (t ∷ ts) = ap (λ es. (at + length (text t)) ∷ es) (take_ends (at + length (text t)) n ts)
+take_ends at (suc n) (t ∷ ts) = ap (λ es. ((at + length (text t)) % 2 ^ 32) ∷ es) (take_ends (at + length (text t)) n ts)
 
 or_comm : (a b : Bool) → (a || b) ≡ (b || a)
 or_comm true true = refl
@@ -232,11 +228,11 @@ module _ (old new : InnerNode) (ys : List Tree) (from to : ℕ) (gone : Sums) (o
   many = omega (arith, ap length children, length_splice old.children.items ys from to order inside)
 
   -- the end of a single child that another one took the place of
-  old_end : to ≡ suc from → take (suc from) (ends_from 0 old.children.items) ≡ take from (ends_from 0 old.children.items) ++ (length (text_of_all (take from old.children.items)) + gone.len) ∷ []
+  old_end : to ≡ suc from → take (suc from) (ends_from 0 old.children.items) ≡ take from (ends_from 0 old.children.items) ++ ((length (text_of_all (take from old.children.items)) + gone.len) % 2 ^ 32) ∷ []
   old_end one =
       let there : from < length old.children.items = omega (arith, one, inside) in
       let more : from < length (ends_from 0 old.children.items) = omega (arith, length_of_ends 0 old.children.items) in
-      let end : get_or (ends_from 0 old.children.items) from 0 ≡ length (text_of_all (take from old.children.items)) + gone.len =
+      let end : get_or (ends_from 0 old.children.items) from 0 ≡ (length (text_of_all (take from old.children.items)) + gone.len) % 2 ^ 32 =
       child_end_is old.children.items from 0 there ∙ omega (arith, text_parts old.children.items from to order, is_gone.len, ap (λ n. length (text_of_all (take n old.children.items))) (let e : from + 1 ≡ to = omega arith in e)) in
       ap (λ n. take n (ends_from 0 old.children.items)) (let e : suc from ≡ from + 1 = omega arith in e)
       ∙ (take_more (ends_from 0 old.children.items) from 0 more ∙ ap (λ e. take from (ends_from 0 old.children.items) ++ e ∷ []) end)
@@ -253,7 +249,7 @@ module _ (old new : InnerNode) (ys : List Tree) (from to : ℕ) (gone : Sums) (o
             let same_front : take from (ends_from 0 old.children.items) ≡ take from (ends_from 0 new.children.items) =
             take_ends 0 from old.children.items ∙ (ap (ends_from 0) (sym front) ∙ sym (take_ends 0 from new.children.items)) in
             (λ i. take (e i) (place.stay (stays s) i))
-            ∙ (old_end (omega (arith, stays s, e)) ∙ (λ i. same_front i ++ (sym text_front i + gone.len) ∷ []));
+            ∙ (old_end (omega (arith, stays s, e)) ∙ (λ i. same_front i ++ ((sym text_front i + gone.len) % 2 ^ 32) ∷ []));
       }
 
   pub put_stale : IsStale from (from + length ys) stay gone new

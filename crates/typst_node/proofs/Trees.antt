@@ -1,5 +1,5 @@
 -- Lists of trees, and trees side by side.
-use Rattle.std.proofs.Common.{◌≡◌, ℕ, suc, zero, ◌+◌, ◌<◌, ◌≤◌, List, [], ◌∷◌, ◌++◌, length, take, drop, get_or, refl, sym, ap, ◌∙◌, arith, length-append, append_assoc, add-one, drop-cons}
+use Rattle.std.proofs.Common.{◌≡◌, ◌%◌, ◌^◌, ℕ, suc, zero, ◌+◌, ◌<◌, ◌≤◌, List, [], ◌∷◌, ◌++◌, length, take, drop, get_or, refl, sym, ap, ◌∙◌, arith, length-append, append_assoc, add-one, drop-cons}
 use Rattle.typst_node.specs.Tree.{Label, Forest, none, tree, Tree, trees, forest}
 use Rattle.typst_node.specs.Preorder.{preorder, nodes}
 use Rattle.typst_node.specs.Text.{own_text, joined, text, text_of_all}
@@ -43,17 +43,17 @@ pub within_ends : (kept : Option (List ℕ)) (ts : List Tree) (i : ℕ) → i < 
 within_ends None ts i h few = tt
 within_ends (Some ends) ts i h same = omega (arith, ap length same, length_of_ends 0 ts)
 
-end_at_any : (at : ℕ) (ts : List Tree) (i d : ℕ) → i < length ts → get_or (ends_from at ts) i d ≡ at + length (text_of_all (take (suc i) ts))
+end_at_any : (at : ℕ) (ts : List Tree) (i d : ℕ) → i < length ts → get_or (ends_from at ts) i d ≡ (at + length (text_of_all (take (suc i) ts))) % 2 ^ 32
 end_at_any at [] i d h = absurd (omega arith)
 end_at_any at (t ∷ ts) zero d h = omega (arith, length-text_of_all-cons t [])
 end_at_any at (t ∷ ts) (suc i) d h = omega (arith, length-text_of_all-cons t (take (suc i) ts), end_at_any (at + length (text t)) ts i d (omega arith))
 
 -- where a child's text ends
-pub child_end_is : (ts : List Tree) (i d : ℕ) → i < length ts → get_or (ends_from 0 ts) i d ≡ length (text_of_all (take (i + 1) ts))
+pub child_end_is : (ts : List Tree) (i d : ℕ) → i < length ts → get_or (ends_from 0 ts) i d ≡ length (text_of_all (take (i + 1) ts)) % 2 ^ 32
 child_end_is ts i d h = rw add-one (omega (arith, end_at_any 0 ts i d h))
 
 -- it is what is read of the ends that are kept
-pub kept_end_is : (kept : Option (List ℕ)) (ts : List Tree) (i end : ℕ) → i < length ts → AreEnds kept ts → MatchOption kept (Some end ≡ None) (λ ends. Some end ≡ Some (slice_index ends i)) → end ≡ length (text_of_all (take (i + 1) ts))
+pub kept_end_is : (kept : Option (List ℕ)) (ts : List Tree) (i end : ℕ) → i < length ts → AreEnds kept ts → MatchOption kept (Some end ≡ None) (λ ends. Some end ≡ Some (slice_index ends i)) → end ≡ length (text_of_all (take (i + 1) ts)) % 2 ^ 32
 kept_end_is None ts i end h few read = cc
 kept_end_is (Some ends) ts i end h same read = let is : end ≡ slice_index ends i = cc in is ∙ (ap (λ es. slice_index es i) same ∙ child_end_is ts i 0 h)
 

@@ -1,13 +1,13 @@
 -- Where the texts of a node's children end, and what is kept of it.
-use Rattle.std.specs.Prelude.{ℕ, suc, ◌≡◌, ◌+◌, ◌-◌, ◌≤◌, Bool, IsTrue, List, [], ◌∷◌, ◌++◌, length, take, drop, Option, Some, None, Box}
+use Rattle.std.specs.Prelude.{ℕ, suc, ◌≡◌, ◌+◌, ◌-◌, ◌%◌, ◌^◌, ◌≤◌, Bool, IsTrue, List, [], ◌∷◌, ◌++◌, length, take, drop, Option, Some, None, Box}
 use Rattle.std.specs.Global.{Global}
 use Rattle.typst_node.specs.Tree.{Tree}
 use Rattle.typst_node.specs.Text.{text, text_of_all}
 
--- where each tree's text ends, if the first begins at this place
+-- where each tree's text ends, if the first begins at this place: the lower 32 bits
 abbrev pub ends_from : ℕ → List Tree → List ℕ
 ends_from at [] = []
-ends_from at (t ∷ ts) = (at + length (text t)) ∷ ends_from (at + length (text t)) ts
+ends_from at (t ∷ ts) = ((at + length (text t)) % 2 ^ 32) ∷ ends_from (at + length (text t)) ts
 
 -- the ends as they are seen
 abbrev pub ends_kept : Option (Box (List ℕ) Global) → Option (List ℕ)
@@ -36,7 +36,7 @@ pub record IsStaleList (from to : ℕ) (stay : Bool) (gone : ℕ) (ends : List �
   pub many : length ends ≡ length ts
   pub before : take from ends ≡ take from (ends_from 0 ts)
   pub behind : drop to ends ≡ ends_from (length (text_of_all (take from ts)) + gone) (drop to ts)
-  pub one : IsTrue stay → to ≡ suc from → take to ends ≡ take from (ends_from 0 ts) ++ (length (text_of_all (take from ts)) + gone) ∷ []
+  pub one : IsTrue stay → to ≡ suc from → take to ends ≡ take from (ends_from 0 ts) ++ ((length (text_of_all (take from ts)) + gone) % 2 ^ 32) ∷ []
 
 abbrev pub AreStale : (from to : ℕ) (stay : Bool) (gone : ℕ) → Option (List ℕ) → List Tree → Type 0
 AreStale from to stay gone None ts = length ts ≤ 10

@@ -1,7 +1,6 @@
 //! Where texts end that stand side by side.
 ghost use Rattle.std.specs.Prelude.{ℕ, ◌∷◌, ◌≡◌, ◌+◌, ◌-◌, ◌*◌, ◌%◌, ◌/◌, ◌^◌, ◌<◌, ◌≤◌, ◌++◌, map, length, take, drop, slice_index, slice_set, replicate, IfOk, IsOk, OnOk, OnErr};
-ghost use Rattle.std.specs.List.{AllByRecursion};
-ghost use Rattle.typst_node.specs.Ends.{ends_seen, starts_in, IsTight};
+ghost use Rattle.typst_node.specs.Ends.{ends_seen, moved, starts_in, IsTight};
 
 use crate::exchange::make_place;
 use std::alloc::{AllocError, Global};
@@ -10,14 +9,17 @@ use std::marker::Model;
 /// How many ends a block has.
 const BLOCK: usize = 256;
 
-/// Where texts end that stand side by side. In contracts it is the list of their ends.
+/// Below this length each end is its own lower 32 bits.
+pub(crate) const LIMIT: usize = 0x1_0000_0000;
+
+/// Where texts end that stand side by side: of each end the lower 32 bits. In contracts it is the list of these numbers.
 ///
 /// The ends stand in blocks, and where the blocks begin is kept as ends are. So after a change of a length the rest of
 /// one block is written, and that of one in each layer above it.
 #[derive(Drop)]
 pub(crate) struct Ends {
     // At each place the end, counted from where its block begins.
-    within: Vec<usize>,
+    within: Vec<u32>,
     // Where the blocks after the first begin, if there are any. Sums wrap, so one may stand for a number below 0.
     starts: Option<Box<Ends>>,
 }
@@ -39,9 +41,16 @@ impl Model for Ends {
     ghost size_decreases = { λ a h. Prim.grind (arith, length-ends_seen) };
 }
 
+/// The lower 32 bits of a number.
+pub(crate) fn low(number: usize) -> u32
+    ensures { result ≡ number % 2 ^ 32 }
+{
+    (number % LIMIT) as u32
+}
+
 /// Where a block begins.
 #[cycle(get)]
-fn start_of(starts: &Option<Box<Ends>>, block: usize) -> usize
+fn start_of(starts: &Option<Box<Ends>>, block: usize) -> u32
     requires { block ≤ length (starts_in starts.now) }
     ensures { result ≡ slice_index (0 ∷ starts_in starts.now) block }
 {
@@ -52,10 +61,10 @@ fn start_of(starts: &Option<Box<Ends>>, block: usize) -> usize
 }
 
 /// Adds a number to those from `from` up to `to`. Sums wrap.
-pub(crate) fn raise(numbers: &mut [usize], from: usize, to: usize, by: usize)
+pub(crate) fn raise(numbers: &mut [u32], from: usize, to: usize, by: u32)
     requires window { from ≤ to }
     requires inside { to ≤ length numbers.old }
-    ensures raised { (k : ℕ) → from ≤ k → k < to → slice_index numbers.new k ≡ (slice_index numbers.old k + by) % 2 ^ 64 }
+    ensures raised { (k : ℕ) → from ≤ k → k < to → slice_index numbers.new k ≡ (slice_index numbers.old k + by) % 2 ^ 32 }
     ensures before { (k : ℕ) → k < from → slice_index numbers.new k ≡ slice_index numbers.old k }
     ensures behind { (k : ℕ) → to ≤ k → slice_index numbers.new k ≡ slice_index numbers.old k }
 {
@@ -66,13 +75,13 @@ pub(crate) fn raise(numbers: &mut [usize], from: usize, to: usize, by: usize)
 
 /// Adds a number to where blocks begin, from one on. Sums wrap.
 #[cycle(add)]
-fn raise_starts(starts: &mut Option<Box<Ends>>, from: usize, by: usize)
+fn raise_starts(starts: &mut Option<Box<Ends>>, from: usize, by: u32)
     requires tight { IsTight starts.old }
     requires inside { from ≤ length (starts_in starts.old) }
     ensures tight { IsTight starts.new }
     ensures len { length (starts_in starts.new) ≡ length (starts_in starts.old) }
     ensures before { (k : ℕ) → k < from → slice_index (starts_in starts.new) k ≡ slice_index (starts_in starts.old) k }
-    ensures behind { (k : ℕ) → from ≤ k → k < length (starts_in starts.old) → slice_index (starts_in starts.new) k ≡ (slice_index (starts_in starts.old) k + by) % 2 ^ 64 }
+    ensures behind { (k : ℕ) → from ≤ k → k < length (starts_in starts.old) → slice_index (starts_in starts.new) k ≡ (slice_index (starts_in starts.old) k + by) % 2 ^ 32 }
 {
     if let Some(starts) = starts {
         starts.add(from, by);
@@ -81,15 +90,15 @@ fn raise_starts(starts: &mut Option<Box<Ends>>, from: usize, by: usize)
 
 /// Counts the ends from `to` on, which stood from `from` on before they moved, from where the blocks begin in which they
 /// stand now. It writes only those that passed into another block.
-fn recount(within: &mut [usize], starts: &Option<Box<Ends>>, to: usize, from: usize)
+fn recount(within: &mut [u32], starts: &Option<Box<Ends>>, to: usize, from: usize)
     requires inside { to ≤ length within.old }
     requires now { length within.old / 256 ≤ length (starts_in starts.now) }
     requires then { (length within.old - to + from) / 256 ≤ length (starts_in starts.now) }
     requires fits { length within.old - to + from < 2 ^ 64 }
     ensures before { (k : ℕ) → k < to → slice_index within.new k ≡ slice_index within.old k }
     ensures behind { (k : ℕ) → to ≤ k → k < length within.old
-        → (slice_index (0 ∷ starts_in starts.now) (k / 256) + slice_index within.new k) % 2 ^ 64
-        ≡ (slice_index (0 ∷ starts_in starts.now) ((k - to + from) / 256) + slice_index within.old k) % 2 ^ 64 }
+        → (slice_index (0 ∷ starts_in starts.now) (k / 256) + slice_index within.new k) % 2 ^ 32
+        ≡ (slice_index (0 ∷ starts_in starts.now) ((k - to + from) / 256) + slice_index within.old k) % 2 ^ 32 }
 {
     let count = within.len();
     let mut place = to;
@@ -144,7 +153,7 @@ fn keep(starts: &mut Option<Box<Ends>>, many: usize)
 
 impl Ends {
     /// These ends.
-    pub(crate) fn new(ends: Vec<usize>) -> Result<Ends, AllocError>
+    pub(crate) fn new(ends: Vec<u32>) -> Result<Ends, AllocError>
         ensures { IfOk result (λ e. e ≡ ends.items) }
     {
         let mut starts = None;
@@ -157,7 +166,7 @@ impl Ends {
 
     /// The end at a place. It takes one addition for each layer.
     #[cycle(get)]
-    pub(crate) fn get(&self, index: usize) -> usize
+    pub(crate) fn get(&self, index: usize) -> u32
         requires { index < length self.now }
         ensures { result ≡ slice_index self.now index }
     {
@@ -165,7 +174,7 @@ impl Ends {
     }
 
     /// Writes the end at a place.
-    pub(crate) fn set(&mut self, index: usize, end: usize)
+    pub(crate) fn set(&mut self, index: usize, end: u32)
         requires { index < length self.old }
         ensures { self.new ≡ slice_set self.old index end }
     {
@@ -175,11 +184,11 @@ impl Ends {
 
     /// Adds a number to all from a place on. Sums wrap.
     #[cycle(add)]
-    fn add(&mut self, from: usize, by: usize)
+    fn add(&mut self, from: usize, by: u32)
         requires { from ≤ length self.old }
         ensures len { length self.new ≡ length self.old }
         ensures before { (k : ℕ) → k < from → slice_index self.new k ≡ slice_index self.old k }
-        ensures behind { (k : ℕ) → from ≤ k → k < length self.old → slice_index self.new k ≡ (slice_index self.old k + by) % 2 ^ 64 }
+        ensures behind { (k : ℕ) → from ≤ k → k < length self.old → slice_index self.new k ≡ (slice_index self.old k + by) % 2 ^ 32 }
     {
         let block = from / BLOCK;
         let stop = self.within.len().min((block + 1) * BLOCK);
@@ -187,14 +196,13 @@ impl Ends {
         raise_starts(&mut self.starts, block, by);
     }
 
-    /// Moves the ends from one on by the difference of two lengths.
+    /// Moves the ends from one on by the difference of two lengths. Sums wrap.
     pub(crate) fn shift(&mut self, from: usize, gone: usize, added: usize)
-        requires inside { from ≤ length self.old }
-        requires above { AllByRecursion (λ e. (gone ≤ e) × (e - gone + added < 2 ^ 64)) (drop from self.old) }
+        requires { from ≤ length self.old }
         ensures before { take from self.new ≡ take from self.old }
-        ensures behind { drop from self.new ≡ map (λ e. e - gone + added) (drop from self.old) }
+        ensures behind { drop from self.new ≡ map (moved gone added) (drop from self.old) }
     {
-        self.add(from, added.wrapping_sub(gone));
+        self.add(from, low(added).wrapping_sub(low(gone)));
     }
 
     /// Writes 0 at each place from one on.

@@ -9,6 +9,7 @@ ghost use Rattle.typst_node.specs.Labels.{bound};
 ghost use Rattle.typst_node.specs.View.{warnings_in, IsMeasured};
 
 use crate::diagnosis::Diagnosis;
+use crate::ends::LIMIT;
 use crate::node::child_ends::ChildEnds;
 use crate::short_text::{LONGEST, len_in, text_in};
 use std::alloc::{AllocError, Global};
@@ -189,7 +190,7 @@ fn joined_len(nodes: &[SyntaxNode]) -> usize
 }
 
 impl InnerNode {
-    /// Where the text of a child ends: it is read where it is kept, and else counted from the nearer end of the list.
+    /// Where the text of a child ends: it is read where it is kept whole, and else counted from the nearer end of the list.
     fn child_end(&self, index: usize) -> usize
         requires measured { IsMeasured self.now }
         requires index { index < length self.now.children.items }
@@ -197,9 +198,9 @@ impl InnerNode {
     {
         let len = self.len;
         match self.ends.get(index) {
-            Some(end) => end,
-            None if index < self.children.len() - index => joined_len(&self.children[0..index + 1]),
-            None => len - joined_len(&self.children[index + 1..]),
+            Some(end) if len < LIMIT => end as usize,
+            _ if index < self.children.len() - index => joined_len(&self.children[0..index + 1]),
+            _ => len - joined_len(&self.children[index + 1..]),
         }
     }
 }
@@ -376,7 +377,7 @@ impl SyntaxNode {
     /// Where the text of a child ends, in bytes from the beginning of this node's text: the joined length of the
     /// children up to and with that one. `index` is a child index. In a node of up to ten children it is counted from the
     /// nearer end of the list, over at most five lengths. In one of more an end is read, with one addition, two from 256
-    /// children on, and three from 65,536 on.
+    /// children on, and three from 65,536 on; where the node's text has 4 GB or more it is counted there, too.
     #[tactic(auto, using(crate::proofs::Trees::trees_of_forest))]
     pub fn child_end(&self, index: usize) -> usize
         requires { index < length (trees self.now.children) }

@@ -4,7 +4,7 @@ ghost use Rattle.typst_node.specs.Text.{text_of_all};
 ghost use Rattle.typst_node.specs.Count.{SumsFit};
 ghost use Rattle.typst_node.specs.ChildEnds.{ends_kept, ends_from, AreEnds, HavePlace, AreStale};
 
-use crate::ends::Ends;
+use crate::ends::{Ends, low};
 use crate::node::SyntaxNode;
 use crate::node::inner::measure;
 use std::alloc::{AllocError, Global};
@@ -13,8 +13,8 @@ use std::marker::Model;
 /// Of how many children at the most it isn't kept where they end.
 pub(crate) const FEW: usize = 10;
 
-/// Where the texts of a node's children end, unless they are few. In contracts it is the list of their ends, where there
-/// is one. A list that grew past a few and shrinks again stays.
+/// Where the texts of a node's children end, unless they are few: of each end the lower 32 bits. In contracts it is the list
+/// of these numbers, where there is one. A list that grew past a few and shrinks again stays.
 #[derive(Drop)]
 pub(crate) struct ChildEnds {
     kept: Option<Box<Ends>>,
@@ -30,7 +30,7 @@ impl Model for ChildEnds {
 }
 
 /// Where the texts of a few children end. The numbers after those of the children say nothing.
-fn few_ends(children: &[SyntaxNode]) -> [usize; FEW]
+fn few_ends(children: &[SyntaxNode]) -> [u32; FEW]
     requires few { length children.now ≤ 10 }
     requires fits { SumsFit children.now }
     ensures { take (length children.now) result ≡ ends_from 0 children.now }
@@ -43,7 +43,7 @@ fn few_ends(children: &[SyntaxNode]) -> [usize; FEW]
 /// These ends with place for `many` where those from `from` up to `to` stand.
 fn spread(
     alloc: Global,
-    ends: &[usize],
+    ends: &[u32],
     from: usize,
     to: usize,
     many: usize,
@@ -67,14 +67,13 @@ fn write_ends(ends: &mut Ends, children: &[SyntaxNode], from: usize, to: usize)
     requires many { length ends.old ≡ length children.now }
     requires window { from ≤ to }
     requires inside { to ≤ length children.now }
-    requires fits { length (text_of_all children.now) < 2 ^ 64 }
     requires before { take from ends.old ≡ take from (ends_from 0 children.now) }
     ensures before { take to ends.new ≡ take to (ends_from 0 children.now) }
     ensures behind { drop to ends.new ≡ drop to ends.old }
 {
     let mut end = if from == 0 { 0 } else { ends.get(from - 1) };
     for i in from..to {
-        end += children[i].len();
+        end = end.wrapping_add(low(children[i].len()));
         ends.set(i, end);
     }
 }
@@ -92,7 +91,6 @@ fn settle_ends(
     requires many { length ends.old ≡ length children.now }
     requires window { from ≤ to }
     requires inside { to ≤ length children.now }
-    requires fits { length (text_of_all children.now) < 2 ^ 64 }
     requires added { added ≡ length (text_of_all (slice_range children.now from to)) }
     requires before { take from ends.old ≡ take from (ends_from 0 children.now) }
     requires behind { drop to ends.old ≡ ends_from (length (text_of_all (take from children.now)) + gone) (drop to children.now) }
@@ -113,7 +111,7 @@ impl ChildEnds {
     }
 
     /// These ends.
-    pub(crate) fn many(alloc: Global, ends: Vec<usize>) -> Result<ChildEnds, AllocError>
+    pub(crate) fn many(alloc: Global, ends: Vec<u32>) -> Result<ChildEnds, AllocError>
         ensures { IfOk result (λ e. e ≡ Some ends.items) }
     {
         Ok(ChildEnds {
@@ -121,8 +119,8 @@ impl ChildEnds {
         })
     }
 
-    /// The end at a place, if it is kept. It takes one addition for each layer of blocks.
-    pub(crate) fn get(&self, index: usize) -> Option<usize>
+    /// The end at a place, if it is kept, by its lower 32 bits. It takes one addition for each layer of blocks.
+    pub(crate) fn get(&self, index: usize) -> Option<u32>
         requires { IfSome self.now (λ ends. index < length ends) }
         ensures { MatchOption self.now (result ≡ None) (λ ends. result ≡ Some (slice_index ends index)) }
     {
@@ -180,8 +178,7 @@ impl ChildEnds {
         requires stale { AreStale from to stay gone self.old children.now }
         requires window { from ≤ to }
         requires inside { to ≤ length children.now }
-        requires fits { length (text_of_all children.now) < 2 ^ 64 }
-        requires added { added ≡ length (text_of_all (slice_range children.now from to)) }
+            requires added { added ≡ length (text_of_all (slice_range children.now from to)) }
         ensures { AreEnds self.new children.now }
     {
         if stay && to - from == 1 && gone == added {

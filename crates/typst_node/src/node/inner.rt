@@ -8,6 +8,7 @@ ghost use Rattle.typst_node.specs.ChildEnds.{ends_from, AreEnds};
 ghost use Rattle.typst_node.specs.declared.node.build.InnerError.TheVariants.{Overflow};
 
 use crate::diagnosis::Diagnosis;
+use crate::ends::low;
 use crate::node::build::InnerError;
 use crate::node::child_ends::{ChildEnds, FEW};
 use crate::node::{Node, SyntaxNode};
@@ -85,7 +86,7 @@ pub(crate) fn sums_of(children: &[SyntaxNode]) -> Option<Sums>
 }
 
 /// Adds up the children, and writes where the text of each ends, if the sums fit a usize.
-pub(super) fn measure(children: &[SyntaxNode], ends: &mut [usize]) -> Option<Sums>
+pub(super) fn measure(children: &[SyntaxNode], ends: &mut [u32]) -> Option<Sums>
     requires { length ends.old ≡ length children.now }
     ensures sums { MatchOption result (¬ (SumsFit children.now))
         (λ sums. SumsFit children.now × AreSums sums children.now) }
@@ -102,7 +103,7 @@ pub(super) fn measure(children: &[SyntaxNode], ends: &mut [usize]) -> Option<Sum
         len = len.checked_add(own.len)?;
         descendants = descendants.checked_add(own.descendants)?;
         diagnosis = diagnosis.or(own.diagnosis);
-        ends[i] = len;
+        ends[i] = low(len);
     }
     Some(Sums {
         len,
@@ -112,7 +113,7 @@ pub(super) fn measure(children: &[SyntaxNode], ends: &mut [usize]) -> Option<Sum
 }
 
 /// So many zeros.
-fn zeros(alloc: Global, count: usize) -> Result<Vec<usize>, AllocError>
+fn zeros(alloc: Global, count: usize) -> Result<Vec<u32>, AllocError>
     ensures { IfOk result (λ v. length v.items ≡ count) }
 {
     let mut zeros = Vec::with_capacity(alloc, count)?;

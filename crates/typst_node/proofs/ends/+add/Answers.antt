@@ -33,8 +33,8 @@ Ends::add-returns t c =
     let many : length after ≡ length before = omega (arith, c.raise.auto.numbers, ap length was) in
     let same_block : (k : ℕ) → c.args.from ≤ k → k < stop → k / 256 ≡ c.args.from / 256 = λ k a b. omega arith in
     let later_block : (k : ℕ) → stop ≤ k → k < length before → c.args.from / 256 < k / 256 = λ k a b. omega (arith, c.self.inside.within.ok) in
-    let raised : (k : ℕ) → c.args.from ≤ k → k < stop → get_or after k 0 ≡ (get_or before k 0 + c.args.by) % 2 ^ 64 =
-    λ k a b. c.raise.ensures.raised k a b ∙ ap (λ (xs : List ℕ). (get_or xs k 0 + c.args.by) % 2 ^ 64) was in
+    let raised : (k : ℕ) → c.args.from ≤ k → k < stop → get_or after k 0 ≡ (get_or before k 0 + c.args.by) % 2 ^ 32 =
+    λ k a b. c.raise.ensures.raised k a b ∙ ap (λ (xs : List ℕ). (get_or xs k 0 + c.args.by) % 2 ^ 32) was in
     let front : (k : ℕ) → k < c.args.from → get_or after k 0 ≡ get_or before k 0 = λ k a. c.raise.ensures.before k a ∙ ap (λ (xs : List ℕ). get_or xs k 0) was in
     let back : (k : ℕ) → stop ≤ k → get_or after k 0 ≡ get_or before k 0 = λ k a. c.raise.ensures.behind k a ∙ ap (λ (xs : List ℕ). get_or xs k 0) was in
     let held : List ℕ = (with_items c.self.inside.within after).items in
@@ -45,7 +45,7 @@ Ends::add-returns t c =
       len = length-ends_seen (0 ∷ others) 0 held ∙ (ap length held_is ∙ (many ∙ old_many));
       before = λ k h. ap (λ (xs : List ℕ). get_or (ends_seen (0 ∷ others) 0 xs) k 0) held_is ∙ (low k (omega (arith, old_many, c.requires)) h ∙ ap (λ (es : List ℕ). get_or es k 0) c.self.view_is);
       behind = λ k a b. ap (λ (xs : List ℕ). get_or (ends_seen (0 ∷ others) 0 xs) k 0) held_is
-          ∙ (high k (omega (arith, old_many)) a ∙ ap (λ (es : List ℕ). (get_or es k 0 + c.args.by) % 2 ^ 64) c.self.view_is);
+          ∙ (high k (omega (arith, old_many)) a ∙ ap (λ (es : List ℕ). (get_or es k 0 + c.args.by) % 2 ^ 32) c.self.view_is);
     }
 
 pub raise_starts-add-requires : goal.raise_starts-add-requires

@@ -22,7 +22,7 @@ Ends::get-returns t c =
     let within = c.self.inside.within.items in
     let inside : c.args.index < length within = omega (arith, length-ends_seen starts 0 within, ap length c.self.view_is) in
     let item : c.index.result.now ≡ get_or within c.args.index 0 = c.index.ensures ∙ get_or_default_zero within c.args.index c.index.result.now inside in
-    (λ i. (c.start_of.ensures i + item i) % 2 ^ 64) ∙ (sym (seen_at starts within c.args.index inside) ∙ ap (λ (es : List ℕ). get_or es c.args.index 0) c.self.view_is)
+    (λ i. (c.start_of.ensures i + item i) % 2 ^ 32) ∙ (sym (seen_at starts within c.args.index inside) ∙ ap (λ (es : List ℕ). get_or es c.args.index 0) c.self.view_is)
 
 pub start_of-get-requires : goal.start_of-get-requires
 start_of-get-requires t c = (

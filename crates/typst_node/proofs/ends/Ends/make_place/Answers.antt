@@ -81,11 +81,11 @@ returns c =
     let kept_is : kept_in ≡ after = with_items_is c.make_place.new.items after (omega (arith, c.make_place.new.items.ok, in_all)) in
     let front : (k : ℕ) → k < behind → get_or after k 0 ≡ get_or placed k 0 = λ k h. c.recount.ensures.before k h ∙ ap (λ (xs : List ℕ). get_or xs k 0) put in
     let recounted : (k : ℕ) → behind ≤ k → k < length placed
-    → (get_or (0 ∷ (starts ++ replicate n 0)) (k / 256) 0 + get_or after k 0) % 2 ^ 64
-    ≡ (get_or (0 ∷ (starts ++ replicate n 0)) ((k - behind + c.args.to) / 256) 0 + get_or placed k 0) % 2 ^ 64 =
-    λ k a b. ap (λ (xs : List ℕ). (get_or (0 ∷ xs) (k / 256) 0 + get_or after k 0) % 2 ^ 64) (sym grown)
+    → (get_or (0 ∷ (starts ++ replicate n 0)) (k / 256) 0 + get_or after k 0) % 2 ^ 32
+    ≡ (get_or (0 ∷ (starts ++ replicate n 0)) ((k - behind + c.args.to) / 256) 0 + get_or placed k 0) % 2 ^ 32 =
+    λ k a b. ap (λ (xs : List ℕ). (get_or (0 ∷ xs) (k / 256) 0 + get_or after k 0) % 2 ^ 32) (sym grown)
     ∙ (c.recount.ensures.behind k a (omega (arith, ap length put))
-    ∙ (λ i. (get_or (0 ∷ grown i) ((k - behind + c.args.to) / 256) 0 + get_or (put i) k 0) % 2 ^ 64)) in
+    ∙ (λ i. (get_or (0 ∷ grown i) ((k - behind + c.args.to) / 256) 0 + get_or (put i) k 0) % 2 ^ 32)) in
     let now : ends_seen (0 ∷ starts_in c.keep.new.starts) 0 kept_in ≡ ends_seen (0 ∷ take blocks (starts ++ replicate n 0)) 0 after =
     (λ i. ends_seen (0 ∷ (c.keep.ensures.is ∙ ap (take blocks) grown) i) 0 (kept_is i)) in
     let inside : c.args.to ≤ length within = omega (arith, many_ends) in

@@ -21,5 +21,5 @@ pub returns : goal.returns
 returns c =
     let starts : List ℕ = 0 ∷ starts_in c.self.inside.starts in
     let within = c.self.inside.within.items in
-    let fits : c.start_of-start.result < 2 ^ 64 = omega arith in
+    let fits : c.start_of-start.result < 2 ^ 32 = omega arith in
     seen-write starts within c.args.index c.start_of-start.result c.args.end fits (omega arith) c.start_of-start.ensures ∙ ap (λ (es : List ℕ). set es c.args.index c.args.end) c.self.view_is

@@ -1,7 +1,7 @@
-use Rattle.std.proofs.Common.{arith, ◌≡◌, ◌+◌, length, length-set, take, drop, get_or, refl, ap, ◌∙◌}
+use Rattle.std.proofs.Common.{arith, ◌≡◌, ◌+◌, ◌%◌, ◌^◌, length, length-set, take, drop, get_or, refl, ap, ◌∙◌}
 use Rattle.std.proofs.lemmas.List.{drop-set-lt}
 use Rattle.typst_node.specs.Text.{text, text_of_all}
-use Rattle.typst_node.proofs.Settled.{start_at, start_none, text_more, text_front, end_more}
+use Rattle.typst_node.proofs.Settled.{start_at, start_none, text_more, end_more}
 use Rattle.typst_node.proofs.node.child_ends.write_ends.Goals as goal
 use Rattle.typst_node.proofs.node.child_ends.write_ends.Goals.{then-from-eq0, else-from-eq0}
 
@@ -16,20 +16,15 @@ loop-i-init c = record {
   behind = refl;
 }
 
-pub overflow_add-end : goal.overflow_add-end
-overflow_add-end c =
-    let more = text_more c.args.children.now c.loop-i.i c.index-children-i.result (omega arith) in
-    let same : length (text c.index-children-i.result) ≡ length (text (get_or c.args.children.now c.loop-i.i c.index-children-i.result)) = ap (λ t. length (text t)) c.index-children-i.is in
-    omega (arith, more, same, text_front c.args.children.now (c.loop-i.i + 1))
-
 pub loop-i-preserved : goal.loop-i-preserved
 loop-i-preserved c =
     let more = text_more c.args.children.now c.loop-i.i c.index-children-i.result (omega arith) in
     let same : length (text c.index-children-i.result) ≡ length (text (get_or c.args.children.now c.loop-i.i c.index-children-i.result)) = ap (λ t. length (text t)) c.index-children-i.is in
-    let end : c.loop-i.end + c.len-end.result ≡ length (text_of_all (take (c.loop-i.i + 1) c.args.children.now)) = omega (arith, more, same) in
+    let end : (c.loop-i.end + c.low-end.result) % 2 ^ 32 ≡ length (text_of_all (take (c.loop-i.i + 1) c.args.children.now)) % 2 ^ 32 =
+    omega (arith, c.loop-i.invariant.end, c.low-end.ensures, c.len.ensures, more, same) in
     record {
-      many = ap length c.set.ensures ∙ (length-set c.loop-i.ends c.loop-i.i (c.loop-i.end + c.len-end.result) ∙ c.loop-i.invariant.many);
+      many = ap length c.set.ensures ∙ (length-set c.loop-i.ends c.loop-i.i ((c.loop-i.end + c.low-end.result) % 2 ^ 32) ∙ c.loop-i.invariant.many);
       end = end;
-      before = ap (take (c.loop-i.i + 1)) c.set.ensures ∙ end_more c.loop-i.ends c.args.children.now c.loop-i.i (c.loop-i.end + c.len-end.result) (omega arith) (omega (arith, c.loop-i.invariant.many)) c.loop-i.invariant.before end;
-      behind = ap (drop c.args.to) c.set.ensures ∙ drop-set-lt c.args.to c.loop-i.ends c.loop-i.i (c.loop-i.end + c.len-end.result) (omega arith) ∙ c.loop-i.invariant.behind;
+      before = ap (take (c.loop-i.i + 1)) c.set.ensures ∙ end_more c.loop-i.ends c.args.children.now c.loop-i.i ((c.loop-i.end + c.low-end.result) % 2 ^ 32) (omega arith) (omega (arith, c.loop-i.invariant.many)) c.loop-i.invariant.before end;
+      behind = ap (drop c.args.to) c.set.ensures ∙ drop-set-lt c.args.to c.loop-i.ends c.loop-i.i ((c.loop-i.end + c.low-end.result) % 2 ^ 32) (omega arith) ∙ c.loop-i.invariant.behind;
     }
