@@ -40,7 +40,7 @@ module _ (a : Inside) (k : SyntaxKind) (n : ℕ) (b : Box InnerNode Global) (t :
   -- with other contents of the inner node, the label is the same
   pub inner_label : (new : InnerNode) → new.upper ≡ b.value.upper → new.warnings ≡ b.value.warnings → (tree_of record { node = Inner k n (with_value b new); span = a.span }).label ≡ t.label
   inner_label new upper warned =
-      (λ i. record { span = a.span; warnings = shown_warnings (warned i).items; content = AsInner k (upper i) })
+      (λ i. record { span = a.span; warnings = shown_warnings (warned i); content = AsInner k (upper i) })
       ∙ (ap (λ n. (tree_of record { node = n; span = a.span }).label) (sym is) ∙ ap (λ (u : Tree). u.label) view)
 
   -- and the whole is the plain edit where the children are

@@ -105,7 +105,7 @@ module _ (ts us : List Tree) (same : map plain ts ≡ map plain us) where
 pub same_plain_inner : (a : Inside) (k : SyntaxKind) (n : ℕ) (b : Box InnerNode Global) (t : Tree) (new : InnerNode) (s : SpanParts) → a.node ≡ Inner k n b → tree_of a ≡ t → new.warnings ≡ b.value.warnings → map plain new.children.items ≡ map plain b.value.children.items
     → plain (tree_of record { node = Inner k n (with_value b new); span = s }) ≡ plain t
 same_plain_inner a k n b t new s is view warned same =
-    (λ i. record { label = record { span = detached; warnings = shown_warnings (warned i).items; content = AsInner k 0 }; children = (sym (forest_plain new.children.items) ∙ ap forest same ∙ forest_plain b.value.children.items) i })
+    (λ i. record { label = record { span = detached; warnings = shown_warnings (warned i); content = AsInner k 0 }; children = (sym (forest_plain new.children.items) ∙ ap forest same ∙ forest_plain b.value.children.items) i })
     ∙ sym (ap (λ n. plain (tree_of record { node = n; span = a.span })) is) ∙ ap plain view
 
 -- how many nodes an inner node says that it has

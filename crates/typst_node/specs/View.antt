@@ -37,7 +37,7 @@ abbrev pub warnings_in : Node → List Warning
 warnings_in (Short kind len bytes) = []
 warnings_in (Long kind b) = []
 warnings_in (Leaf kind b) = b.value.warnings.items
-warnings_in (Inner kind len b) = b.value.warnings.items
+warnings_in (Inner kind len b) = b.value.warnings
 warnings_in (Error b) = b.value.warnings.items
 
 -- the node's children

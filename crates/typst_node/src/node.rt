@@ -11,6 +11,7 @@ ghost use Rattle.typst_node.specs.View.{warnings_in, IsMeasured};
 use crate::diagnosis::Diagnosis;
 use crate::ends::LIMIT;
 use crate::node::child_ends::ChildEnds;
+use crate::node::warnings::Warnings;
 use crate::short_text::{LONGEST, len_in, text_in};
 use std::alloc::{AllocError, Global};
 use std::marker::Model;
@@ -36,6 +37,7 @@ pub mod spanless;
 pub mod synthesize;
 mod trim;
 pub mod warn;
+mod warnings;
 mod window;
 
 /// A node of a syntax tree: a leaf, an inner node or an error, under any number of warnings.
@@ -76,8 +78,7 @@ struct InnerNode {
     // The bound: above every number of the subtree, once it is numbered.
     upper: u64,
     children: Vec<SyntaxNode>,
-    // From the innermost to the outermost.
-    warnings: Vec<Warning>,
+    warnings: Warnings,
     // Where the texts of the children end, unless they are few.
     ends: ChildEnds,
 }
@@ -213,7 +214,7 @@ impl Node {
         match self {
             Node::Short(..) | Node::Long(..) => &[],
             Node::Leaf(_, leaf) => &leaf.warnings,
-            Node::Inner(_, _, inner) => &inner.warnings,
+            Node::Inner(_, _, inner) => inner.warnings.as_slice(),
             Node::Error(error) => &error.warnings,
         }
     }

@@ -5,6 +5,7 @@ ghost use Rattle.typst_node.specs.Count.{SumsFit};
 ghost use Rattle.typst_node.specs.declared.node.build.InnerError.TheVariants.{Overflow, Memory};
 
 use crate::node::inner::measured;
+use crate::node::warnings::Warnings;
 use crate::node::{InnerNode, Node, SyntaxNode};
 use crate::short_text::{LONGEST, bytes_of};
 use std::alloc::{AllocError, AllocFailed, Global};
@@ -92,7 +93,7 @@ impl SyntaxNode {
             upper: 0,
             children,
             ends,
-            warnings: Vec::new(alloc),
+            warnings: Warnings::none(),
         };
         Ok(SyntaxNode {
             node: Node::Inner(kind, sums.len, Box::new(alloc, inner)?),

@@ -48,7 +48,7 @@ impl SyntaxNode {
                 *len,
                 inner.descendants,
                 inner.diagnosis.errors,
-                inner.diagnosis.warnings || !inner.warnings.is_empty(),
+                inner.diagnosis.warnings || !inner.warnings.as_slice().is_empty(),
             ),
             Node::Error(error) => (error.text.len(), 1, true, !error.warnings.is_empty()),
         };

@@ -3,6 +3,7 @@ ghost use Rattle.std.specs.Prelude.{◌≡◌, map};
 ghost use Rattle.typst_node.specs.Synthesized.{synthesized, whole_hint, whole_warning};
 ghost use Rattle.typst_node.specs.View.{hint_text, IsMeasured, shown_warnings, warning_text};
 
+use crate::node::warnings::Warnings;
 use crate::node::{Hint, InnerNode, Node, SyntaxNode, Warning};
 use typst_base::Span;
 
@@ -42,11 +43,11 @@ impl InnerNode {
         ensures measured { IsMeasured self.new }
         ensures len { self.new.len ≡ self.old.len }
         ensures upper { self.new.upper ≡ span.low }
-        ensures warnings { shown_warnings self.new.warnings.items ≡ map whole_warning (shown_warnings self.old.warnings.items) }
+        ensures warnings { shown_warnings self.new.warnings ≡ map whole_warning (shown_warnings self.old.warnings) }
         ensures children { self.new.children.items ≡ map (synthesized span) self.old.children.items }
     {
         self.upper = span.number();
-        make_whole(&mut self.warnings);
+        self.warnings.make_whole();
         for child in self.children.iter_mut() {
             child.synthesize(span);
         }
@@ -68,6 +69,17 @@ pub(super) fn make_hints_whole(hints: &mut Vec<Hint>)
 {
     for hint in hints.iter_mut() {
         hint.sub_range = None;
+    }
+}
+
+impl Warnings {
+    /// Takes the sub-ranges of the warnings and their hints away.
+    fn make_whole(&mut self)
+        ensures { shown_warnings self.new ≡ map whole_warning (shown_warnings self.old) }
+    {
+        if let Some(list) = &mut self.listed {
+            make_whole(list);
+        }
     }
 }
 

@@ -4,6 +4,7 @@ ghost use Rattle.typst_node.specs.Hints.{error_tree, hint_for, hint_outermost, h
 ghost use Rattle.typst_node.specs.Warnings.{part_for, warned, warning, FitsRange};
 ghost use Rattle.typst_node.specs.View.{below, content, hint_text, shown_warnings, warning_text, warnings_in, IsKept};
 
+use crate::node::warnings::{Warnings, only};
 use crate::node::{ErrorNode, Hint, LeafNode, Node, SyntaxNode, Warning};
 use crate::short_text::text_in;
 use std::alloc::{AllocError, Global};
@@ -217,7 +218,7 @@ impl Node {
                 Ok(())
             }
             Node::Leaf(_, leaf) => warn_last(&mut leaf.warnings, warning),
-            Node::Inner(_, _, inner) => warn_last(&mut inner.warnings, warning),
+            Node::Inner(_, _, inner) => inner.warnings.push(alloc, warning),
             Node::Error(error) => warn_last(&mut error.warnings, warning),
         }
     }
@@ -237,7 +238,7 @@ impl Node {
         match self {
             Node::Short(..) | Node::Long(..) => unreachable!(),
             Node::Leaf(_, leaf) => hint_last(&mut leaf.warnings, hint),
-            Node::Inner(_, _, inner) => hint_last(&mut inner.warnings, hint),
+            Node::Inner(_, _, inner) => inner.warnings.hint_last(hint),
             Node::Error(error) => hint_last(&mut error.warnings, hint),
         }
     }
@@ -249,8 +250,7 @@ impl LeafNode {
         ensures text { IfOk result (λ b. string_bytes b.value.text ≡ string_bytes text) }
         ensures warnings { IfOk result (λ b. b.value.warnings.items ≡ warning ∷ []) }
     {
-        let mut warnings = Vec::with_capacity(alloc, 1)?;
-        warnings.push(warning)?;
+        let warnings = only(alloc, warning)?;
         Ok(Box::new(alloc, LeafNode { text, warnings })?)
     }
 }
@@ -289,4 +289,19 @@ fn hint_last(warnings: &mut Vec<Warning>, hint: Hint) -> Result<(), AllocError>
     let last = warnings.len() - 1;
     warnings[last].hints.push(hint)?;
     Ok(())
+}
+
+impl Warnings {
+    /// Adds a hint after those of the last warning, which is the outermost one.
+    fn hint_last(&mut self, hint: Hint) -> Result<(), AllocError>
+        requires { 0 < length self.old }
+        ensures ok { OnOk result (shown_warnings self.new
+            ≡ hint_outermost (hint_text hint ∷ []) (shown_warnings self.old)) }
+        ensures err { OnErr result (shown_warnings self.new ≡ shown_warnings self.old) }
+    {
+        match &mut self.listed {
+            Some(list) => hint_last(list, hint),
+            None => unreachable!(),
+        }
+    }
 }

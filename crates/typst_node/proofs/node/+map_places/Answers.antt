@@ -58,5 +58,5 @@ SyntaxNode::map_places-returns-in-Inner t c =
     mapped_inner c.args.mapper.now c.args.id c.args.at c.from_range-span.result c.self.inside _ _ c.in-Inner.inner c.args.self.now c.map_places_below.new.self _ c.in-Inner.is c.self.view_is
     (c.from_range-span.ensures.is ∙ ap (λ r. ranged c.args.id r.start r.end) (c.map.ensures ∙ ap (λ n. mapped c.args.mapper.now (interval c.args.at (c.args.at + n))) size))
     c.map_places_below.ensures.upper
-    (c.map_places_below.ensures.warnings ∙ ap (λ x. map (mapped_warning c.args.mapper.now (interval c.args.at (c.args.at + length (text_of_all x.children.items)))) (shown_warnings x.warnings.items)) c.deref_mut-in-Inner.ensures.value)
+    (c.map_places_below.ensures.warnings ∙ ap (λ x. map (mapped_warning c.args.mapper.now (interval c.args.at (c.args.at + length (text_of_all x.children.items)))) (shown_warnings x.warnings)) c.deref_mut-in-Inner.ensures.value)
     (c.map_places_below.ensures.children ∙ ap (λ x. mapped_trees c.args.mapper.now c.args.id c.args.at x.children.items) c.deref_mut-in-Inner.ensures.value)

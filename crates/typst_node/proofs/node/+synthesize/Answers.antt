@@ -40,5 +40,5 @@ InnerNode::synthesize_below-returns-clause-children t c =
 pub SyntaxNode::synthesize-returns-in-Inner : goal.SyntaxNode::synthesize-returns-in-Inner
 SyntaxNode::synthesize-returns-in-Inner t c =
     synthesized_inner c.args.span c.self.inside _ _ c.in-Inner.inner c.args.self.now c.synthesize_below.new.self _ c.in-Inner.is c.self.view_is
-    c.synthesize_below.ensures.upper (c.synthesize_below.ensures.warnings ∙ ap (λ x. map whole_warning (shown_warnings x.warnings.items)) c.deref_mut-in-Inner.ensures.value)
+    c.synthesize_below.ensures.upper (c.synthesize_below.ensures.warnings ∙ ap (λ x. map whole_warning (shown_warnings x.warnings)) c.deref_mut-in-Inner.ensures.value)
     (c.synthesize_below.ensures.children ∙ ap (λ x. map (synthesized c.args.span) x.children.items) c.deref_mut-in-Inner.ensures.value)
