@@ -1,10 +1,10 @@
 -- Sums, diagnoses and ends after a part of a child list was exchanged.
-use Rattle.std.proofs.Common.{◌≡◌, ◌%◌, ℕ, suc, zero, ◌+◌, ◌-◌, ◌<◌, ◌≤◌, ◌^◌, Bool, true, false, ◌||◌, List, [], ◌∷◌, ◌++◌, length, map, take, drop, refl, sym, ap, subst, ◌∙◌, arith, append_assoc, length-append, length-take, length-drop, get_or, set, drop-cons}
+use Rattle.std.proofs.Common.{◌≡◌, ◌%◌, ℕ, suc, zero, ◌+◌, ◌-◌, ◌<◌, ◌≤◌, ◌^◌, Bool, true, false, ◌||◌, List, [], ◌∷◌, ◌++◌, length, map, take, drop, refl, sym, ap, ◌∙◌, arith, append_assoc, length-append, length-take, length-drop, get_or, set, drop-cons}
 use Rattle.std.proofs.lemmas.List.{take-append-drop, take_more, take_more_set, take_at, drop_at, take-set, drop-set}
 use Rattle.std.proofs.Math.Seq.{take-add}
 use Rattle.std.proofs.lemmas.List.Folds.{list_any-append, drop_split}
 use Rattle.std.specs.Prelude.{slice_range, IsTrue}
-use Rattle.std.specs.List.{list_any, AllByRecursion, splice}
+use Rattle.std.specs.List.{list_any, splice}
 use Rattle.typst_node.specs.Tree.{Label, Tree, forest}
 use Rattle.typst_node.specs.Preorder.{preorder}
 use Rattle.typst_node.specs.Text.{text, text_of_all}

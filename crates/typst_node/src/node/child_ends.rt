@@ -178,7 +178,7 @@ impl ChildEnds {
         requires stale { AreStale from to stay gone self.old children.now }
         requires window { from ≤ to }
         requires inside { to ≤ length children.now }
-            requires added { added ≡ length (text_of_all (slice_range children.now from to)) }
+        requires added { added ≡ length (text_of_all (slice_range children.now from to)) }
         ensures { AreEnds self.new children.now }
     {
         if stay && to - from == 1 && gone == added {

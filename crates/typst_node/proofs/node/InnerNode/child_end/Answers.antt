@@ -24,7 +24,7 @@ returns-in-Some c =
     let items = c.args.self.now.children.items in
     let low : c.in-Some.end ≡ length (text_of_all (take (c.args.index + 1) items)) % 2 ^ 32 =
     kept_end_is c.args.self.now.ends items c.args.index c.in-Some.end c.requires.index c.requires.measured.ends
-        (subst (λ r. MatchOption c.args.self.now.ends (r ≡ None) (λ ends. r ≡ Some (slice_index ends c.args.index))) c.in-Some.is c.get.ensures) in
+    (subst (λ r. MatchOption c.args.self.now.ends (r ≡ None) (λ ends. r ≡ Some (slice_index ends c.args.index))) c.in-Some.is c.get.ensures) in
     omega (arith, low, text_front items (c.args.index + 1), c.requires.measured.len, c.if-len-lt-LIMIT.true)
 
 -- the text of a beginning and that of the rest, read from another list that is the same
