@@ -55,7 +55,7 @@ pub struct SyntaxNode {
 #[derive(Drop)]
 enum Node {
     // A leaf without warnings that holds its text itself: how many of the bytes are the text's, and the bytes. They stand here one
-    // by one, not in a struct of their own, since the compiler then moves a node as one piece, and else as four that overlap.
+    // by one, not in a struct of their own, since the compiler then moves a node as a whole, and else by moves that overlap.
     Short(SyntaxKind, u8, [u8; LONGEST]),
     // A leaf without warnings whose text is longer.
     Long(SyntaxKind, Box<String>),
