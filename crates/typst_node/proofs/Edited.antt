@@ -38,13 +38,13 @@ module _ (a : Inside) (k : SyntaxKind) (n : ℕ) (b : Box InnerNode Global) (t :
   inner_number = ap (λ (u : Tree). number u.label) (sym view)
 
   -- with other contents of the inner node, the label is the same
-  pub inner_label : (new : InnerNode) → new.upper ≡ b.value.upper → new.warnings ≡ b.value.warnings → (tree_of record { node = Inner k n (with_value b new); span = a.span }).label ≡ t.label
+  pub inner_label : (new : InnerNode) → new.upper ≡ b.value.upper → new.extras.warnings ≡ b.value.extras.warnings → (tree_of record { node = Inner k n (with_value b new); span = a.span }).label ≡ t.label
   inner_label new upper warned =
       (λ i. record { span = a.span; warnings = shown_warnings (warned i); content = AsInner k (upper i) })
       ∙ (ap (λ n. (tree_of record { node = n; span = a.span }).label) (sym is) ∙ ap (λ (u : Tree). u.label) view)
 
   -- and the whole is the plain edit where the children are
-  pub inner_edited : (new : InnerNode) (from to : ℕ) (others : List Tree) → new.upper ≡ b.value.upper → new.warnings ≡ b.value.warnings → map plain new.children.items ≡ map plain (splice b.value.children.items from to others)
+  pub inner_edited : (new : InnerNode) (from to : ℕ) (others : List Tree) → new.upper ≡ b.value.upper → new.extras.warnings ≡ b.value.extras.warnings → map plain new.children.items ≡ map plain (splice b.value.children.items from to others)
       → plain (tree_of record { node = Inner k n (with_value b new); span = a.span }) ≡ plain (edited from to others t)
   inner_edited new from to others upper warned same =
       let kids : plain_forest (forest new.children.items) ≡ plain_forest (forest (splice (trees t.children) from to others)) =

@@ -55,11 +55,11 @@ forest_mapped m id at (t ∷ ts) = ap (λ f. tree (mapped_label m id (bytes_from
 -- an inner node, after its children get their places
 pub mapped_inner : (m : Mapping) (id at : ℕ) (span : SpanParts) (a : Inside) (k : SyntaxKind) (n : ℕ) (b : Box InnerNode Global) (t : Tree) (new : InnerNode) (ws : List WarningText) → a.node ≡ Inner k n b → tree_of a ≡ t
     → span ≡ (mapped_label m id (bytes_from at t) t.label).span → new.upper ≡ span.low
-    → ws ≡ map (mapped_warning m (interval at (at + length (text_of_all b.value.children.items)))) (shown_warnings b.value.warnings) → new.children.items ≡ mapped_trees m id at b.value.children.items
+    → ws ≡ map (mapped_warning m (interval at (at + length (text_of_all b.value.children.items)))) (shown_warnings b.value.extras.warnings) → new.children.items ≡ mapped_trees m id at b.value.children.items
     → record { label = record { span = span; warnings = ws; content = AsInner k new.upper }; children = forest new.children.items } ≡ mapped_tree m id at t
 mapped_inner m id at span a k n b t new ws is view place upper warned below =
     let whole : tree_of record { node = Inner k n b; span = a.span } ≡ t = sym (ap (λ n. tree_of record { node = n; span = a.span }) is) ∙ view in
-    let here : ws ≡ map (mapped_warning m (bytes_from at t)) (shown_warnings b.value.warnings) = warned ∙ ap (λ u. map (mapped_warning m (bytes_from at u)) (shown_warnings b.value.warnings)) whole in
+    let here : ws ≡ map (mapped_warning m (bytes_from at t)) (shown_warnings b.value.extras.warnings) = warned ∙ ap (λ u. map (mapped_warning m (bytes_from at u)) (shown_warnings b.value.extras.warnings)) whole in
     let start : at ≡ at + 0 = omega arith in
     (λ i. record { label = record { span = place i; warnings = here i; content = AsInner k ((upper ∙ ap (λ s. s.low) place) i) }; children = (ap forest below ∙ (forest_mapped m id at b.value.children.items ∙ ap (λ n. mapped_forest m id n (forest b.value.children.items)) start)) i })
     ∙ ap (λ u. record { label = record { span = (mapped_label m id (bytes_from at t) t.label).span; warnings = map (mapped_warning m (bytes_from at t)) u.label.warnings; content = mapped_content m (bytes_from at t) (mapped_label m id (bytes_from at t) t.label).span.low u.label.content }; children = mapped_forest m id (at + length (own_text u.label)) u.children }) whole

@@ -91,18 +91,18 @@ module _ (ts us : List Tree) (same : map plain ts ≡ map plain us) where
   same_ends at = sym (ends_plain at ts) ∙ ap (ends_from at) same ∙ ends_plain at us
 
   -- an inner node whose children change in spans and bounds alone
-  pub measured_by_plain : (old new : InnerNode) → old.children.items ≡ us → new.children.items ≡ ts → new.len ≡ old.len → new.descendants ≡ old.descendants → new.diagnosis ≡ old.diagnosis → new.ends ≡ old.ends
+  pub measured_by_plain : (old new : InnerNode) → old.children.items ≡ us → new.children.items ≡ ts → new.len ≡ old.len → new.descendants ≡ old.descendants → new.diagnosis ≡ old.diagnosis → new.extras.ends ≡ old.extras.ends
       → IsMeasured old → IsMeasured new
   measured_by_plain old new were are len descendants diagnosis ends m = record {
     len = len ∙ m.len ∙ ap (λ vs. length (text_of_all vs)) were ∙ ap length (sym same_text_of_all) ∙ ap (λ vs. length (text_of_all vs)) (sym are);
     descendants = descendants ∙ m.descendants ∙ ap (λ vs. suc (count_of_all vs)) were ∙ ap suc (sym same_count_of_all) ∙ ap (λ vs. suc (count_of_all vs)) (sym are);
     errors = ap (λ d. d.errors) diagnosis ∙ m.errors ∙ ap (λ vs. list_any is_error (preorder (forest vs))) were ∙ sym same_errors ∙ ap (λ vs. list_any is_error (preorder (forest vs))) (sym are);
     warnings = ap (λ d. d.warnings) diagnosis ∙ m.warnings ∙ ap (λ vs. list_any is_warned (preorder (forest vs))) were ∙ sym same_warnings ∙ ap (λ vs. list_any is_warned (preorder (forest vs))) (sym are);
-    ends = subst (AreEnds new.ends) (sym are) (ends_alike new.ends us ts (sym (same_ends 0)) (subst (λ es. AreEnds es us) (sym ends) (subst (AreEnds old.ends) were m.ends)));
+    ends = subst (AreEnds new.extras.ends) (sym are) (ends_alike new.extras.ends us ts (sym (same_ends 0)) (subst (λ es. AreEnds es us) (sym ends) (subst (AreEnds old.extras.ends) were m.ends)));
   }
 
 -- an inner node, after a change of spans and bounds alone
-pub same_plain_inner : (a : Inside) (k : SyntaxKind) (n : ℕ) (b : Box InnerNode Global) (t : Tree) (new : InnerNode) (s : SpanParts) → a.node ≡ Inner k n b → tree_of a ≡ t → new.warnings ≡ b.value.warnings → map plain new.children.items ≡ map plain b.value.children.items
+pub same_plain_inner : (a : Inside) (k : SyntaxKind) (n : ℕ) (b : Box InnerNode Global) (t : Tree) (new : InnerNode) (s : SpanParts) → a.node ≡ Inner k n b → tree_of a ≡ t → new.extras.warnings ≡ b.value.extras.warnings → map plain new.children.items ≡ map plain b.value.children.items
     → plain (tree_of record { node = Inner k n (with_value b new); span = s }) ≡ plain t
 same_plain_inner a k n b t new s is view warned same =
     (λ i. record { label = record { span = detached; warnings = shown_warnings (warned i); content = AsInner k 0 }; children = (sym (forest_plain new.children.items) ∙ ap forest same ∙ forest_plain b.value.children.items) i })

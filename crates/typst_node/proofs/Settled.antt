@@ -204,7 +204,7 @@ place_for_one (Some ends) ts i h same = record {
 module _ (old new : InnerNode) (ys : List Tree) (from to : ℕ) (gone : Sums) (order : from ≤ to) (inside : to ≤ length old.children.items) (measured : IsMeasured old)
     (is_gone : AreSums gone (slice_range old.children.items from to)) (children : new.children.items ≡ splice old.children.items from to ys)
     (len : new.len ≡ old.len) (descendants : new.descendants ≡ old.descendants) (diagnosis : new.diagnosis ≡ old.diagnosis)
-    (places : HavePlace from to (length ys) new.ends old.children.items) (stay : Bool) (stays : IsTrue stay → length ys ≡ to - from) where
+    (places : HavePlace from to (length ys) new.extras.ends old.children.items) (stay : Bool) (stays : IsTrue stay → length ys ≡ to - from) where
   front : take from new.children.items ≡ take from old.children.items
   front = ap (take from) children ∙ splice_front old.children.items ys from to order inside
 
@@ -265,5 +265,5 @@ module _ (old new : InnerNode) (ys : List Tree) (from to : ℕ) (gone : Sums) (o
         descendants = omega (arith, counts, count_in, count_new, descendants, measured.descendants, is_gone.descendants);
         errors = stale_any is_error new.diagnosis.errors gone.diagnosis.errors (ap (λ d. d.errors) diagnosis ∙ measured.errors) is_gone.errors;
         warnings = stale_any is_warned new.diagnosis.warnings gone.diagnosis.warnings (ap (λ d. d.warnings) diagnosis ∙ measured.warnings) is_gone.warnings;
-        ends = stale_ends new.ends places;
+        ends = stale_ends new.extras.ends places;
       }

@@ -67,7 +67,7 @@ forest_synthesized span (t ∷ ts) = ap (λ f. tree (synthesized_label span t.la
 
 -- an inner node, after its children are synthesized
 pub synthesized_inner : (span : SpanParts) (a : Inside) (k : SyntaxKind) (n : ℕ) (b : Box InnerNode Global) (t : Tree) (new : InnerNode) (ws : List WarningText) → a.node ≡ Inner k n b → tree_of a ≡ t
-    → new.upper ≡ span.low → ws ≡ map whole_warning (shown_warnings b.value.warnings) → new.children.items ≡ map (synthesized span) b.value.children.items
+    → new.upper ≡ span.low → ws ≡ map whole_warning (shown_warnings b.value.extras.warnings) → new.children.items ≡ map (synthesized span) b.value.children.items
     → record { label = record { span = span; warnings = ws; content = AsInner k new.upper }; children = forest new.children.items } ≡ synthesized span t
 synthesized_inner span a k n b t new ws is view upper warned below =
     (λ i. record { label = record { span = span; warnings = warned i; content = AsInner k (upper i) }; children = (ap forest below ∙ forest_synthesized span b.value.children.items) i })

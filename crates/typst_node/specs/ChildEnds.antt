@@ -1,6 +1,5 @@
 -- Where the texts of a node's children end, and what is kept of it.
-use Rattle.std.specs.Prelude.{ℕ, suc, ◌≡◌, ◌+◌, ◌-◌, ◌%◌, ◌^◌, ◌≤◌, Bool, IsTrue, List, [], ◌∷◌, ◌++◌, length, take, drop, Option, Some, None, Box}
-use Rattle.std.specs.Global.{Global}
+use Rattle.std.specs.Prelude.{ℕ, suc, ◌≡◌, ◌+◌, ◌-◌, ◌%◌, ◌^◌, ◌≤◌, Bool, IsTrue, List, [], ◌∷◌, ◌++◌, length, take, drop, Option, Some, None}
 use Rattle.typst_node.specs.Tree.{Tree}
 use Rattle.typst_node.specs.Text.{text, text_of_all}
 
@@ -8,11 +7,6 @@ use Rattle.typst_node.specs.Text.{text, text_of_all}
 abbrev pub ends_from : ℕ → List Tree → List ℕ
 ends_from at [] = []
 ends_from at (t ∷ ts) = ((at + length (text t)) % 2 ^ 32) ∷ ends_from (at + length (text t)) ts
-
--- the ends as they are seen
-abbrev pub ends_kept : Option (Box (List ℕ) Global) → Option (List ℕ)
-ends_kept None = None
-ends_kept (Some ends) = Some ends.value
 
 -- all ends are kept, or none of at most ten
 abbrev pub AreEnds : Option (List ℕ) → List Tree → Type 0

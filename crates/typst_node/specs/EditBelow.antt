@@ -38,7 +38,7 @@ all_at s = s.before ++ (s.changed ++ s.behind)
 pub record AreReplaced (s : Site) (id : Option ℕ) (old new : InnerNode) (result : Result Renumbered ReplaceError) : Type 0 where
   pub measured : IsMeasured new
   pub upper : new.upper ≡ old.upper
-  pub warnings : new.warnings ≡ old.warnings
+  pub warnings : new.extras.warnings ≡ old.extras.warnings
   pub err : OnErr result (new.children.items ≡ old.children.items)
   pub overflow : IsErrOf result Overflow ↔ ¬ (SumsFit (all_at s))
   pub unnumberable : IsErrOf result Unnumberable ↔ (SumsFit (all_at s) × ((id ≡ None) ⊎ HasNoFirst s))

@@ -10,7 +10,7 @@ pub mod OpenNumbers
 pub mod Plain
 pub mod Codes
 pub mod View
-pub mod WarningList
+pub mod Extras
 pub mod Smaller
 pub mod Sums
 pub mod Views

@@ -16,4 +16,4 @@ pub record IsStale (from to : ℕ) (stay : Bool) (gone : Sums) (inner : InnerNod
   pub descendants : inner.descendants + count_of_all (slice_range inner.children.items from to) ≡ count_of_all inner.children.items + gone.descendants
   pub errors : inner.diagnosis.errors ≡ (gone.diagnosis.errors || list_any is_error (preorder (forest (take from inner.children.items ++ drop to inner.children.items))))
   pub warnings : inner.diagnosis.warnings ≡ (gone.diagnosis.warnings || list_any is_warned (preorder (forest (take from inner.children.items ++ drop to inner.children.items))))
-  pub ends : AreStale from to stay gone.len inner.ends inner.children.items
+  pub ends : AreStale from to stay gone.len inner.extras.ends inner.children.items

@@ -37,7 +37,7 @@ abbrev pub warnings_in : Node → List Warning
 warnings_in (Short kind len bytes) = []
 warnings_in (Long kind b) = []
 warnings_in (Leaf kind b) = b.value.warnings.items
-warnings_in (Inner kind len b) = b.value.warnings
+warnings_in (Inner kind len b) = b.value.extras.warnings
 warnings_in (Error b) = b.value.warnings.items
 
 -- the node's children
@@ -60,7 +60,7 @@ pub record IsMeasured (inner : InnerNode) : Type 0 where
   pub descendants : inner.descendants ≡ suc (count_of_all inner.children.items)
   pub errors : inner.diagnosis.errors ≡ list_any is_error (preorder (forest inner.children.items))
   pub warnings : inner.diagnosis.warnings ≡ list_any is_warned (preorder (forest inner.children.items))
-  pub ends : AreEnds inner.ends inner.children.items
+  pub ends : AreEnds inner.extras.ends inner.children.items
 
 -- so many of the bytes are a text that fits a leaf itself
 pub record IsShort (len : ℕ) (bytes : List ℕ) : Type 0 where

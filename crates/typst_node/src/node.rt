@@ -10,8 +10,7 @@ ghost use Rattle.typst_node.specs.View.{warnings_in, IsMeasured};
 
 use crate::diagnosis::Diagnosis;
 use crate::ends::LIMIT;
-use crate::node::child_ends::ChildEnds;
-use crate::node::warnings::Warnings;
+use crate::node::extras::Extras;
 use crate::short_text::{LONGEST, len_in, text_in};
 use std::alloc::{AllocError, Global};
 use std::marker::Model;
@@ -25,6 +24,7 @@ pub mod copy;
 mod debug;
 pub mod diagnostics;
 pub mod equal;
+mod extras;
 pub mod hash;
 mod inner;
 pub mod mapped;
@@ -37,7 +37,6 @@ pub mod spanless;
 pub mod synthesize;
 mod trim;
 pub mod warn;
-mod warnings;
 mod window;
 
 /// A node of a syntax tree: a leaf, an inner node or an error, under any number of warnings.
@@ -78,9 +77,8 @@ struct InnerNode {
     // The bound: above every number of the subtree, once it is numbered.
     upper: u64,
     children: Vec<SyntaxNode>,
-    warnings: Warnings,
-    // Where the texts of the children end, unless they are few.
-    ends: ChildEnds,
+    // Where the texts of the children end, unless they are few, and the warnings.
+    extras: Extras,
 }
 
 /// A leaf with warnings, without its kind.
@@ -198,7 +196,7 @@ impl InnerNode {
         ensures { result ≡ length (text_of_all (take (index + 1) self.now.children.items)) }
     {
         let len = self.len;
-        match self.ends.get(index) {
+        match self.extras.end(index) {
             Some(end) if len < LIMIT => end as usize,
             _ if index < self.children.len() - index => joined_len(&self.children[0..index + 1]),
             _ => len - joined_len(&self.children[index + 1..]),
@@ -214,7 +212,7 @@ impl Node {
         match self {
             Node::Short(..) | Node::Long(..) => &[],
             Node::Leaf(_, leaf) => &leaf.warnings,
-            Node::Inner(_, _, inner) => inner.warnings.as_slice(),
+            Node::Inner(_, _, inner) => inner.extras.warnings(),
             Node::Error(error) => &error.warnings,
         }
     }

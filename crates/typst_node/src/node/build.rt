@@ -5,7 +5,6 @@ ghost use Rattle.typst_node.specs.Count.{SumsFit};
 ghost use Rattle.typst_node.specs.declared.node.build.InnerError.TheVariants.{Overflow, Memory};
 
 use crate::node::inner::measured;
-use crate::node::warnings::Warnings;
 use crate::node::{InnerNode, Node, SyntaxNode};
 use crate::short_text::{LONGEST, bytes_of};
 use std::alloc::{AllocError, AllocFailed, Global};
@@ -85,15 +84,14 @@ impl SyntaxNode {
         ensures ok { IfOk result (λ t. t ≡ inner_tree kind children.items) }
         ensures overflow { IsErrOf result Overflow ↔ ¬ (SumsFit children.items) }
     {
-        let (sums, ends) = measured(alloc, &children)?;
+        let (sums, extras) = measured(alloc, &children)?;
         let inner = InnerNode {
             len: sums.len,
             descendants: sums.descendants,
             diagnosis: sums.diagnosis,
             upper: 0,
             children,
-            ends,
-            warnings: Warnings::none(),
+            extras,
         };
         Ok(SyntaxNode {
             node: Node::Inner(kind, sums.len, Box::new(alloc, inner)?),

@@ -2,7 +2,7 @@
 ghost use Rattle.std.specs.Prelude.{◌≡◌, ◌+◌, ◌-◌, ◌^◌, ◌<◌, ◌≤◌, length, take, drop, slice_index, slice_range, None, Some, IfSome, IfOk, IsOk, OnOk, OnErr, MatchOption};
 ghost use Rattle.typst_node.specs.Text.{text_of_all};
 ghost use Rattle.typst_node.specs.Count.{SumsFit};
-ghost use Rattle.typst_node.specs.ChildEnds.{ends_kept, ends_from, AreEnds, HavePlace, AreStale};
+ghost use Rattle.typst_node.specs.ChildEnds.{ends_from, AreEnds, HavePlace, AreStale};
 
 use crate::ends::{Ends, low};
 use crate::node::SyntaxNode;
@@ -17,16 +17,15 @@ pub(crate) const FEW: usize = 10;
 /// of these numbers, where there is one. A list that grew past a few and shrinks again stays.
 #[derive(Drop)]
 pub(crate) struct ChildEnds {
-    kept: Option<Box<Ends>>,
+    kept: Option<Ends>,
 }
 
 impl Model for ChildEnds {
     ghost use Rattle.std.specs.Prelude.{ℕ, List, Option};
-    ghost use Rattle.typst_node.specs.ChildEnds.{ends_kept};
 
     ghost Value = { Option (List ℕ) };
 
-    ghost view = { λ a. ends_kept a.kept };
+    ghost view = { λ a. a.kept };
 }
 
 /// Where the texts of a few children end. The numbers after those of the children say nothing.
@@ -111,11 +110,11 @@ impl ChildEnds {
     }
 
     /// These ends.
-    pub(crate) fn many(alloc: Global, ends: Vec<u32>) -> Result<ChildEnds, AllocError>
+    pub(crate) fn many(ends: Vec<u32>) -> Result<ChildEnds, AllocError>
         ensures { IfOk result (λ e. e ≡ Some ends.items) }
     {
         Ok(ChildEnds {
-            kept: Some(Box::new(alloc, Ends::new(ends)?)?),
+            kept: Some(Ends::new(ends)?),
         })
     }
 
@@ -157,8 +156,7 @@ impl ChildEnds {
         let count = children.len();
         if count - (to - from) + many > FEW {
             let ends = few_ends(children);
-            let spread = spread(alloc, &ends[..count], from, to, many)?;
-            self.kept = Some(Box::new(alloc, spread)?);
+            self.kept = Some(spread(alloc, &ends[..count], from, to, many)?);
         }
         Ok(())
     }
@@ -190,11 +188,11 @@ impl ChildEnds {
     }
 
     /// The same ends.
-    pub(crate) fn copy(&self, alloc: Global) -> Result<ChildEnds, AllocError>
+    pub(crate) fn copy(&self) -> Result<ChildEnds, AllocError>
         ensures { IfOk result (λ e. e ≡ self.now) }
     {
         let kept = match &self.kept {
-            Some(ends) => Some(Box::new(alloc, ends.copy()?)?),
+            Some(ends) => Some(ends.copy()?),
             None => None,
         };
         Ok(ChildEnds { kept })

@@ -1,5 +1,5 @@
 // What an inner node keeps of its children.
-ghost use Rattle.std.specs.Prelude.{◌≡◌, ◌↔◌, length, MatchOption, IfSome, IfOk, OnOk, IsErrOf};
+ghost use Rattle.std.specs.Prelude.{◌≡◌, ◌↔◌, [], length, MatchOption, IfSome, IfOk, OnOk, IsErrOf};
 ghost use Rattle.typst_node.specs.Text.{text};
 ghost use Rattle.typst_node.specs.Count.{count, SumsFit};
 ghost use Rattle.typst_node.specs.Diagnosis.{has_error, has_warning};
@@ -10,7 +10,8 @@ ghost use Rattle.typst_node.specs.declared.node.build.InnerError.TheVariants.{Ov
 use crate::diagnosis::Diagnosis;
 use crate::ends::low;
 use crate::node::build::InnerError;
-use crate::node::child_ends::{ChildEnds, FEW};
+use crate::node::child_ends::FEW;
+use crate::node::extras::Extras;
 use crate::node::{Node, SyntaxNode};
 use crate::short_text::len_in;
 use std::alloc::{AllocError, Global};
@@ -48,7 +49,7 @@ impl SyntaxNode {
                 *len,
                 inner.descendants,
                 inner.diagnosis.errors,
-                inner.diagnosis.warnings || !inner.warnings.as_slice().is_empty(),
+                inner.diagnosis.warnings || !inner.extras.warnings().is_empty(),
             ),
             Node::Error(error) => (error.text.len(), 1, true, !error.warnings.is_empty()),
         };
@@ -123,19 +124,17 @@ fn zeros(alloc: Global, count: usize) -> Result<Vec<u32>, AllocError>
 
 /// The sums of the children and where the text of each ends, in one walk; of few the sums alone. Where memory is refused, the
 /// sums alone tell which error it is.
-pub(crate) fn measured(
-    alloc: Global,
-    children: &[SyntaxNode],
-) -> Result<(Sums, ChildEnds), InnerError>
+pub(crate) fn measured(alloc: Global, children: &[SyntaxNode]) -> Result<(Sums, Extras), InnerError>
     ensures sums { IfOk result (λ both. AreSums both.0 children.now) }
-    ensures ends { IfOk result (λ both. AreEnds both.1 children.now) }
+    ensures ends { IfOk result (λ both. AreEnds both.1.ends children.now) }
+    ensures warnings { IfOk result (λ both. both.1.warnings ≡ []) }
     ensures fits { OnOk result (SumsFit children.now) }
     ensures overflow { IsErrOf result Overflow ↔ ¬ (SumsFit children.now) }
 {
     let count = children.len();
     if count <= FEW {
         let sums = sums_of(children).ok_or(InnerError::Overflow)?;
-        return Ok((sums, ChildEnds::few()));
+        return Ok((sums, Extras::none()));
     }
     let Ok(mut ends) = zeros(alloc, count) else {
         return Err(match sums_of(children) {
@@ -144,5 +143,5 @@ pub(crate) fn measured(
         });
     };
     let sums = measure(children, &mut ends).ok_or(InnerError::Overflow)?;
-    Ok((sums, ChildEnds::many(alloc, ends)?))
+    Ok((sums, Extras::of_ends(alloc, ends)?))
 }

@@ -6,7 +6,7 @@ ghost use Rattle.typst_node.specs.MappedForest.{mapped_tree, mapped_trees, mappe
 ghost use Rattle.typst_node.specs.Text.{text, text_of_all};
 ghost use Rattle.typst_node.specs.View.{hint_text, IsMeasured, shown_warnings, warning_text};
 
-use crate::node::warnings::Warnings;
+use crate::node::extras::Extras;
 use crate::node::{Hint, InnerNode, Node, SyntaxNode, Warning};
 use std::ops::Range;
 use thiserror::Error;
@@ -95,13 +95,13 @@ impl InnerNode {
         ensures len { self.new.len ≡ self.old.len }
         ensures upper { self.new.upper ≡ span.low }
         ensures children { self.new.children.items ≡ mapped_trees mapper.now id at self.old.children.items }
-        ensures warnings { shown_warnings self.new.warnings
-            ≡ mapped_warnings mapper.now (interval at (at + length (text_of_all self.old.children.items))) self.old.warnings }
+        ensures warnings { shown_warnings self.new.extras.warnings
+            ≡ mapped_warnings mapper.now (interval at (at + length (text_of_all self.old.children.items))) self.old.extras.warnings }
     {
         // Read for the proof: the mapper's length is a usize, so no offset below it overflows.
         let _total = mapper.total_len();
         self.upper = span.number();
-        self.warnings.map_parts(mapper, at, at + self.len);
+        self.extras.map_parts(mapper, at, at + self.len);
         let mut at = at;
         for child in self.children.iter_mut() {
             let end = at + child.len();
@@ -123,15 +123,16 @@ fn map_parts(warnings: &mut Vec<Warning>, mapper: &RangeMapper, at: usize, end: 
     }
 }
 
-impl Warnings {
+impl Extras {
     /// Maps the sub-ranges of the warnings and their hints.
     fn map_parts(&mut self, mapper: &RangeMapper, at: usize, end: usize)
         requires ordered { at ≤ end }
         requires inside { end ≤ length mapper.now.positions }
-        ensures { shown_warnings self.new ≡ mapped_warnings mapper.now (interval at end) self.old }
+        ensures ends { self.new.ends ≡ self.old.ends }
+        ensures warnings { shown_warnings self.new.warnings ≡ mapped_warnings mapper.now (interval at end) self.old.warnings }
     {
-        if let Some(list) = &mut self.listed {
-            map_parts(list, mapper, at, end);
+        if let Some(lists) = &mut self.lists {
+            map_parts(&mut lists.warnings, mapper, at, end);
         }
     }
 }

@@ -117,7 +117,7 @@ impl InnerNode {
         ensures measured { IsMeasured self.new }
         ensures len { self.new.len ≡ self.old.len }
         ensures upper { self.new.upper ≡ end }
-        ensures warnings { self.new.warnings ≡ self.old.warnings }
+        ensures warnings { self.new.extras.warnings ≡ self.old.extras.warnings }
         ensures plain { map plain self.new.children.items ≡ map plain self.old.children.items }
         ensures within { IsWithin id (start + stride) (start + stride * self.old.descendants)
             (forest self.new.children.items) }

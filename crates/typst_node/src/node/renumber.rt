@@ -22,7 +22,7 @@ impl InnerNode {
         requires high { start + stride * count_of_all (slice_range self.old.children.items from to) ≤ 2 ^ 47 }
         ensures measured { IsMeasured self.new }
         ensures upper { self.new.upper ≡ self.old.upper }
-        ensures warnings { self.new.warnings ≡ self.old.warnings }
+        ensures warnings { self.new.extras.warnings ≡ self.old.extras.warnings }
         ensures before { take from self.new.children.items ≡ take from self.old.children.items }
         ensures behind { drop to self.new.children.items ≡ drop to self.old.children.items }
         ensures plain { map plain self.new.children.items ≡ map plain self.old.children.items }

@@ -105,7 +105,7 @@ impl InnerNode {
         requires { IsMeasured self.old }
         ensures measured { IsMeasured self.new }
         ensures upper { self.new.upper ≡ self.old.upper }
-        ensures warnings { self.new.warnings ≡ self.old.warnings }
+        ensures warnings { self.new.extras.warnings ≡ self.old.extras.warnings }
         ensures children { self.new.children.items ≡ self.old.children.items }
         ensures room { OnOk result (length self.new.children.items + more ≤ vec_capacity self.new.children) }
         ensures succeeds { more ≡ 0 → IsOk result }
@@ -127,7 +127,7 @@ impl InnerNode {
         requires change { IsChange from to self.old.children.items others.items change.now }
         ensures measured { IsMeasured self.new }
         ensures upper { self.new.upper ≡ self.old.upper }
-        ensures warnings { self.new.warnings ≡ self.old.warnings }
+        ensures warnings { self.new.extras.warnings ≡ self.old.extras.warnings }
         ensures ok { OnOk result (self.new.children.items ≡ splice self.old.children.items from to others.items) }
         ensures err { OnErr result (self.new.children.items ≡ self.old.children.items) }
         ensures succeeds { length others.items ≤ to - from → IsOk result }
@@ -136,7 +136,8 @@ impl InnerNode {
         let stay = many == to - from;
         self.make_room(many.saturating_sub(to - from))?;
         let alloc = *self.children.allocator();
-        self.ends.make_place(alloc, &self.children, from, to, many)?;
+        self.extras
+            .make_place(alloc, &self.children, from, to, many)?;
         exchange(&mut self.children, from, to, others)?;
         self.settle(from, from + many, stay, &change.gone, &change.added);
         Ok(())

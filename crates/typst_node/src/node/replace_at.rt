@@ -109,7 +109,7 @@ impl InnerNode {
             FitsAt path.now errand.old child → SumsFit (set self.old.children.items index (edited_by path.now errand.old child)) }
         ensures measured { IsMeasured self.new }
         ensures upper { self.new.upper ≡ self.old.upper }
-        ensures warnings { self.new.warnings ≡ self.old.warnings }
+        ensures warnings { self.new.extras.warnings ≡ self.old.extras.warnings }
         ensures fits { IsTrue errand.new.fits ↔ FitsAt path.now errand.old (child_of self.old.children.items index) }
         ensures misfit { errand.new.fits ≡ false → self.new.children.items ≡ self.old.children.items }
         ensures err { OnErr errand.new.answer (self.new.children.items ≡ self.old.children.items) }

@@ -75,7 +75,7 @@ impl InnerNode {
         requires fits { SumsFit self.old.children.items }
         ensures measured { IsMeasured self.new }
         ensures upper { self.new.upper ≡ self.old.upper }
-        ensures warnings { self.new.warnings ≡ self.old.warnings }
+        ensures warnings { self.new.extras.warnings ≡ self.old.extras.warnings }
         ensures children { self.new.children ≡ self.old.children }
     {
         self.len = self.len - gone.len + added.len;
@@ -88,7 +88,7 @@ impl InnerNode {
             gone.diagnosis,
             added.diagnosis,
         );
-        self.ends
-            .settle(&self.children, from, to, stay, gone.len, added.len);
+        self.extras
+            .settle_ends(&self.children, from, to, stay, gone.len, added.len);
     }
 }

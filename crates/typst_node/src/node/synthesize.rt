@@ -3,7 +3,7 @@ ghost use Rattle.std.specs.Prelude.{◌≡◌, map};
 ghost use Rattle.typst_node.specs.Synthesized.{synthesized, whole_hint, whole_warning};
 ghost use Rattle.typst_node.specs.View.{hint_text, IsMeasured, shown_warnings, warning_text};
 
-use crate::node::warnings::Warnings;
+use crate::node::extras::Extras;
 use crate::node::{Hint, InnerNode, Node, SyntaxNode, Warning};
 use typst_base::Span;
 
@@ -43,11 +43,11 @@ impl InnerNode {
         ensures measured { IsMeasured self.new }
         ensures len { self.new.len ≡ self.old.len }
         ensures upper { self.new.upper ≡ span.low }
-        ensures warnings { shown_warnings self.new.warnings ≡ map whole_warning (shown_warnings self.old.warnings) }
+        ensures warnings { shown_warnings self.new.extras.warnings ≡ map whole_warning (shown_warnings self.old.extras.warnings) }
         ensures children { self.new.children.items ≡ map (synthesized span) self.old.children.items }
     {
         self.upper = span.number();
-        self.warnings.make_whole();
+        self.extras.make_whole();
         for child in self.children.iter_mut() {
             child.synthesize(span);
         }
@@ -72,13 +72,14 @@ pub(super) fn make_hints_whole(hints: &mut Vec<Hint>)
     }
 }
 
-impl Warnings {
+impl Extras {
     /// Takes the sub-ranges of the warnings and their hints away.
     fn make_whole(&mut self)
-        ensures { shown_warnings self.new ≡ map whole_warning (shown_warnings self.old) }
+        ensures ends { self.new.ends ≡ self.old.ends }
+        ensures warnings { shown_warnings self.new.warnings ≡ map whole_warning (shown_warnings self.old.warnings) }
     {
-        if let Some(list) = &mut self.listed {
-            make_whole(list);
+        if let Some(lists) = &mut self.lists {
+            make_whole(&mut lists.warnings);
         }
     }
 }

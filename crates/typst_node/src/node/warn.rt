@@ -4,7 +4,7 @@ ghost use Rattle.typst_node.specs.Hints.{error_tree, hint_for, hint_outermost, h
 ghost use Rattle.typst_node.specs.Warnings.{part_for, warned, warning, FitsRange};
 ghost use Rattle.typst_node.specs.View.{below, content, hint_text, shown_warnings, warning_text, warnings_in, IsKept};
 
-use crate::node::warnings::{Warnings, only};
+use crate::node::extras::Extras;
 use crate::node::{ErrorNode, Hint, LeafNode, Node, SyntaxNode, Warning};
 use crate::short_text::text_in;
 use std::alloc::{AllocError, Global};
@@ -218,7 +218,7 @@ impl Node {
                 Ok(())
             }
             Node::Leaf(_, leaf) => warn_last(&mut leaf.warnings, warning),
-            Node::Inner(_, _, inner) => inner.warnings.push(alloc, warning),
+            Node::Inner(_, _, inner) => inner.extras.push_warning(alloc, warning),
             Node::Error(error) => warn_last(&mut error.warnings, warning),
         }
     }
@@ -238,7 +238,7 @@ impl Node {
         match self {
             Node::Short(..) | Node::Long(..) => unreachable!(),
             Node::Leaf(_, leaf) => hint_last(&mut leaf.warnings, hint),
-            Node::Inner(_, _, inner) => inner.warnings.hint_last(hint),
+            Node::Inner(_, _, inner) => inner.extras.hint_last(hint),
             Node::Error(error) => hint_last(&mut error.warnings, hint),
         }
     }
@@ -269,6 +269,15 @@ impl ErrorNode {
     }
 }
 
+/// A list of one warning.
+pub(super) fn only(alloc: Global, warning: Warning) -> Result<Vec<Warning>, AllocError>
+    ensures { IfOk result (λ v. v.items ≡ warning ∷ []) }
+{
+    let mut list = Vec::with_capacity(alloc, 1)?;
+    list.push(warning)?;
+    Ok(list)
+}
+
 /// Adds a warning after the others, outside them.
 fn warn_last(warnings: &mut Vec<Warning>, warning: Warning) -> Result<(), AllocError>
     ensures ok { OnOk result (shown_warnings warnings.new.items
@@ -291,16 +300,17 @@ fn hint_last(warnings: &mut Vec<Warning>, hint: Hint) -> Result<(), AllocError>
     Ok(())
 }
 
-impl Warnings {
+impl Extras {
     /// Adds a hint after those of the last warning, which is the outermost one.
     fn hint_last(&mut self, hint: Hint) -> Result<(), AllocError>
-        requires { 0 < length self.old }
-        ensures ok { OnOk result (shown_warnings self.new
-            ≡ hint_outermost (hint_text hint ∷ []) (shown_warnings self.old)) }
-        ensures err { OnErr result (shown_warnings self.new ≡ shown_warnings self.old) }
+        requires { 0 < length self.old.warnings }
+        ensures ends { self.new.ends ≡ self.old.ends }
+        ensures ok { OnOk result (shown_warnings self.new.warnings
+            ≡ hint_outermost (hint_text hint ∷ []) (shown_warnings self.old.warnings)) }
+        ensures err { OnErr result (shown_warnings self.new.warnings ≡ shown_warnings self.old.warnings) }
     {
-        match &mut self.listed {
-            Some(list) => hint_last(list, hint),
+        match &mut self.lists {
+            Some(lists) => hint_last(&mut lists.warnings, hint),
             None => unreachable!(),
         }
     }

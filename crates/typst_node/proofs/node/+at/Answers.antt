@@ -47,7 +47,7 @@ InnerNode::replace_in-settle-requires-clause-stale t c =
     let one : c.index.result.now ∷ [] ≡ slice_range items i (i + 1) = ap (λ x. x ∷ []) c.index.ensures ∙ slice_one items i c.index.result.now c.requires.index in
     put_stale c.args.self.now _ (child ∷ []) i (i + 1) c.sums_of_one-gone.result (omega arith) (omega (arith, c.requires.index)) c.requires.measured
     (subst (λ (ts : List Tree). AreSums c.sums_of_one-gone.result ts) one c.sums_of_one-gone.ensures) (set_splice items i child c.requires.index) refl refl refl
-    (place_for_one c.args.self.now.ends items i c.requires.index c.requires.measured.ends) true (λ _. omega arith)
+    (place_for_one c.args.self.now.extras.ends items i c.requires.index c.requires.measured.ends) true (λ _. omega arith)
 
 pub InnerNode::replace_in-settle-requires-clause-added : goal.InnerNode::replace_in-settle-requires-clause-added
 InnerNode::replace_in-settle-requires-clause-added t c =
@@ -99,7 +99,7 @@ SyntaxNode::replace_below-replace_in-requires t c =
 pub SyntaxNode::replace_below-returns-else-index-len-clause-frame : goal.SyntaxNode::replace_below-returns-else-index-len-clause-frame
 SyntaxNode::replace_below-returns-else-index-len-clause-frame t c =
     let kids : trees c.args.self.now.children ≡ c.deref_mut.result.now.children.items = inner_kids c.self.inside _ _ c.in-Inner.inner c.args.self.now c.in-Inner.is c.self.view_is ∙ sym (ap (λ b. b.children.items) c.deref_mut.ensures.value) in
-    let same = inner_label c.self.inside _ _ c.in-Inner.inner c.args.self.now c.in-Inner.is c.self.view_is c.replace_in.new.self (c.replace_in.ensures.upper ∙ ap (λ b. b.upper) c.deref_mut.ensures.value) (c.replace_in.ensures.warnings ∙ ap (λ b. b.warnings) c.deref_mut.ensures.value) in
+    let same = inner_label c.self.inside _ _ c.in-Inner.inner c.args.self.now c.in-Inner.is c.self.view_is c.replace_in.new.self (c.replace_in.ensures.upper ∙ ap (λ b. b.upper) c.deref_mut.ensures.value) (c.replace_in.ensures.warnings ∙ ap (λ b. b.extras.warnings) c.deref_mut.ensures.value) in
     frame_cons c.args.path.now c.in-Some.index.now c.in-Some.rest.now c.args.self.now (tree_of record { node = Inner _ c.in-Inner.len (with_value c.in-Inner.inner c.replace_in.new.self); span = c.self.inside.span })
     c.deref_mut.result.now.children.items c.replace_in.new.self.children.items c.in-Some.ensures.cases.0 kids same refl
     (c.replace_in.ensures.one ∙ ap (set c.deref_mut.result.now.children.items c.in-Some.index.now) c.replace_in.ensures.frame)

@@ -44,7 +44,7 @@ InnerNode::map_places_below-loop-child-preserved t c =
 pub InnerNode::map_places_below-returns-clause-measured : goal.InnerNode::map_places_below-returns-clause-measured
 InnerNode::map_places_below-returns-clause-measured t c =
     measured_by_relabelled bare bare_keeps c.loop-child.child-items c.args.self.now.children.items (c.loop-child.invariant.same ∙ ap (map (relabelled bare)) c.deref_mut-child-items.ensures.value)
-    c.args.self.now _ refl (with_items_is c.args.self.now.children c.loop-child.child-items (omega arith)) refl refl refl refl c.requires.measured
+    c.args.self.now _ refl (with_items_is c.args.self.now.children c.loop-child.child-items (omega arith)) refl refl refl c.map_parts.ensures.ends c.requires.measured
 
 pub InnerNode::map_places_below-returns-clause-children : goal.InnerNode::map_places_below-returns-clause-children
 InnerNode::map_places_below-returns-clause-children t c =
@@ -58,5 +58,5 @@ SyntaxNode::map_places-returns-in-Inner t c =
     mapped_inner c.args.mapper.now c.args.id c.args.at c.from_range-span.result c.self.inside _ _ c.in-Inner.inner c.args.self.now c.map_places_below.new.self _ c.in-Inner.is c.self.view_is
     (c.from_range-span.ensures.is ∙ ap (λ r. ranged c.args.id r.start r.end) (c.map.ensures ∙ ap (λ n. mapped c.args.mapper.now (interval c.args.at (c.args.at + n))) size))
     c.map_places_below.ensures.upper
-    (c.map_places_below.ensures.warnings ∙ ap (λ x. map (mapped_warning c.args.mapper.now (interval c.args.at (c.args.at + length (text_of_all x.children.items)))) (shown_warnings x.warnings)) c.deref_mut-in-Inner.ensures.value)
+    (c.map_places_below.ensures.warnings ∙ ap (λ x. map (mapped_warning c.args.mapper.now (interval c.args.at (c.args.at + length (text_of_all x.children.items)))) (shown_warnings x.extras.warnings)) c.deref_mut-in-Inner.ensures.value)
     (c.map_places_below.ensures.children ∙ ap (λ x. mapped_trees c.args.mapper.now c.args.id c.args.at x.children.items) c.deref_mut-in-Inner.ensures.value)

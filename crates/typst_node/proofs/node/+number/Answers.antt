@@ -34,7 +34,7 @@ SyntaxNode::number_within-returns-in-Inner-clause-within t c =
 pub SyntaxNode::number_within-returns-in-Inner-clause-plain : goal.SyntaxNode::number_within-returns-in-Inner-clause-plain
 SyntaxNode::number_within-returns-in-Inner-clause-plain t c =
     same_plain_inner c.self.inside _ _ c.in-Inner.inner c.args.self.now c.number_below.new.self c.from_number-self-inside.result c.in-Inner.is c.self.view_is
-    (c.number_below.ensures.warnings ∙ ap (λ x. x.warnings) c.deref_mut.ensures.value)
+    (c.number_below.ensures.warnings ∙ ap (λ x. x.extras.warnings) c.deref_mut.ensures.value)
     (c.number_below.ensures.plain ∙ ap (λ x. map plain x.children.items) c.deref_mut.ensures.value)
 
 pub number::number_all-number_within-requires : goal.number::number_all-number_within-requires

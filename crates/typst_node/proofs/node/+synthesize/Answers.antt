@@ -29,7 +29,7 @@ InnerNode::synthesize_below-loop-child-preserved t c = record {
 pub InnerNode::synthesize_below-returns-clause-measured : goal.InnerNode::synthesize_below-returns-clause-measured
 InnerNode::synthesize_below-returns-clause-measured t c =
     measured_by_relabelled bare bare_keeps c.loop-child.child-items c.args.self.now.children.items (c.loop-child.invariant.same ∙ ap (map (relabelled bare)) c.deref_mut-child-items.ensures.value)
-    c.args.self.now _ refl (with_items_is c.args.self.now.children c.loop-child.child-items (omega arith)) refl refl refl refl c.requires
+    c.args.self.now _ refl (with_items_is c.args.self.now.children c.loop-child.child-items (omega arith)) refl refl refl c.make_whole.ensures.ends c.requires
 
 pub InnerNode::synthesize_below-returns-clause-children : goal.InnerNode::synthesize_below-returns-clause-children
 InnerNode::synthesize_below-returns-clause-children t c =
@@ -40,5 +40,5 @@ InnerNode::synthesize_below-returns-clause-children t c =
 pub SyntaxNode::synthesize-returns-in-Inner : goal.SyntaxNode::synthesize-returns-in-Inner
 SyntaxNode::synthesize-returns-in-Inner t c =
     synthesized_inner c.args.span c.self.inside _ _ c.in-Inner.inner c.args.self.now c.synthesize_below.new.self _ c.in-Inner.is c.self.view_is
-    c.synthesize_below.ensures.upper (c.synthesize_below.ensures.warnings ∙ ap (λ x. map whole_warning (shown_warnings x.warnings)) c.deref_mut-in-Inner.ensures.value)
+    c.synthesize_below.ensures.upper (c.synthesize_below.ensures.warnings ∙ ap (λ x. map whole_warning (shown_warnings x.extras.warnings)) c.deref_mut-in-Inner.ensures.value)
     (c.synthesize_below.ensures.children ∙ ap (λ x. map (synthesized c.args.span) x.children.items) c.deref_mut-in-Inner.ensures.value)

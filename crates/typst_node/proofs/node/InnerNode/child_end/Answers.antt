@@ -10,8 +10,8 @@ use Rattle.typst_node.proofs.node.InnerNode.child_end.Goals as goal
 same_part : (ts us : List Tree) (first end : ℕ) → ts ≡ us → length (text_of_all (slice_range ts first end)) ≡ length (text_of_all (slice_range us first end))
 same_part ts us first end same = ap (λ vs. length (text_of_all (slice_range vs first end))) same
 
-pub get-requires : goal.get-requires
-get-requires c = within_ends c.args.self.now.ends c.args.self.now.children.items c.args.index c.requires.index c.requires.measured.ends
+pub end-requires : goal.end-requires
+end-requires c = within_ends c.args.self.now.extras.ends c.args.self.now.children.items c.args.index c.requires.index c.requires.measured.ends
 
 pub joined_len-requires : goal.joined_len-requires
 joined_len-requires c =
@@ -23,8 +23,8 @@ pub returns-in-Some : goal.returns-in-Some
 returns-in-Some c =
     let items = c.args.self.now.children.items in
     let low : c.in-Some.end ≡ length (text_of_all (take (c.args.index + 1) items)) % 2 ^ 32 =
-    kept_end_is c.args.self.now.ends items c.args.index c.in-Some.end c.requires.index c.requires.measured.ends
-    (subst (λ r. MatchOption c.args.self.now.ends (r ≡ None) (λ ends. r ≡ Some (slice_index ends c.args.index))) c.in-Some.is c.get.ensures) in
+    kept_end_is c.args.self.now.extras.ends items c.args.index c.in-Some.end c.requires.index c.requires.measured.ends
+    (subst (λ r. MatchOption c.args.self.now.extras.ends (r ≡ None) (λ ends. r ≡ Some (slice_index ends c.args.index))) c.in-Some.is c.end.ensures) in
     omega (arith, low, text_front items (c.args.index + 1), c.requires.measured.len, c.if-len-lt-LIMIT.true)
 
 -- the text of a beginning and that of the rest, read from another list that is the same

@@ -17,5 +17,5 @@ returns-clause-measured c =
       descendants = omega (arith, counts, c.requires.stale.descendants, c.requires.added.descendants);
       errors = c.diagnosis_after-self.ensures.errors ∙ ap (λ ts. list_any is_error (preorder (forest ts))) c.deref.ensures.value;
       warnings = c.diagnosis_after-self.ensures.warnings ∙ ap (λ ts. list_any is_warned (preorder (forest ts))) c.deref.ensures.value;
-      ends = subst (AreEnds c.settle.new.self) c.deref-2.ensures.value c.settle.ensures;
+      ends = subst (AreEnds c.settle_ends.new.self.ends) c.deref-2.ensures.value c.settle_ends.ensures.ends;
     }

@@ -52,7 +52,7 @@ returns-in-Inner-clause-at c =
     let range = c.requires.range inner in
     let alike : map plain (all_at s) ≡ map plain (spliced a b ys t) = trimmed_plain (trees t.children) ys a b range.0 range.1 in
     let label = inner_label c.self.inside _ _ c.in-Inner.inner t c.in-Inner.is c.self.view_is new
-    (e.upper ∙ ap (λ b. b.upper) c.deref_mut.ensures.value) (e.warnings ∙ ap (λ b. b.warnings) c.deref_mut.ensures.value) in
+    (e.upper ∙ ap (λ b. b.upper) c.deref_mut.ensures.value) (e.warnings ∙ ap (λ b. b.extras.warnings) c.deref_mut.ensures.value) in
     record {
       unnumberable = (
         λ h.
@@ -74,7 +74,7 @@ returns-in-Inner-clause-at c =
       label = label;
       plain = IfOk-weaker result _ _
           (λ r h. inner_edited c.self.inside _ _ c.in-Inner.inner t c.in-Inner.is c.self.view_is new a b ys
-          (e.upper ∙ ap (λ b. b.upper) c.deref_mut.ensures.value) (e.warnings ∙ ap (λ b. b.warnings) c.deref_mut.ensures.value)
+          (e.upper ∙ ap (λ b. b.upper) c.deref_mut.ensures.value) (e.warnings ∙ ap (λ b. b.extras.warnings) c.deref_mut.ensures.value)
           (h ∙ alike ∙ ap (λ ts. map plain (splice ts a b ys)) items)) e.plain;
       numbered = IfOk-weaker result _ _
           (λ r h. numbered_after c.id-id.result t (tree_of record { node = Inner _ c.in-Inner.len (with_value c.in-Inner.inner new); span = c.self.inside.span }) (number t.label) (bound t.label)
