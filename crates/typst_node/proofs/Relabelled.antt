@@ -83,10 +83,9 @@ module _ (change : Label → Label) (keeps : KeepsMeasures change) where
     same_ends at = sym (ends_relabelled at ts) ∙ ap (ends_from at) same ∙ ends_relabelled at us
 
     -- an inner node whose children change in their labels
-    pub measured_by_relabelled : (old new : InnerNode) → old.children.items ≡ us → new.children.items ≡ ts → new.len ≡ old.len → new.descendants ≡ old.descendants → new.diagnosis ≡ old.diagnosis → new.extras.ends ≡ old.extras.ends
+    pub measured_by_relabelled : (old new : InnerNode) → old.children.items ≡ us → new.children.items ≡ ts → new.descendants ≡ old.descendants → new.extras.diagnosis ≡ old.extras.diagnosis → new.extras.ends ≡ old.extras.ends
         → IsMeasured old → IsMeasured new
-    measured_by_relabelled old new were are len descendants diagnosis ends m = record {
-      len = len ∙ m.len ∙ ap (λ vs. length (text_of_all vs)) were ∙ ap length (sym same_text) ∙ ap (λ vs. length (text_of_all vs)) (sym are);
+    measured_by_relabelled old new were are descendants diagnosis ends m = record {
       descendants = descendants ∙ m.descendants ∙ ap (λ vs. suc (count_of_all vs)) were ∙ ap suc (sym same_count) ∙ ap (λ vs. suc (count_of_all vs)) (sym are);
       errors = ap (λ d. d.errors) diagnosis ∙ m.errors ∙ ap (λ vs. list_any is_error (preorder (forest vs))) were ∙ sym same_errors ∙ ap (λ vs. list_any is_error (preorder (forest vs))) (sym are);
       warnings = ap (λ d. d.warnings) diagnosis ∙ m.warnings ∙ ap (λ vs. list_any is_warned (preorder (forest vs))) were ∙ sym same_warnings ∙ ap (λ vs. list_any is_warned (preorder (forest vs))) (sym are);

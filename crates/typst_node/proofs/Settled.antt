@@ -1,5 +1,5 @@
 -- Sums, diagnoses and ends after a part of a child list was exchanged.
-use Rattle.std.proofs.Common.{◌≡◌, ◌%◌, ℕ, suc, zero, ◌+◌, ◌-◌, ◌<◌, ◌≤◌, ◌^◌, Bool, true, false, ◌||◌, List, [], ◌∷◌, ◌++◌, length, map, take, drop, refl, sym, ap, ◌∙◌, arith, append_assoc, length-append, length-take, length-drop, get_or, set, drop-cons}
+use Rattle.std.proofs.Common.{◌≡◌, ◌%◌, ℕ, suc, zero, ◌+◌, ◌-◌, ◌<◌, ◌≤◌, ◌^◌, Bool, true, false, ◌||◌, List, [], ◌∷◌, ◌++◌, length, map, take, drop, refl, sym, ap, ◌∙◌, arith, append_assoc, length-append, length-take, length-drop, get_or, get_or-set_same, set, drop-cons}
 use Rattle.std.proofs.lemmas.List.{take-append-drop, take_more, take_more_set, take_at, drop_at, take-set, drop-set}
 use Rattle.std.proofs.Math.Seq.{take-add}
 use Rattle.std.proofs.lemmas.List.Folds.{list_any-append, drop_split}
@@ -12,7 +12,7 @@ use Rattle.std.specs.Prelude.{Option, Some, None}
 use Rattle.typst_node.specs.Ends.{moved}
 use Rattle.typst_node.specs.ChildEnds.{ends_from, AreEnds, HavePlace, AreStale}
 use Rattle.typst_node.proofs.Trees.{length-text_of_all-cons, child_end_is, length_of_ends}
-use Rattle.typst_node.proofs.Opens.{length_text_append, splice_text, splice_count}
+use Rattle.typst_node.proofs.Opens.{length_text_append, part_text, splice_text, splice_count}
 use Rattle.typst_node.specs.Count.{count_of_all}
 use Rattle.typst_node.specs.Diagnosis.{is_error, is_warned}
 use Rattle.typst_node.specs.View.{IsMeasured}
@@ -181,6 +181,12 @@ module _ {X : Type 0} (xs ys : List X) (from to : ℕ) (order : from ≤ to) (in
   pub length_splice : length (splice xs from to ys) + (to - from) ≡ length xs + length ys
   length_splice = omega (arith, length-append (take from xs) (ys ++ drop to xs), length-append ys (drop to xs), length-take from xs, length-drop to xs)
 
+-- the length of the text after some children took the place of others
+pub len_after : (xs ys : List Tree) (from to len gone added : ℕ) → from ≤ to → len ≡ length (text_of_all xs) → gone ≡ length (text_of_all (slice_range xs from to)) → added ≡ length (text_of_all ys)
+    → (gone ≤ len) × (len - gone + added ≡ length (text_of_all (splice xs from to ys)))
+len_after xs ys from to len gone added order is is_gone is_added =
+    (omega (arith, part_text xs from to order), omega (arith, part_text xs from to order, splice_text xs ys from to order))
+
 -- one item
 pub set_splice : {X : Type 0} (xs : List X) (i : ℕ) (y : X) → i < length xs → set xs i y ≡ splice xs i (i + 1) (y ∷ [])
 set_splice xs i y h = sym (take-append-drop i (set xs i y)) ∙ (λ j. take-set xs i y j ++ drop-set xs i y h j)
@@ -189,6 +195,16 @@ pub slice_one : {X : Type 0} (xs : List X) (i : ℕ) (d : X) → i < length xs �
 slice_one xs i d h =
     let many : i + 1 - i ≡ 1 = omega arith in
     sym ((λ j. take (many j) (drop-cons xs i d h j)))
+
+-- the length of the text after one child took the place of another
+pub len_after_one : (xs : List Tree) (i len gone added : ℕ) (was there child : Tree) → i < length xs → len ≡ length (text_of_all xs)
+    → gone ≡ length (text_of_all (was ∷ [])) → was ≡ get_or xs i was → added ≡ length (text_of_all (there ∷ [])) → there ≡ get_or (set xs i child) i there
+    → (gone ≤ len) × (len - gone + added ≡ length (text_of_all (set xs i child)))
+len_after_one xs i len gone added was there child h is is_gone is_was is_added is_there =
+    let old : gone ≡ length (text_of_all (slice_range xs i (i + 1))) = is_gone ∙ ap (λ ts. length (text_of_all ts)) (ap (λ x. x ∷ []) is_was ∙ slice_one xs i was h) in
+    let new : added ≡ length (text_of_all (child ∷ [])) = is_added ∙ ap (λ x. length (text_of_all (x ∷ []))) (is_there ∙ get_or-set_same xs i child there h) in
+    let after = len_after xs (child ∷ []) i (i + 1) len gone added (omega arith) is old new in
+    (after.0, after.1 ∙ ap (λ ts. length (text_of_all ts)) (sym (set_splice xs i child h)))
 
 -- where one child comes in the place of another, the ends have place for its own
 pub place_for_one : (kept : Option (List ℕ)) (ts : List Tree) (i : ℕ) → i < length ts → AreEnds kept ts → HavePlace i (i + 1) 1 kept ts
@@ -203,7 +219,7 @@ place_for_one (Some ends) ts i h same = record {
 -- an inner node whose children were exchanged, and whose list of ends has place for theirs
 module _ (old new : InnerNode) (ys : List Tree) (from to : ℕ) (gone : Sums) (order : from ≤ to) (inside : to ≤ length old.children.items) (measured : IsMeasured old)
     (is_gone : AreSums gone (slice_range old.children.items from to)) (children : new.children.items ≡ splice old.children.items from to ys)
-    (len : new.len ≡ old.len) (descendants : new.descendants ≡ old.descendants) (diagnosis : new.diagnosis ≡ old.diagnosis)
+    (descendants : new.descendants ≡ old.descendants) (diagnosis : new.extras.diagnosis ≡ old.extras.diagnosis)
     (places : HavePlace from to (length ys) new.extras.ends old.children.items) (stay : Bool) (stays : IsTrue stay → length ys ≡ to - from) where
   front : take from new.children.items ≡ take from old.children.items
   front = ap (take from) children ∙ splice_front old.children.items ys from to order inside
@@ -254,16 +270,12 @@ module _ (old new : InnerNode) (ys : List Tree) (from to : ℕ) (gone : Sums) (o
 
   pub put_stale : IsStale from (from + length ys) stay gone new
   put_stale =
-      let texts = splice_text old.children.items ys from to order in
       let counts = splice_count old.children.items ys from to order in
-      let text_in : length (text_of_all (slice_range new.children.items from (from + length ys))) ≡ length (text_of_all ys) = ap (λ ts. length (text_of_all ts)) middle in
       let count_in : count_of_all (slice_range new.children.items from (from + length ys)) ≡ count_of_all ys = ap count_of_all middle in
-      let text_new : length (text_of_all new.children.items) ≡ length (text_of_all (splice old.children.items from to ys)) = ap (λ ts. length (text_of_all ts)) children in
       let count_new : count_of_all new.children.items ≡ count_of_all (splice old.children.items from to ys) = ap count_of_all children in
       record {
-        len = omega (arith, texts, text_in, text_new, len, measured.len, is_gone.len);
         descendants = omega (arith, counts, count_in, count_new, descendants, measured.descendants, is_gone.descendants);
-        errors = stale_any is_error new.diagnosis.errors gone.diagnosis.errors (ap (λ d. d.errors) diagnosis ∙ measured.errors) is_gone.errors;
-        warnings = stale_any is_warned new.diagnosis.warnings gone.diagnosis.warnings (ap (λ d. d.warnings) diagnosis ∙ measured.warnings) is_gone.warnings;
+        errors = stale_any is_error new.extras.diagnosis.errors gone.diagnosis.errors (ap (λ d. d.errors) diagnosis ∙ measured.errors) is_gone.errors;
+        warnings = stale_any is_warned new.extras.diagnosis.warnings gone.diagnosis.warnings (ap (λ d. d.warnings) diagnosis ∙ measured.warnings) is_gone.warnings;
         ends = stale_ends new.extras.ends places;
       }

@@ -1,6 +1,7 @@
 -- Working forms of a replacement: what its recursion asks for, and what it makes of the children and of their node.
 use Rattle.std.specs.Prelude.{ℕ, ◌≡◌, ◌-◌, ◌≤◌, ◌⊎◌, ◌↔◌, List, ◌++◌, length, map, get_or, Option, None, MatchOption, Result, IsErrOf, IfOk, OnOk, OnErr}
 use Rattle.typst_node.specs.Tree.{Tree, forest, trees}
+use Rattle.typst_node.specs.Text.{text_of_all}
 use Rattle.typst_node.specs.Count.{SumsFit}
 use Rattle.typst_node.specs.Plain.{plain}
 use Rattle.typst_node.specs.Numbered.{IsNumbered, IsNumberedFor}
@@ -34,8 +35,9 @@ child_of ts index = get_or ts index no_tree
 abbrev pub all_at : Site → List Tree
 all_at s = s.before ++ (s.changed ++ s.behind)
 
--- what a replacement makes of an inner node's children, where the node has this file id, if it has one
-pub record AreReplaced (s : Site) (id : Option ℕ) (old new : InnerNode) (result : Result Renumbered ReplaceError) : Type 0 where
+-- what a replacement makes of an inner node's children and of the length that it keeps, where the node has this file id, if it has one
+pub record AreReplaced (s : Site) (id : Option ℕ) (old new : InnerNode) (kept : ℕ) (result : Result Renumbered ReplaceError) : Type 0 where
+  pub len : kept ≡ length (text_of_all new.children.items)
   pub measured : IsMeasured new
   pub upper : new.upper ≡ old.upper
   pub warnings : new.extras.warnings ≡ old.extras.warnings

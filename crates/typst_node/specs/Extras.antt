@@ -1,15 +1,17 @@
--- What most inner nodes lack: the ends of many children, and warnings.
-use Rattle.std.specs.Prelude.{ℕ, List, [], Option, Some, None, Box}
-use Rattle.std.specs.Global.{Global}
+-- What an inner node keeps besides its children, their number and its bound.
+use Rattle.std.specs.Prelude.{ℕ, List, [], Option, None}
+use Rattle.typst_node.specs.declared.diagnosis.Diagnosis.{Diagnosis}
 use Rattle.typst_node.specs.declared.node.Warning.{Warning}
-use Rattle.typst_node.specs.declared.node.extras.Lists.{Lists}
+use Rattle.typst_node.specs.declared.node.extras.Kept.{Kept}
+use Rattle.typst_node.specs.declared.node.extras.Kept.TheVariants.{Plain, Listed}
 
--- where the texts of the children end, if that is kept, and the warnings from the innermost to the outermost
-pub record EndsAndWarnings : Type 0 where
+-- the diagnosis of the children, where their texts end, if that is kept, and the warnings from the innermost to the outermost
+pub record ExtraParts : Type 0 where
+  pub diagnosis : Diagnosis
   pub ends : Option (List ℕ)
   pub warnings : List Warning
 
 -- both lists, where there need not be one
-abbrev pub extras_seen : Option (Box Lists Global) → EndsAndWarnings
-extras_seen None = record { ends = None; warnings = [] }
-extras_seen (Some lists) = record { ends = lists.value.ends; warnings = lists.value.warnings.items }
+abbrev pub extras_seen : Kept → ExtraParts
+extras_seen (Plain diagnosis) = record { diagnosis = diagnosis; ends = None; warnings = [] }
+extras_seen (Listed diagnosis lists) = record { diagnosis = diagnosis; ends = lists.value.ends; warnings = lists.value.warnings.items }

@@ -54,12 +54,11 @@ tree_of a = record {
   children = forest (below a.node);
 }
 
--- what an inner node keeps is what its children measure
+-- what the box of an inner node keeps is what its children measure
 pub record IsMeasured (inner : InnerNode) : Type 0 where
-  pub len : inner.len ≡ length (text_of_all inner.children.items)
   pub descendants : inner.descendants ≡ suc (count_of_all inner.children.items)
-  pub errors : inner.diagnosis.errors ≡ list_any is_error (preorder (forest inner.children.items))
-  pub warnings : inner.diagnosis.warnings ≡ list_any is_warned (preorder (forest inner.children.items))
+  pub errors : inner.extras.diagnosis.errors ≡ list_any is_error (preorder (forest inner.children.items))
+  pub warnings : inner.extras.diagnosis.warnings ≡ list_any is_warned (preorder (forest inner.children.items))
   pub ends : AreEnds inner.extras.ends inner.children.items
 
 -- so many of the bytes are a text that fits a leaf itself
@@ -71,5 +70,5 @@ abbrev pub IsKept : Node → Type 0
 IsKept (Short kind len bytes) = (kind ≢ kinds.Error) × IsShort len bytes
 IsKept (Long kind b) = kind ≢ kinds.Error
 IsKept (Leaf kind b) = kind ≢ kinds.Error
-IsKept (Inner kind len b) = (kind ≢ kinds.Error) × ((len ≡ b.value.len) × IsMeasured b.value)
+IsKept (Inner kind len b) = (kind ≢ kinds.Error) × ((len ≡ length (text_of_all b.value.children.items)) × IsMeasured b.value)
 IsKept (Error b) = Unit {0}

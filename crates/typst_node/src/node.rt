@@ -60,24 +60,22 @@ enum Node {
     Long(SyntaxKind, Box<String>),
     // A leaf that got warnings. The kinds of leaves and inner nodes stand here, at one place, so that they are read without a box.
     Leaf(SyntaxKind, Box<LeafNode>),
-    // The length of the text in bytes stands here, too, so that it is read without the box.
+    // The length of the text in bytes stands here, so that it is read without the box.
     Inner(SyntaxKind, usize, Box<InnerNode>),
     Error(Box<ErrorNode>),
 }
 
-/// An inner node without its kind. The sums, the diagnosis and the ends are those of its children.
+/// An inner node without its kind and the length of its text. The number of nodes, the diagnosis and the ends are those of its
+/// children.
 #[cycle(node)]
 #[derive(Drop)]
 struct InnerNode {
-    diagnosis: Diagnosis,
-    // The length of the text in bytes.
-    len: usize,
     // The number of nodes, this one included.
     descendants: usize,
     // The bound: above every number of the subtree, once it is numbered.
     upper: u64,
     children: Vec<SyntaxNode>,
-    // Where the texts of the children end, unless they are few, and the warnings.
+    // The diagnosis, where the texts of the children end, unless they are few, and the warnings.
     extras: Extras,
 }
 
@@ -189,13 +187,13 @@ fn joined_len(nodes: &[SyntaxNode]) -> usize
 }
 
 impl InnerNode {
-    /// Where the text of a child ends: it is read where it is kept whole, and else counted from the nearer end of the list.
-    fn child_end(&self, index: usize) -> usize
+    /// Where the text of a child ends, where all are `len` bytes long: it is read where it is kept whole, and else counted from the nearer end of the list.
+    fn child_end(&self, len: usize, index: usize) -> usize
+        requires len { len ≡ length (text_of_all self.now.children.items) }
         requires measured { IsMeasured self.now }
         requires index { index < length self.now.children.items }
         ensures { result ≡ length (text_of_all (take (index + 1) self.now.children.items)) }
     {
-        let len = self.len;
         match self.extras.end(index) {
             Some(end) if len < LIMIT => end as usize,
             _ if index < self.children.len() - index => joined_len(&self.children[0..index + 1]),
@@ -383,7 +381,7 @@ impl SyntaxNode {
         ensures { result ≡ length (text_of_all (take (index + 1) (trees self.now.children))) }
     {
         match &self.node {
-            Node::Inner(_, _, inner) => inner.child_end(index),
+            Node::Inner(_, len, inner) => inner.child_end(*len, index),
             Node::Short(..) | Node::Long(..) | Node::Leaf(..) | Node::Error(_) => unreachable!(),
         }
     }

@@ -86,9 +86,7 @@ impl SyntaxNode {
     {
         let (sums, extras) = measured(alloc, &children)?;
         let inner = InnerNode {
-            len: sums.len,
             descendants: sums.descendants,
-            diagnosis: sums.diagnosis,
             upper: 0,
             children,
             extras,

@@ -1,10 +1,11 @@
-//! What most inner nodes lack: the ends of many children, and warnings.
+//! What an inner node keeps besides its children, their number and its bound.
 ghost use Rattle.std.specs.Prelude.{◌≡◌, ◌+◌, ◌-◌, ◌^◌, ◌<◌, ◌≤◌, ◌∷◌, ◌++◌, [], None, Some, length, map, slice_index, slice_range, IfOk, IfSome, IsOk, MatchOption, OnErr, OnOk};
 ghost use Rattle.typst_node.specs.Text.{text_of_all};
 ghost use Rattle.typst_node.specs.Count.{SumsFit};
 ghost use Rattle.typst_node.specs.ChildEnds.{AreEnds, HavePlace, AreStale};
 ghost use Rattle.typst_node.specs.View.{warning_text};
 
+use crate::diagnosis::Diagnosis;
 use crate::node::child_ends::{ChildEnds, FEW};
 use crate::node::copy::copy_warnings;
 use crate::node::warn::only;
@@ -12,14 +13,21 @@ use crate::node::{SyntaxNode, Warning};
 use std::alloc::{AllocError, Global};
 use std::marker::Model;
 
-/// Where the texts of an inner node's children end, unless they are few, and the warnings round it, from the innermost to
-/// the outermost. There is a box for both once there is one of them. In contracts it is these two lists.
+/// The diagnosis of an inner node's children, where their texts end, unless they are few, and the warnings round the node,
+/// from the innermost to the outermost. In contracts it is these three.
 #[derive(Drop)]
 pub(crate) struct Extras {
-    pub(super) lists: Option<Box<Lists>>,
+    pub(super) kept: Kept,
 }
 
-/// Both lists.
+/// There is a box for both lists once there is one of them. The diagnosis stands beside the tag, where there is place for it.
+#[derive(Drop)]
+pub(crate) enum Kept {
+    Plain(Diagnosis),
+    Listed(Diagnosis, Box<Lists>),
+}
+
+/// What few inner nodes have: ends and warnings.
 #[derive(Drop)]
 pub(crate) struct Lists {
     ends: ChildEnds,
@@ -27,25 +35,33 @@ pub(crate) struct Lists {
 }
 
 impl Model for Extras {
-    ghost use Rattle.typst_node.specs.Extras.{EndsAndWarnings, extras_seen};
+    ghost use Rattle.typst_node.specs.Extras.{ExtraParts, extras_seen};
 
-    ghost Value = { EndsAndWarnings };
+    ghost Value = { ExtraParts };
 
-    ghost view = { λ a. extras_seen a.lists };
+    ghost view = { λ a. extras_seen a.kept };
 }
 
-/// # Ends and warnings
+/// # All three
 impl Extras {
-    /// No ends, as of a few children, and no warnings.
-    pub(crate) fn none() -> Extras
+    /// A diagnosis without ends, as of a few children, and without warnings.
+    pub(crate) fn plain(diagnosis: Diagnosis) -> Extras
+        ensures diagnosis { result.diagnosis ≡ diagnosis }
         ensures ends { result.ends ≡ None }
         ensures warnings { result.warnings ≡ [] }
     {
-        Extras { lists: None }
+        Extras {
+            kept: Kept::Plain(diagnosis),
+        }
     }
 
-    /// These ends, and no warnings.
-    pub(crate) fn of_ends(alloc: Global, ends: Vec<u32>) -> Result<Extras, AllocError>
+    /// A diagnosis and these ends, without warnings.
+    pub(crate) fn with_ends(
+        alloc: Global,
+        diagnosis: Diagnosis,
+        ends: Vec<u32>,
+    ) -> Result<Extras, AllocError>
+        ensures diagnosis { IfOk result (λ e. e.diagnosis ≡ diagnosis) }
         ensures ends { IfOk result (λ e. e.ends ≡ Some ends.items) }
         ensures warnings { IfOk result (λ e. e.warnings ≡ []) }
     {
@@ -54,20 +70,23 @@ impl Extras {
             warnings: Vec::new(alloc),
         };
         Ok(Extras {
-            lists: Some(Box::new(alloc, lists)?),
+            kept: Kept::Listed(diagnosis, Box::new(alloc, lists)?),
         })
     }
 
-    /// The same ends, and warnings that say the same.
+    /// The same diagnosis and ends, and warnings that say the same.
     pub(super) fn copy(&self, alloc: Global) -> Result<Extras, AllocError>
+        ensures diagnosis { IfOk result (λ e. e.diagnosis ≡ self.now.diagnosis) }
         ensures ends { IfOk result (λ e. e.ends ≡ self.now.ends) }
         ensures warnings { IfOk result (λ e. map warning_text e.warnings ≡ map warning_text self.now.warnings) }
     {
-        let lists = match &self.lists {
-            Some(lists) => Some(Box::new(alloc, lists.copy(alloc)?)?),
-            None => None,
+        let kept = match &self.kept {
+            Kept::Plain(diagnosis) => Kept::Plain(*diagnosis),
+            Kept::Listed(diagnosis, lists) => {
+                Kept::Listed(*diagnosis, Box::new(alloc, lists.copy(alloc)?)?)
+            }
         };
-        Ok(Extras { lists })
+        Ok(Extras { kept })
     }
 }
 
@@ -83,33 +102,60 @@ impl Lists {
     }
 }
 
+/// # The diagnosis
+impl Extras {
+    /// What the children hold.
+    pub(super) fn diagnosis(&self) -> Diagnosis
+        ensures { result ≡ self.now.diagnosis }
+    {
+        match &self.kept {
+            Kept::Plain(diagnosis) => *diagnosis,
+            Kept::Listed(diagnosis, _) => *diagnosis,
+        }
+    }
+
+    /// Writes what the children hold.
+    pub(super) fn set_diagnosis(&mut self, held: Diagnosis)
+        ensures diagnosis { self.new.diagnosis ≡ held }
+        ensures ends { self.new.ends ≡ self.old.ends }
+        ensures warnings { self.new.warnings ≡ self.old.warnings }
+    {
+        match &mut self.kept {
+            Kept::Plain(diagnosis) => *diagnosis = held,
+            Kept::Listed(diagnosis, _) => *diagnosis = held,
+        }
+    }
+}
+
 /// # Warnings
 impl Extras {
     /// The warnings side by side.
     pub(super) fn warnings(&self) -> &[Warning]
         ensures { result.now ≡ self.now.warnings }
     {
-        match &self.lists {
-            Some(lists) => &lists.warnings,
-            None => &[],
+        match &self.kept {
+            Kept::Plain(_) => &[],
+            Kept::Listed(_, lists) => &lists.warnings,
         }
     }
 
     /// Adds a warning after the others, outside them.
     pub(super) fn push_warning(&mut self, alloc: Global, warning: Warning) -> Result<(), AllocError>
+        ensures diagnosis { self.new.diagnosis ≡ self.old.diagnosis }
         ensures ends { self.new.ends ≡ self.old.ends }
         ensures ok { OnOk result (self.new.warnings ≡ self.old.warnings ++ warning ∷ []) }
         ensures err { OnErr result (self.new.warnings ≡ self.old.warnings) }
     {
-        match &mut self.lists {
-            Some(lists) => lists.warnings.push(warning)?,
-            None => {
+        match &mut self.kept {
+            Kept::Plain(diagnosis) => {
+                let diagnosis = *diagnosis;
                 let lists = Lists {
                     ends: ChildEnds::few(),
                     warnings: only(alloc, warning)?,
                 };
-                self.lists = Some(Box::new(alloc, lists)?);
+                self.kept = Kept::Listed(diagnosis, Box::new(alloc, lists)?);
             }
+            Kept::Listed(_, lists) => lists.warnings.push(warning)?,
         }
         Ok(())
     }
@@ -122,9 +168,9 @@ impl Extras {
         requires { IfSome self.now.ends (λ ends. index < length ends) }
         ensures { MatchOption self.now.ends (result ≡ None) (λ ends. result ≡ Some (slice_index ends index)) }
     {
-        match &self.lists {
-            Some(lists) => lists.ends.get(index),
-            None => None,
+        match &self.kept {
+            Kept::Plain(_) => None,
+            Kept::Listed(_, lists) => lists.ends.get(index),
         }
     }
 
@@ -143,21 +189,26 @@ impl Extras {
         requires window { from ≤ to }
         requires inside { to ≤ length children.now }
         requires fits { length children.now + many < 2 ^ 64 }
+        ensures diagnosis { self.new.diagnosis ≡ self.old.diagnosis }
         ensures warnings { self.new.warnings ≡ self.old.warnings }
         ensures ok { OnOk result (HavePlace from to many self.new.ends children.now) }
         ensures err { OnErr result (self.new.ends ≡ self.old.ends) }
         ensures succeeds { many ≤ to - from → IsOk result }
     {
-        if let Some(lists) = &mut self.lists {
-            return lists.ends.make_place(alloc, children, from, to, many);
+        match &mut self.kept {
+            Kept::Plain(diagnosis) => {
+                if children.len() - (to - from) + many > FEW {
+                    let diagnosis = *diagnosis;
+                    let mut ends = ChildEnds::few();
+                    ends.make_place(alloc, children, from, to, many)?;
+                    let warnings = Vec::new(alloc);
+                    let lists = Box::new(alloc, Lists { ends, warnings })?;
+                    self.kept = Kept::Listed(diagnosis, lists);
+                }
+                Ok(())
+            }
+            Kept::Listed(_, lists) => lists.ends.make_place(alloc, children, from, to, many),
         }
-        if children.len() - (to - from) + many > FEW {
-            let mut ends = ChildEnds::few();
-            ends.make_place(alloc, children, from, to, many)?;
-            let warnings = Vec::new(alloc);
-            self.lists = Some(Box::new(alloc, Lists { ends, warnings })?);
-        }
-        Ok(())
     }
 
     /// Corrects the ends after children came, as `ChildEnds::settle` does.
@@ -174,10 +225,11 @@ impl Extras {
         requires window { from ≤ to }
         requires inside { to ≤ length children.now }
         requires added { added ≡ length (text_of_all (slice_range children.now from to)) }
+        ensures diagnosis { self.new.diagnosis ≡ self.old.diagnosis }
         ensures ends { AreEnds self.new.ends children.now }
         ensures warnings { self.new.warnings ≡ self.old.warnings }
     {
-        if let Some(lists) = &mut self.lists {
+        if let Kept::Listed(_, lists) = &mut self.kept {
             lists.ends.settle(children, from, to, stay, gone, added);
         }
     }

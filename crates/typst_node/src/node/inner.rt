@@ -45,12 +45,16 @@ impl SyntaxNode {
             Node::Short(_, len, bytes) => (len_in(*len, bytes), 1, false, false),
             Node::Long(_, text) => (text.len(), 1, false, false),
             Node::Leaf(_, leaf) => (leaf.text.len(), 1, false, !leaf.warnings.is_empty()),
-            Node::Inner(_, len, inner) => (
-                *len,
-                inner.descendants,
-                inner.diagnosis.errors,
-                inner.diagnosis.warnings || !inner.extras.warnings().is_empty(),
-            ),
+            Node::Inner(_, len, inner) => {
+                let below = inner.extras.diagnosis();
+                let warned = !inner.extras.warnings().is_empty();
+                (
+                    *len,
+                    inner.descendants,
+                    below.errors,
+                    below.warnings || warned,
+                )
+            }
             Node::Error(error) => (error.text.len(), 1, true, !error.warnings.is_empty()),
         };
         Measures {
@@ -126,6 +130,7 @@ fn zeros(alloc: Global, count: usize) -> Result<Vec<u32>, AllocError>
 /// sums alone tell which error it is.
 pub(crate) fn measured(alloc: Global, children: &[SyntaxNode]) -> Result<(Sums, Extras), InnerError>
     ensures sums { IfOk result (λ both. AreSums both.0 children.now) }
+    ensures diagnosis { IfOk result (λ both. both.1.diagnosis ≡ both.0.diagnosis) }
     ensures ends { IfOk result (λ both. AreEnds both.1.ends children.now) }
     ensures warnings { IfOk result (λ both. both.1.warnings ≡ []) }
     ensures fits { OnOk result (SumsFit children.now) }
@@ -134,7 +139,8 @@ pub(crate) fn measured(alloc: Global, children: &[SyntaxNode]) -> Result<(Sums, 
     let count = children.len();
     if count <= FEW {
         let sums = sums_of(children).ok_or(InnerError::Overflow)?;
-        return Ok((sums, Extras::none()));
+        let extras = Extras::plain(sums.diagnosis);
+        return Ok((sums, extras));
     }
     let Ok(mut ends) = zeros(alloc, count) else {
         return Err(match sums_of(children) {
@@ -143,5 +149,6 @@ pub(crate) fn measured(alloc: Global, children: &[SyntaxNode]) -> Result<(Sums, 
         });
     };
     let sums = measure(children, &mut ends).ok_or(InnerError::Overflow)?;
-    Ok((sums, Extras::of_ends(alloc, ends)?))
+    let extras = Extras::with_ends(alloc, sums.diagnosis, ends)?;
+    Ok((sums, extras))
 }

@@ -6,7 +6,7 @@ ghost use Rattle.typst_node.specs.MappedForest.{mapped_tree, mapped_trees, mappe
 ghost use Rattle.typst_node.specs.Text.{text, text_of_all};
 ghost use Rattle.typst_node.specs.View.{hint_text, IsMeasured, shown_warnings, warning_text};
 
-use crate::node::extras::Extras;
+use crate::node::extras::{Extras, Kept};
 use crate::node::{Hint, InnerNode, Node, SyntaxNode, Warning};
 use std::ops::Range;
 use thiserror::Error;
@@ -80,7 +80,7 @@ impl SyntaxNode {
             }
             Node::Inner(_, _, inner) => {
                 self.span = span;
-                inner.map_places_below(id, mapper, at, span);
+                inner.map_places_below(id, mapper, at, end, span);
             }
         }
     }
@@ -88,11 +88,19 @@ impl SyntaxNode {
 
 impl InnerNode {
     #[cycle(map_places)]
-    fn map_places_below(&mut self, id: FileId, mapper: &RangeMapper, at: usize, span: Span)
+    fn map_places_below(
+        &mut self,
+        id: FileId,
+        mapper: &RangeMapper,
+        at: usize,
+        end: usize,
+        span: Span,
+    )
+        requires end { end ≡ at + length (text_of_all self.old.children.items) }
         requires measured { IsMeasured self.old }
-        requires inside { at + length (text_of_all self.old.children.items) ≤ length mapper.now.positions }
+        requires inside { end ≤ length mapper.now.positions }
         ensures measured { IsMeasured self.new }
-        ensures len { self.new.len ≡ self.old.len }
+        ensures len { length (text_of_all self.new.children.items) ≡ length (text_of_all self.old.children.items) }
         ensures upper { self.new.upper ≡ span.low }
         ensures children { self.new.children.items ≡ mapped_trees mapper.now id at self.old.children.items }
         ensures warnings { shown_warnings self.new.extras.warnings
@@ -101,7 +109,7 @@ impl InnerNode {
         // Read for the proof: the mapper's length is a usize, so no offset below it overflows.
         let _total = mapper.total_len();
         self.upper = span.number();
-        self.extras.map_parts(mapper, at, at + self.len);
+        self.extras.map_parts(mapper, at, end);
         let mut at = at;
         for child in self.children.iter_mut() {
             let end = at + child.len();
@@ -128,10 +136,11 @@ impl Extras {
     fn map_parts(&mut self, mapper: &RangeMapper, at: usize, end: usize)
         requires ordered { at ≤ end }
         requires inside { end ≤ length mapper.now.positions }
+        ensures diagnosis { self.new.diagnosis ≡ self.old.diagnosis }
         ensures ends { self.new.ends ≡ self.old.ends }
         ensures warnings { shown_warnings self.new.warnings ≡ mapped_warnings mapper.now (interval at end) self.old.warnings }
     {
-        if let Some(lists) = &mut self.lists {
+        if let Kept::Listed(_, lists) = &mut self.kept {
             map_parts(&mut lists.warnings, mapper, at, end);
         }
     }

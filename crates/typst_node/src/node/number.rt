@@ -1,6 +1,7 @@
 // Numbers in order, and the test whether they are.
-ghost use Rattle.std.specs.Prelude.{ℕ, List, ◌≡◌, ◌+◌, ◌-◌, ◌*◌, ◌/◌, ◌^◌, ◌<◌, ◌≤◌, ◌⊎◌, ◌↔◌, map, OnOk, OnErr, IsErr, IsTrue};
+ghost use Rattle.std.specs.Prelude.{ℕ, List, ◌≡◌, ◌+◌, ◌-◌, ◌*◌, ◌/◌, ◌^◌, ◌<◌, ◌≤◌, ◌⊎◌, ◌↔◌, length, map, OnOk, OnErr, IsErr, IsTrue};
 ghost use Rattle.typst_node.specs.Tree.{forest, IsInner};
+ghost use Rattle.typst_node.specs.Text.{text_of_all};
 ghost use Rattle.typst_node.specs.Count.{count, count_of_all};
 ghost use Rattle.typst_node.specs.Labels.{number, bound};
 ghost use Rattle.typst_node.specs.Numbered.{IsNumberedFor, IsNumbered, AllIn, halfway};
@@ -115,7 +116,7 @@ impl InnerNode {
         requires positive { 1 ≤ stride }
         requires room { start + stride * self.old.descendants ≤ end }
         ensures measured { IsMeasured self.new }
-        ensures len { self.new.len ≡ self.old.len }
+        ensures len { length (text_of_all self.new.children.items) ≡ length (text_of_all self.old.children.items) }
         ensures upper { self.new.upper ≡ end }
         ensures warnings { self.new.extras.warnings ≡ self.old.extras.warnings }
         ensures plain { map plain self.new.children.items ≡ map plain self.old.children.items }

@@ -2,6 +2,7 @@
 ghost use Rattle.std.specs.Prelude.{[], ◌≡◌, ◌+◌, ◌-◌, ◌^◌, ◌<◌, ◌≤◌, ◌⊎◌, ◌↔◌, suc, map, length, slice_range, vec_capacity, None, IfSome, Ok, IsOk, IfOk, OnOk, OnErr, IsErrOf, MatchOption};
 ghost use Rattle.std.specs.List.{splice};
 ghost use Rattle.typst_node.specs.Tree.{forest, trees, IsInner};
+ghost use Rattle.typst_node.specs.Text.{text_of_all};
 ghost use Rattle.typst_node.specs.Count.{SumsFit, count_of_all};
 ghost use Rattle.typst_node.specs.Plain.{plain};
 ghost use Rattle.typst_node.specs.Numbered.{IsNumbered, IsNumberedFor};
@@ -75,14 +76,15 @@ impl InnerNode {
     /// The sums of what goes and of what comes with others in the place of some children, if the node's own sums fit
     /// a usize then. It reads these children and the others alone.
     #[tactic(auto, using(crate::proofs::Opens::splice_count, crate::proofs::Opens::splice_text, crate::proofs::Opens::part_count, crate::proofs::Opens::part_text))]
-    fn change(&self, from: usize, to: usize, others: &[SyntaxNode]) -> Option<Change>
+    fn change(&self, len: usize, from: usize, to: usize, others: &[SyntaxNode]) -> Option<Change>
+        requires len { len ≡ length (text_of_all self.now.children.items) }
         requires measured { IsMeasured self.now }
         requires window { from ≤ to }
         requires inside { to ≤ length self.now.children.items }
         ensures { MatchOption result (¬ (SumsFit (splice self.now.children.items from to others.now)))
             (IsChange from to self.now.children.items others.now) }
     {
-        let (len, descendants) = (self.len, self.descendants);
+        let descendants = self.descendants;
         let Some(gone) = sums_of(&self.children[from..to]) else {
             return None;
         };
@@ -124,6 +126,7 @@ impl InnerNode {
         requires measured { IsMeasured self.old }
         requires window { from ≤ to }
         requires inside { to ≤ length self.old.children.items }
+        requires fits { SumsFit self.old.children.items }
         requires change { IsChange from to self.old.children.items others.items change.now }
         ensures measured { IsMeasured self.new }
         ensures upper { self.new.upper ≡ self.old.upper }
@@ -179,12 +182,14 @@ impl InnerNode {
     /// Replaces some children of which none stays: decides by counts alone, asks for memory, and only then writes.
     fn replace_changed(
         &mut self,
+        len: &mut usize,
         id: Option<FileId>,
         number: u64,
         from: usize,
         to: usize,
         others: Vec<SyntaxNode>,
     ) -> Result<Renumbered, ReplaceError>
+        requires len { len.old ≡ length (text_of_all self.old.children.items) }
         requires measured { IsMeasured self.old }
         requires window { from ≤ to }
         requires inside { to ≤ length self.old.children.items }
@@ -192,10 +197,10 @@ impl InnerNode {
         requires upper { IfSome id (λ file. self.old.upper ≤ 2 ^ 47) }
         requires within { IfSome id (λ file. IsWithin file (number + 1) self.old.upper (forest self.old.children.items)) }
         ensures made { let site : Site = site_at (number + 1) self.old.upper from to others.items self.old.children.items in
-            AreReplaced site id self.old self.new result }
+            AreReplaced site id self.old self.new len.new result }
         ensures memory { length others.items ≤ to - from → ¬ (IsErrOf result Memory) }
     {
-        let Some(change) = self.change(from, to, &others) else {
+        let Some(change) = self.change(*len, from, to, &others) else {
             return Err(ReplaceError::Overflow);
         };
         let Some(id) = id else {
@@ -207,6 +212,7 @@ impl InnerNode {
         let start = from.saturating_sub(found.width);
         let end = from + others.len() + found.width.min(self.children.len() - to);
         self.put(from, to, others, &change)?;
+        *len = *len - change.gone.len + change.added.len;
         let numbering = found.numbering;
         self.renumber(id, start, end, numbering.start, numbering.stride);
         Ok(Renumbered {
@@ -220,12 +226,14 @@ impl InnerNode {
     /// Replaces some children. Those stay that the replacement has alike at its beginning or at its end.
     fn replace(
         &mut self,
+        len: &mut usize,
         id: Option<FileId>,
         number: u64,
         from: usize,
         to: usize,
         mut others: Vec<SyntaxNode>,
     ) -> Result<Renumbered, ReplaceError>
+        requires len { len.old ≡ length (text_of_all self.old.children.items) }
         requires measured { IsMeasured self.old }
         requires window { from ≤ to }
         requires inside { to ≤ length self.old.children.items }
@@ -233,14 +241,14 @@ impl InnerNode {
         requires upper { IfSome id (λ file. self.old.upper ≤ 2 ^ 47) }
         requires within { IfSome id (λ file. IsWithin file (number + 1) self.old.upper (forest self.old.children.items)) }
         ensures made { let site : Site = site_among (number + 1) self.old.upper from to others.items self.old.children.items in
-            AreReplaced site id self.old self.new result }
+            AreReplaced site id self.old self.new len.new result }
         ensures memory { length others.items ≤ to - from → ¬ (IsErrOf result Memory) }
     {
         let first = count_common_first(&self.children[from..to], &others);
         let (_, left) = others.split_at(first);
         let last = count_common_last(&self.children[from + first..to], left);
         trim(&mut others, first, last);
-        self.replace_changed(id, number, from + first, to - last, others)
+        self.replace_changed(len, id, number, from + first, to - last, others)
     }
 }
 
@@ -262,9 +270,7 @@ impl SyntaxNode {
         let number = self.span.number();
         match &mut self.node {
             Node::Inner(_, len, inner) => {
-                let result = inner.replace(id, number, range.start, range.end, replacement);
-                *len = inner.len;
-                return result;
+                return inner.replace(len, id, number, range.start, range.end, replacement);
             }
             Node::Short(..) | Node::Long(..) | Node::Leaf(..) | Node::Error(_) => unreachable!(),
         }

@@ -89,8 +89,7 @@ impl SyntaxNode {
                     if *index >= inner.children.len() {
                         return;
                     }
-                    inner.replace_in(*index, rest, errand);
-                    *len = inner.len;
+                    inner.replace_in(len, *index, rest, errand);
                 }
                 Node::Short(..) | Node::Long(..) | Node::Leaf(..) | Node::Error(_) => {}
             },
@@ -101,12 +100,14 @@ impl SyntaxNode {
 impl InnerNode {
     /// Replaces children of a node below one child, and corrects what is kept of it.
     #[cycle(at)]
-    fn replace_in(&mut self, index: usize, path: &[usize], errand: &mut Errand)
+    fn replace_in(&mut self, len: &mut usize, index: usize, path: &[usize], errand: &mut Errand)
+        requires len { len.old ≡ length (text_of_all self.old.children.items) }
         requires measured { IsMeasured self.old }
         requires index { index < length self.old.children.items }
         requires edit { IsErrand path.now errand.old (child_of self.old.children.items index) }
         requires sums { let child = child_of self.old.children.items index in
             FitsAt path.now errand.old child → SumsFit (set self.old.children.items index (edited_by path.now errand.old child)) }
+        ensures len { len.new ≡ length (text_of_all self.new.children.items) }
         ensures measured { IsMeasured self.new }
         ensures upper { self.new.upper ≡ self.old.upper }
         ensures warnings { self.new.extras.warnings ≡ self.old.extras.warnings }
@@ -120,11 +121,12 @@ impl InnerNode {
             (tree_at path.now (child_of self.new.children.items index)) }
     {
         // Read for the proof: both sums are usizes, so those of the child that changes are too.
-        let (_len, _descendants) = (self.len, self.descendants);
+        let (_len, _descendants) = (*len, self.descendants);
         let gone = sums_of_one(&self.children[index]);
         self.children[index].replace_below(path, errand);
         let added = sums_of_one(&self.children[index]);
         self.settle(index, index + 1, true, &gone, &added);
+        *len = *len - gone.len + added.len;
     }
 }
 

@@ -63,7 +63,7 @@ fn diagnosis_after(
 }
 
 impl InnerNode {
-    /// Corrects lengths, counts, diagnosis and ends after the children from `from` up to `to` came there: `gone` are
+    /// Corrects count, diagnosis and ends after the children from `from` up to `to` came there: `gone` are
     /// the sums of those that are counted in their place, `added` are their own, and `stay` says that they are as many.
     #[tactic(auto, using(crate::proofs::Opens::part_count, crate::proofs::Opens::part_text))]
     #[inline(never)]
@@ -78,16 +78,16 @@ impl InnerNode {
         ensures warnings { self.new.extras.warnings ≡ self.old.extras.warnings }
         ensures children { self.new.children ≡ self.old.children }
     {
-        self.len = self.len - gone.len + added.len;
         self.descendants = self.descendants - gone.descendants + added.descendants;
-        self.diagnosis = diagnosis_after(
+        let held = diagnosis_after(
             &self.children,
             from,
             to,
-            self.diagnosis,
+            self.extras.diagnosis(),
             gone.diagnosis,
             added.diagnosis,
         );
+        self.extras.set_diagnosis(held);
         self.extras
             .settle_ends(&self.children, from, to, stay, gone.len, added.len);
     }

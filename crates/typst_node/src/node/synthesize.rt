@@ -1,9 +1,10 @@
 // Trees whose nodes all have one span.
-ghost use Rattle.std.specs.Prelude.{◌≡◌, map};
+ghost use Rattle.std.specs.Prelude.{◌≡◌, length, map};
+ghost use Rattle.typst_node.specs.Text.{text_of_all};
 ghost use Rattle.typst_node.specs.Synthesized.{synthesized, whole_hint, whole_warning};
 ghost use Rattle.typst_node.specs.View.{hint_text, IsMeasured, shown_warnings, warning_text};
 
-use crate::node::extras::Extras;
+use crate::node::extras::{Extras, Kept};
 use crate::node::{Hint, InnerNode, Node, SyntaxNode, Warning};
 use typst_base::Span;
 
@@ -41,7 +42,7 @@ impl InnerNode {
     fn synthesize_below(&mut self, span: Span)
         requires { IsMeasured self.old }
         ensures measured { IsMeasured self.new }
-        ensures len { self.new.len ≡ self.old.len }
+        ensures len { length (text_of_all self.new.children.items) ≡ length (text_of_all self.old.children.items) }
         ensures upper { self.new.upper ≡ span.low }
         ensures warnings { shown_warnings self.new.extras.warnings ≡ map whole_warning (shown_warnings self.old.extras.warnings) }
         ensures children { self.new.children.items ≡ map (synthesized span) self.old.children.items }
@@ -75,10 +76,11 @@ pub(super) fn make_hints_whole(hints: &mut Vec<Hint>)
 impl Extras {
     /// Takes the sub-ranges of the warnings and their hints away.
     fn make_whole(&mut self)
+        ensures diagnosis { self.new.diagnosis ≡ self.old.diagnosis }
         ensures ends { self.new.ends ≡ self.old.ends }
         ensures warnings { shown_warnings self.new.warnings ≡ map whole_warning (shown_warnings self.old.warnings) }
     {
-        if let Some(lists) = &mut self.lists {
+        if let Kept::Listed(_, lists) = &mut self.kept {
             make_whole(&mut lists.warnings);
         }
     }

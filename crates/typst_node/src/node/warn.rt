@@ -4,7 +4,7 @@ ghost use Rattle.typst_node.specs.Hints.{error_tree, hint_for, hint_outermost, h
 ghost use Rattle.typst_node.specs.Warnings.{part_for, warned, warning, FitsRange};
 ghost use Rattle.typst_node.specs.View.{below, content, hint_text, shown_warnings, warning_text, warnings_in, IsKept};
 
-use crate::node::extras::Extras;
+use crate::node::extras::{Extras, Kept};
 use crate::node::{ErrorNode, Hint, LeafNode, Node, SyntaxNode, Warning};
 use crate::short_text::text_in;
 use std::alloc::{AllocError, Global};
@@ -304,14 +304,15 @@ impl Extras {
     /// Adds a hint after those of the last warning, which is the outermost one.
     fn hint_last(&mut self, hint: Hint) -> Result<(), AllocError>
         requires { 0 < length self.old.warnings }
+        ensures diagnosis { self.new.diagnosis ≡ self.old.diagnosis }
         ensures ends { self.new.ends ≡ self.old.ends }
         ensures ok { OnOk result (shown_warnings self.new.warnings
             ≡ hint_outermost (hint_text hint ∷ []) (shown_warnings self.old.warnings)) }
         ensures err { OnErr result (shown_warnings self.new.warnings ≡ shown_warnings self.old.warnings) }
     {
-        match &mut self.lists {
-            Some(lists) => hint_last(&mut lists.warnings, hint),
-            None => unreachable!(),
+        match &mut self.kept {
+            Kept::Plain(_) => unreachable!(),
+            Kept::Listed(_, lists) => hint_last(&mut lists.warnings, hint),
         }
     }
 }

@@ -5,6 +5,7 @@ use Rattle.std.specs.Box.{with_value}
 use Rattle.typst_node.specs.declared.node.Node.TheVariants.{Inner}
 use Rattle.typst_node.specs.Tree.{Tree, trees}
 use Rattle.typst_node.specs.Count.{SumsFit}
+use Rattle.typst_node.specs.Text.{text_of_all}
 use Rattle.typst_node.specs.View.{tree_of}
 use Rattle.typst_node.specs.PlainEdit.{edited_at, FitsInner}
 use Rattle.typst_node.specs.Paths.{StaysBeside, no_tree}
@@ -13,7 +14,7 @@ use Rattle.std.specs.Prelude.{slice_range, IsTrue}
 use Rattle.typst_node.specs.Count.{count}
 use Rattle.typst_node.specs.Sums.{AreSums}
 use Rattle.typst_node.proofs.Trees.{count_at}
-use Rattle.typst_node.proofs.Settled.{set_splice, slice_one, place_for_one, put_stale}
+use Rattle.typst_node.proofs.Settled.{set_splice, slice_one, len_after_one, place_for_one, put_stale}
 use Rattle.typst_node.proofs.Edited.{inner_kids, inner_label}
 use Rattle.typst_node.proofs.PathsIn.{edit_below, edit_sums}
 use Rattle.typst_node.proofs.PathsAt.{frame_nil, frame_same, frame_cons, at_cons, fits_cons, fits_not, fits_after}
@@ -31,7 +32,7 @@ pub InnerNode::replace_in-sums_of_one-added-requires : goal.InnerNode::replace_i
 InnerNode::replace_in-sums_of_one-added-requires t c =
     let items = c.args.self.now.children.items in
     let old : c.index_mut.result.now ≡ get_or items c.args.index no_tree = grind (arith, common_steps) in
-    let fits : SumsFit items = (omega (arith, c.requires.measured.len), omega (arith, c.requires.measured.descendants)) in
+    let fits : SumsFit items = (omega (arith, c.requires.len), omega (arith, c.requires.measured.descendants)) in
     let sums : SumsFit (set items c.args.index c.replace_below.new.self) =
     fits_after c.args.path.now c.args.errand.now.range.start c.args.errand.now.range.end c.args.errand.now.others.items items c.args.index c.index_mut.result.now c.replace_below.new.self c.replace_below.new.errand.answer c.replace_below.new.errand.fits old fits
     c.replace_below.ensures.misfit c.replace_below.ensures.err c.replace_below.ensures.frame c.replace_below.ensures.at c.replace_below.ensures.fits.0 c.requires.sums in
@@ -46,7 +47,7 @@ InnerNode::replace_in-settle-requires-clause-stale t c =
     let child = c.replace_below.new.self in
     let one : c.index.result.now ∷ [] ≡ slice_range items i (i + 1) = ap (λ x. x ∷ []) c.index.ensures ∙ slice_one items i c.index.result.now c.requires.index in
     put_stale c.args.self.now _ (child ∷ []) i (i + 1) c.sums_of_one-gone.result (omega arith) (omega (arith, c.requires.index)) c.requires.measured
-    (subst (λ (ts : List Tree). AreSums c.sums_of_one-gone.result ts) one c.sums_of_one-gone.ensures) (set_splice items i child c.requires.index) refl refl refl
+    (subst (λ (ts : List Tree). AreSums c.sums_of_one-gone.result ts) one c.sums_of_one-gone.ensures) (set_splice items i child c.requires.index) refl refl
     (place_for_one c.args.self.now.extras.ends items i c.requires.index c.requires.measured.ends) true (λ _. omega arith)
 
 pub InnerNode::replace_in-settle-requires-clause-added : goal.InnerNode::replace_in-settle-requires-clause-added
@@ -60,9 +61,32 @@ pub InnerNode::replace_in-settle-requires-clause-fits : goal.InnerNode::replace_
 InnerNode::replace_in-settle-requires-clause-fits t c =
     let items = c.args.self.now.children.items in
     let old : c.index_mut.result.now ≡ get_or items c.args.index no_tree = grind (arith, common_steps) in
-    let fits : SumsFit items = (omega (arith, c.requires.measured.len), omega (arith, c.requires.measured.descendants)) in
+    let fits : SumsFit items = (omega (arith, c.requires.len), omega (arith, c.requires.measured.descendants)) in
     fits_after c.args.path.now c.args.errand.now.range.start c.args.errand.now.range.end c.args.errand.now.others.items items c.args.index c.index_mut.result.now c.replace_below.new.self c.replace_below.new.errand.answer c.replace_below.new.errand.fits old fits
     c.replace_below.ensures.misfit c.replace_below.ensures.err c.replace_below.ensures.frame c.replace_below.ensures.at c.replace_below.ensures.fits.0 c.requires.sums
+
+pub InnerNode::replace_in-overflow_sub-len : goal.InnerNode::replace_in-overflow_sub-len
+InnerNode::replace_in-overflow_sub-len t c =
+    (len_after_one c.args.self.now.children.items c.args.index c.args.len.now c.sums_of_one-gone.result.len c.sums_of_one-added.result.len c.index.result.now c.index-2.result.now c.replace_below.new.self
+    c.requires.index c.requires.len c.sums_of_one-gone.ensures.len c.index.ensures c.sums_of_one-added.ensures.len c.index-2.ensures).0
+
+pub InnerNode::replace_in-overflow_add-len : goal.InnerNode::replace_in-overflow_add-len
+InnerNode::replace_in-overflow_add-len t c =
+    let items = c.args.self.now.children.items in
+    let after = len_after_one items c.args.index c.args.len.now c.sums_of_one-gone.result.len c.sums_of_one-added.result.len c.index.result.now c.index-2.result.now c.replace_below.new.self
+    c.requires.index c.requires.len c.sums_of_one-gone.ensures.len c.index.ensures c.sums_of_one-added.ensures.len c.index-2.ensures in
+    let old : c.index_mut.result.now ≡ get_or items c.args.index no_tree = grind (arith, common_steps) in
+    let fits : SumsFit items = (omega (arith, c.requires.len), omega (arith, c.requires.measured.descendants)) in
+    let sums : SumsFit (set items c.args.index c.replace_below.new.self) =
+    fits_after c.args.path.now c.args.errand.now.range.start c.args.errand.now.range.end c.args.errand.now.others.items items c.args.index c.index_mut.result.now c.replace_below.new.self c.replace_below.new.errand.answer c.replace_below.new.errand.fits old fits
+    c.replace_below.ensures.misfit c.replace_below.ensures.err c.replace_below.ensures.frame c.replace_below.ensures.at c.replace_below.ensures.fits.0 c.requires.sums in
+    omega (arith, after.1, sums.0)
+
+pub InnerNode::replace_in-returns-clause-len : goal.InnerNode::replace_in-returns-clause-len
+InnerNode::replace_in-returns-clause-len t c =
+    (len_after_one c.args.self.now.children.items c.args.index c.args.len.now c.sums_of_one-gone.result.len c.sums_of_one-added.result.len c.index.result.now c.index-2.result.now c.replace_below.new.self
+    c.requires.index c.requires.len c.sums_of_one-gone.ensures.len c.index.ensures c.sums_of_one-added.ensures.len c.index-2.ensures).1
+    ∙ ap (λ ch. length (text_of_all ch.items)) (sym c.settle.ensures.children)
 
 pub SyntaxNode::replace_below-replace_in-requires : goal.SyntaxNode::replace_below-replace_in-requires
 SyntaxNode::replace_below-replace_in-requires t c =
@@ -82,15 +106,18 @@ SyntaxNode::replace_below-replace_in-requires t c =
       (
         search rules,
         (
-          subst (λ (ts : List Tree). n < length ts) kids there,
+          search rules,
           (
+            subst (λ (ts : List Tree). n < length ts) kids there,
             (
-              c.requires.0,
-              subst (λ (ts : List Tree). FitsInner rest from to (get_or ts n no_tree) → IsEdit rest from to others (get_or ts n no_tree)) kids
-                  (λ h. edit_below n rest from to others c.args.self.now (errand (fits h))),
+              (
+                c.requires.0,
+                subst (λ (ts : List Tree). FitsInner rest from to (get_or ts n no_tree) → IsEdit rest from to others (get_or ts n no_tree)) kids
+                    (λ h. edit_below n rest from to others c.args.self.now (errand (fits h))),
+              ),
+              subst (λ (ts : List Tree). FitsInner rest from to (get_or ts n no_tree) → SumsFit (set ts n (edited_at rest from to others (get_or ts n no_tree)))) kids
+                  (λ h. edit_sums n rest from to others c.args.self.now (errand (fits h)).sums),
             ),
-            subst (λ (ts : List Tree). FitsInner rest from to (get_or ts n no_tree) → SumsFit (set ts n (edited_at rest from to others (get_or ts n no_tree)))) kids
-                (λ h. edit_sums n rest from to others c.args.self.now (errand (fits h)).sums),
           ),
         ),
       ),

@@ -11,7 +11,7 @@ use Rattle.typst_node.specs.Mapped.{mapped_warning}
 use Rattle.typst_node.specs.MappedForest.{mapped_trees}
 use Rattle.typst_node.specs.View.{shown_warnings}
 use Rattle.typst_node.proofs.MappedLemmas.{so_far, mapped_next, mapped_all, bare_of_mapped, length_from, mapped_inner}
-use Rattle.typst_node.proofs.Relabelled.{relabelled, measured_by_relabelled, same_count}
+use Rattle.typst_node.proofs.Relabelled.{relabelled, measured_by_relabelled, same_count, same_text}
 use Rattle.typst_node.proofs.SynthesizedLemmas.{bare, bare_keeps}
 use Rattle.typst_node.proofs.Trees.{count_at}
 use Rattle.typst_node.proofs.node.+map_places.Goals as goal
@@ -44,7 +44,12 @@ InnerNode::map_places_below-loop-child-preserved t c =
 pub InnerNode::map_places_below-returns-clause-measured : goal.InnerNode::map_places_below-returns-clause-measured
 InnerNode::map_places_below-returns-clause-measured t c =
     measured_by_relabelled bare bare_keeps c.loop-child.child-items c.args.self.now.children.items (c.loop-child.invariant.same ∙ ap (map (relabelled bare)) c.deref_mut-child-items.ensures.value)
-    c.args.self.now _ refl (with_items_is c.args.self.now.children c.loop-child.child-items (omega arith)) refl refl refl c.map_parts.ensures.ends c.requires.measured
+    c.args.self.now _ refl (with_items_is c.args.self.now.children c.loop-child.child-items (omega arith)) refl c.map_parts.ensures.diagnosis c.map_parts.ensures.ends c.requires.measured
+
+pub InnerNode::map_places_below-returns-clause-len : goal.InnerNode::map_places_below-returns-clause-len
+InnerNode::map_places_below-returns-clause-len t c =
+    ap (λ ts. length (text_of_all ts)) (with_items_is c.args.self.now.children c.loop-child.child-items (omega arith))
+    ∙ ap length (same_text bare bare_keeps c.loop-child.child-items c.args.self.now.children.items (c.loop-child.invariant.same ∙ ap (map (relabelled bare)) c.deref_mut-child-items.ensures.value))
 
 pub InnerNode::map_places_below-returns-clause-children : goal.InnerNode::map_places_below-returns-clause-children
 InnerNode::map_places_below-returns-clause-children t c =

@@ -1,10 +1,11 @@
 use Rattle.std.proofs.Common.{arith, ◌≡◌, ◌+◌, ◌-◌, ◌*◌, ◌/◌, ◌<◌, ◌≤◌, length, map, ap, sym, ◌∙◌, refl, get_or}
 use Rattle.std.proofs.lemmas.List.{with_items_is}
 use Rattle.typst_node.specs.Count.{count, count_of_all}
+use Rattle.typst_node.specs.Text.{text_of_all}
 use Rattle.typst_node.specs.Tree.{forest}
 use Rattle.typst_node.specs.Labels.{number}
 use Rattle.typst_node.specs.Plain.{plain}
-use Rattle.typst_node.proofs.Plain.{same_count_of_all, measured_by_plain, same_plain_inner, inner_count}
+use Rattle.typst_node.proofs.Plain.{same_count_of_all, same_text_of_all, measured_by_plain, same_plain_inner, inner_count}
 use Rattle.typst_node.proofs.Ordered.{IsIn, all_in, all_weaker}
 use Rattle.typst_node.proofs.Within.{within_le, within_wider, within_append}
 use Rattle.typst_node.proofs.Trees.{count_drop, count_at}
@@ -22,7 +23,12 @@ InnerNode::number_below-number_all-requires t c =
 pub InnerNode::number_below-returns-clause-measured : goal.InnerNode::number_below-returns-clause-measured
 InnerNode::number_below-returns-clause-measured t c =
     measured_by_plain c.number_all.new.nodes c.args.self.now.children.items (c.number_all.ensures.plain ∙ ap (map plain) c.deref_mut.ensures.value)
-    c.args.self.now _ refl (with_items_is c.args.self.now.children c.number_all.new.nodes (omega arith)) refl refl refl refl c.requires.measured
+    c.args.self.now _ refl (with_items_is c.args.self.now.children c.number_all.new.nodes (omega arith)) refl refl refl c.requires.measured
+
+pub InnerNode::number_below-returns-clause-len : goal.InnerNode::number_below-returns-clause-len
+InnerNode::number_below-returns-clause-len t c =
+    ap (λ ts. length (text_of_all ts)) (with_items_is c.args.self.now.children c.number_all.new.nodes (omega arith))
+    ∙ ap length (same_text_of_all c.number_all.new.nodes c.args.self.now.children.items (c.number_all.ensures.plain ∙ ap (map plain) c.deref_mut.ensures.value))
 
 pub SyntaxNode::number_within-returns-in-Inner-clause-within : goal.SyntaxNode::number_within-returns-in-Inner-clause-within
 SyntaxNode::number_within-returns-in-Inner-clause-within t c =

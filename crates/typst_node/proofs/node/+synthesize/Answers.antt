@@ -1,11 +1,12 @@
-use Rattle.std.proofs.Common.{◌≡◌, map, get_or, refl, ap, sym, ◌∙◌, arith}
+use Rattle.std.proofs.Common.{◌≡◌, length, map, get_or, refl, ap, sym, ◌∙◌, arith}
 use Rattle.std.proofs.Math.Seq.{map-set_same}
 use Rattle.std.proofs.lemmas.List.{with_items_is}
 use Rattle.typst_node.specs.Count.{count_of_all}
+use Rattle.typst_node.specs.Text.{text_of_all}
 use Rattle.typst_node.specs.Synthesized.{synthesized, whole_warning}
 use Rattle.typst_node.specs.View.{shown_warnings}
 use Rattle.typst_node.proofs.Each.{each_next, each_all, map_same}
-use Rattle.typst_node.proofs.Relabelled.{relabelled, measured_by_relabelled, same_count}
+use Rattle.typst_node.proofs.Relabelled.{relabelled, measured_by_relabelled, same_count, same_text}
 use Rattle.typst_node.proofs.SynthesizedLemmas.{bare, bare_keeps, bare_of, synthesized_inner}
 use Rattle.typst_node.proofs.Trees.{count_at}
 use Rattle.typst_node.proofs.node.+synthesize.Goals as goal
@@ -29,7 +30,12 @@ InnerNode::synthesize_below-loop-child-preserved t c = record {
 pub InnerNode::synthesize_below-returns-clause-measured : goal.InnerNode::synthesize_below-returns-clause-measured
 InnerNode::synthesize_below-returns-clause-measured t c =
     measured_by_relabelled bare bare_keeps c.loop-child.child-items c.args.self.now.children.items (c.loop-child.invariant.same ∙ ap (map (relabelled bare)) c.deref_mut-child-items.ensures.value)
-    c.args.self.now _ refl (with_items_is c.args.self.now.children c.loop-child.child-items (omega arith)) refl refl refl c.make_whole.ensures.ends c.requires
+    c.args.self.now _ refl (with_items_is c.args.self.now.children c.loop-child.child-items (omega arith)) refl c.make_whole.ensures.diagnosis c.make_whole.ensures.ends c.requires
+
+pub InnerNode::synthesize_below-returns-clause-len : goal.InnerNode::synthesize_below-returns-clause-len
+InnerNode::synthesize_below-returns-clause-len t c =
+    ap (λ ts. length (text_of_all ts)) (with_items_is c.args.self.now.children c.loop-child.child-items (omega arith))
+    ∙ ap length (same_text bare bare_keeps c.loop-child.child-items c.args.self.now.children.items (c.loop-child.invariant.same ∙ ap (map (relabelled bare)) c.deref_mut-child-items.ensures.value))
 
 pub InnerNode::synthesize_below-returns-clause-children : goal.InnerNode::synthesize_below-returns-clause-children
 InnerNode::synthesize_below-returns-clause-children t c =

@@ -17,7 +17,7 @@ pub joined_len-requires : goal.joined_len-requires
 joined_len-requires c =
     let items = c.args.self.now.children.items in
     let part = same_part c.deref.result.now items 0 (c.args.index + 1) c.deref.ensures.value in
-    omega (arith, text_front items (c.args.index + 1), text_parts items 0 (c.args.index + 1) (omega arith), c.requires.measured.len, part)
+    omega (arith, text_front items (c.args.index + 1), text_parts items 0 (c.args.index + 1) (omega arith), c.requires.len, part)
 
 pub returns-in-Some : goal.returns-in-Some
 returns-in-Some c =
@@ -25,7 +25,7 @@ returns-in-Some c =
     let low : c.in-Some.end ≡ length (text_of_all (take (c.args.index + 1) items)) % 2 ^ 32 =
     kept_end_is c.args.self.now.extras.ends items c.args.index c.in-Some.end c.requires.index c.requires.measured.ends
     (subst (λ r. MatchOption c.args.self.now.extras.ends (r ≡ None) (λ ends. r ≡ Some (slice_index ends c.args.index))) c.in-Some.is c.end.ensures) in
-    omega (arith, low, text_front items (c.args.index + 1), c.requires.measured.len, c.if-len-lt-LIMIT.true)
+    omega (arith, low, text_front items (c.args.index + 1), c.requires.len, c.if-len-lt-LIMIT.true)
 
 -- the text of a beginning and that of the rest, read from another list that is the same
 rest_of : (ts us : List Tree) (first : ℕ) → ts ≡ us → first ≤ length us → length (text_of_all (take first us)) + length (text_of_all (slice_range ts first (length ts))) ≡ length (text_of_all us)
@@ -36,12 +36,12 @@ rest_of ts us first same inside =
 
 pub joined_len-requires-in_default-2 : goal.joined_len-requires-in_default-2
 joined_len-requires-in_default-2 c =
-    omega (arith, rest_of c.deref-in_default-2.result.now c.args.self.now.children.items (c.args.index + 1) c.deref-in_default-2.ensures.value (omega (arith, c.requires.index)), c.requires.measured.len)
+    omega (arith, rest_of c.deref-in_default-2.result.now c.args.self.now.children.items (c.args.index + 1) c.deref-in_default-2.ensures.value (omega (arith, c.requires.index)), c.requires.len)
 
 pub overflow_sub-result : goal.overflow_sub-result
 overflow_sub-result c =
-    omega (arith, rest_of c.deref-in_default-2.result.now c.args.self.now.children.items (c.args.index + 1) c.deref-in_default-2.ensures.value (omega (arith, c.requires.index)), c.requires.measured.len)
+    omega (arith, rest_of c.deref-in_default-2.result.now c.args.self.now.children.items (c.args.index + 1) c.deref-in_default-2.ensures.value (omega (arith, c.requires.index)), c.requires.len)
 
 pub returns-in_default-2 : goal.returns-in_default-2
 returns-in_default-2 c =
-    omega (arith, rest_of c.deref-in_default-2.result.now c.args.self.now.children.items (c.args.index + 1) c.deref-in_default-2.ensures.value (omega (arith, c.requires.index)), c.requires.measured.len)
+    omega (arith, rest_of c.deref-in_default-2.result.now c.args.self.now.children.items (c.args.index + 1) c.deref-in_default-2.ensures.value (omega (arith, c.requires.index)), c.requires.len)

@@ -7,4 +7,4 @@ use Rattle.typst_node.proofs.node.InnerNode.renumber.Goals as goal
 pub returns-clause-measured : goal.returns-clause-measured
 returns-clause-measured c =
     measured_by_plain c.number_some.new.nodes c.args.self.now.children.items (c.number_some.ensures.plain ∙ ap (map plain) c.deref_mut.ensures.value)
-    c.args.self.now _ refl (with_items_is c.args.self.now.children c.number_some.new.nodes (omega arith)) refl refl refl refl c.requires.measured
+    c.args.self.now _ refl (with_items_is c.args.self.now.children c.number_some.new.nodes (omega arith)) refl refl refl c.requires.measured

@@ -1,12 +1,15 @@
-use Rattle.std.proofs.Common.{◌≡◌, ℕ, ◌+◌, ◌-◌, ◌*◌, ◌/◌, ◌^◌, ◌≤◌, length, take, drop, min, sym, subst, arith, rules, Option, Some, IfSome, MatchOption, length-take, length-drop}
+use Rattle.std.proofs.Common.{◌≡◌, ap, ◌∙◌, ℕ, ◌+◌, ◌-◌, ◌*◌, ◌/◌, ◌^◌, ◌≤◌, length, take, drop, min, sym, subst, arith, rules, Option, Some, IfSome, MatchOption, length-take, length-drop}
 use Rattle.std.specs.Prelude.{slice_range}
 use Rattle.typst_node.specs.Tree.{forest}
 use Rattle.typst_node.specs.Count.{count_of_all}
+use Rattle.typst_node.specs.Text.{text_of_all}
 use Rattle.typst_node.specs.Interval.{IsWithin}
 use Rattle.typst_node.specs.Window.{site_at, trees_before, trees_in, trees_behind, window_start, window_end, reach}
 use Rattle.typst_node.specs.WindowNumbers.{open_start, open_count}
 use Rattle.typst_node.specs.Renumbering.{AreIn}
 use Rattle.typst_node.proofs.Replaced.{old_within, site_above, site_ordered, site_below, put_window, new_before, new_behind, new_half, new_within}
+use Rattle.typst_node.proofs.Settled.{len_after}
+use Rattle.typst_node.proofs.Plain.{same_text_of_all}
 use Rattle.typst_node.proofs.node.InnerNode.replace_changed.Goals as goal
 
 if_some : (o : Option ℕ) (id : ℕ) (P : ℕ → Type 0) → o ≡ Some id → IfSome o P → P id
@@ -38,6 +41,19 @@ renumber-requires-clause-high c =
     c.put.new.self.children.items c.put.new.self.children.items c.requires.window c.requires.inside c.saturating_sub-start.ensures (omega arith) c.in_ok-put.ensures.ok in
     rw window (omega (arith, found.numbering.start, found.numbering.fits))
 
+pub overflow_sub-len-2 : goal.overflow_sub-len-2
+overflow_sub-len-2 c =
+    let change = rw c.deref.ensures.value at c.in-Some.ensures in
+    (len_after c.args.self.now.children.items c.args.others.items c.args.from c.args.to c.args.len.now c.in-Some.change.gone.len c.in-Some.change.added.len
+    c.requires.window c.requires.len change.gone.len change.added.len).0
+
+pub overflow_add-len : goal.overflow_add-len
+overflow_add-len c =
+    let change = rw c.deref.ensures.value at c.in-Some.ensures in
+    let after = len_after c.args.self.now.children.items c.args.others.items c.args.from c.args.to c.args.len.now c.in-Some.change.gone.len c.in-Some.change.added.len
+    c.requires.window c.requires.len change.gone.len change.added.len in
+    omega (arith, after.1, change.fits.0)
+
 pub returns-clause-made : goal.returns-clause-made
 returns-clause-made c =
     let found = rw c.deref-2.ensures.value at c.in-Some-window.ensures in
@@ -52,7 +68,12 @@ returns-clause-made c =
     let stops : stop ≡ c.args.from + length ys + min w (length xs - c.args.to) = omega arith in
     let new = c.renumber.new.self.children.items in
     let within = if_some c.args.id c.in-Some-id.id (λ file. IsWithin file (c.args.number + 1) c.args.self.now.upper (forest xs)) c.in-Some-id.is c.requires.within in
+    let put = c.put.new.self.children.items in
+    let change = rw c.deref.ensures.value at c.in-Some.ensures in
     record {
+      len =
+          let after = len_after xs ys c.args.from c.args.to c.args.len.now c.in-Some.change.gone.len c.in-Some.change.added.len c.requires.window c.requires.len change.gone.len change.added.len in
+          after.1 ∙ (ap (λ ts. length (text_of_all ts)) (sym c.in_ok-put.ensures.ok) ∙ ap length (sym (same_text_of_all new put c.renumber.ensures.plain)));
       measured = search rules;
       upper = search rules;
       warnings = search rules;

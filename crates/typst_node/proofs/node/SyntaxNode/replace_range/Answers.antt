@@ -17,14 +17,14 @@ use Rattle.typst_node.proofs.Trimmed.{trimmed_plain, fits_same}
 use Rattle.typst_node.proofs.Edited.{inner_kids, inner_forest, inner_bound, inner_number, inner_file, is_inner, if_numbered, inner_label, inner_edited, numbered_after, none_file, file_none, or_left}
 use Rattle.typst_node.proofs.node.SyntaxNode.replace_range.Goals as goal
 
-pub replace-result-requires-clause-inside : goal.replace-result-requires-clause-inside
-replace-result-requires-clause-inside c =
+pub replace-requires-clause-inside : goal.replace-requires-clause-inside
+replace-requires-clause-inside c =
     let kids : trees c.args.self.now.children ≡ c.deref_mut.result.now.children.items = inner_kids c.self.inside _ _ c.in-Inner.inner c.args.self.now c.in-Inner.is c.self.view_is ∙ sym (ap (λ b. b.children.items) c.deref_mut.ensures.value) in
     let inside = (c.requires.range (is_inner c.self.inside _ _ c.in-Inner.inner c.args.self.now c.in-Inner.is c.self.view_is)).1 in
     rw (← kids) inside
 
-pub replace-result-requires-clause-within : goal.replace-result-requires-clause-within
-replace-result-requires-clause-within c =
+pub replace-requires-clause-within : goal.replace-requires-clause-within
+replace-requires-clause-within c =
     let num : number c.args.self.now.label ≡ c.number-number.result = inner_number c.self.inside _ _ c.in-Inner.inner c.args.self.now c.in-Inner.is c.self.view_is ∙ sym c.number-number.ensures.is in
     let up : bound c.args.self.now.label ≡ c.deref_mut.result.now.upper = inner_bound c.self.inside _ _ c.in-Inner.inner c.args.self.now c.in-Inner.is c.self.view_is ∙ sym (ap (λ b. b.upper) c.deref_mut.ensures.value) in
     let kids : c.args.self.now.children ≡ forest c.deref_mut.result.now.children.items = inner_forest c.self.inside _ _ c.in-Inner.inner c.args.self.now c.in-Inner.is c.self.view_is ∙ sym (ap (λ b. forest b.children.items) c.deref_mut.ensures.value) in
@@ -45,10 +45,10 @@ returns-in-Inner-clause-at c =
     let b = c.args.range.end in
     let ys = c.args.replacement.items in
     let s = site_of a b ys t in
-    let result = c.replace-result.result in
-    let new = c.replace-result.new.self in
+    let result = c.replace.result in
+    let new = c.replace.new.self in
     let at : site_among (c.number-number.result + 1) c.deref_mut.result.now.upper a b ys c.deref_mut.result.now.children.items ≡ s = λ i. site_among (sym num i + 1) (sym up i) a b ys (sym kids i) in
-    let e : AreReplaced s c.id-id.result c.deref_mut.result.now new result = subst (λ (z : Site). AreReplaced z c.id-id.result c.deref_mut.result.now new result) at c.replace-result.ensures.made in
+    let e : AreReplaced s c.id-id.result c.deref_mut.result.now new c.replace.new.len result = subst (λ (z : Site). AreReplaced z c.id-id.result c.deref_mut.result.now new c.replace.new.len result) at c.replace.ensures.made in
     let range = c.requires.range inner in
     let alike : map plain (all_at s) ≡ map plain (spliced a b ys t) = trimmed_plain (trees t.children) ys a b range.0 range.1 in
     let label = inner_label c.self.inside _ _ c.in-Inner.inner t c.in-Inner.is c.self.view_is new
@@ -69,7 +69,7 @@ returns-in-Inner-clause-at c =
         λ h fits. e.overflow.0 h (fits_same (spliced a b ys t) (all_at s) (sym alike) fits),
         λ n. e.overflow.1 (λ fits. n (fits_same (all_at s) (spliced a b ys t) alike fits)),
       );
-      memory = c.replace-result.ensures.memory;
+      memory = c.replace.ensures.memory;
       ok = IfOk-weaker result _ _ (λ r h. coe 0 1 (i. IsRenumbering s r (sym (trees_of_forest new.children.items) i)) h) e.ok;
       label = label;
       plain = IfOk-weaker result _ _
