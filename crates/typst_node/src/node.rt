@@ -187,7 +187,8 @@ fn joined_len(nodes: &[SyntaxNode]) -> usize
 }
 
 impl InnerNode {
-    /// Where the text of a child ends, where all are `len` bytes long: it is read where it is kept whole, and else counted from the nearer end of the list.
+    /// Where the text of a child ends, of children that are `len` bytes long together: it is read where it is kept whole, and
+    /// else counted from the nearer end of the list.
     fn child_end(&self, len: usize, index: usize) -> usize
         requires len { len ≡ length (text_of_all self.now.children.items) }
         requires measured { IsMeasured self.now }
