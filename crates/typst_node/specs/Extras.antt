@@ -11,7 +11,7 @@ pub record ExtraParts : Type 0 where
   pub ends : Option (List ℕ)
   pub warnings : List Warning
 
--- both lists, where there need not be one
+-- what is kept, as it is seen: without a box for them there are no ends and no warnings
 abbrev pub extras_seen : Kept → ExtraParts
 extras_seen (Plain diagnosis) = record { diagnosis = diagnosis; ends = None; warnings = [] }
 extras_seen (Listed diagnosis lists) = record { diagnosis = diagnosis; ends = lists.value.ends; warnings = lists.value.warnings.items }
