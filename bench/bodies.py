@@ -1,16 +1,20 @@
 #!/usr/bin/env python3
 """Says of each wrong body of a crate whether the prover refuses it, many bodies in one check.
 
-    bench/bodies.py CRATE.. [--only WORD] [--each] [--jobs N]    judges the crates' edits, in wrong-bodies/
+    bench/bodies.py CRATE.. [--only WORD] [--each] [--jobs N]    judges the crates' edits
     bench/bodies.py --goals CRATE..                              the same, and by which goals of its functions each falls: their
                                                                  names tell the clause, as `returns-clause-looks`
     bench/bodies.py --beside LOG CRATE..                         the same, each crate once `rt ci`, which writes LOG, has
                                                                  proved those below it, over what it made of them
-    bench/bodies.py --apply                                      whether each edit of each crate can be placed; no check
+    bench/bodies.py --apply                                      whether each edit of each crate can be placed, and each public
+                                                                 function with clauses has one; no check
     bench/bodies.py --test                                       judges a small made-up crate whose verdicts are known
 
-An edit has lines `file: src/x.rt`, `old: TEXT` and `new: TEXT`, each text one line. The old text stands once in the file, or
-once in the function that a line `in: Type::method` before it names (`in: function`, `in: Trait for Type::method`).
+An edit has lines `file: src/node/x.rt`, `in: Type::method`, `old: TEXT` and `new: TEXT`, each text one line. The old text stands
+once in what the line before it names: `in: function`, `in: Type::method`, `in: Trait for Type::method` (`in: From<u8> for ..`
+where there are two), a constant (`in: LIST`), or by its name a type, of what it derives. An edit of src/node/x.rt stands in
+wrong-bodies/node/x/, under a name that no other one of the crate has. Those that `rt ci` tries besides stand right in must-fail/:
+there the old text stands once in the whole file, and the function's name behind `# in:`, since `rt` reads no line `in:`.
 
 A body is refused only by a failure of its own: a goal of that very function that `search` did not prove, or an error in its own
 proof files that isn't a name which the edit took away. What a function owes rests on the contracts of those that it calls, and
@@ -25,7 +29,21 @@ written at the method, or what the impl block says that a step of an iterator gi
 copy may not mean the same, as of another method of a trait or of a function in a cycle, no batch has two edits of a function.
 Each batch has a control, a right body, which must be proved: that of a function with no edit, or of a copy of one. What a batch
 doesn't decide is tried again, apart from all that the function may call, whose bodies are then as they are, and at last alone,
-with every body; what isn't decided then is told as not judged, which fails.
+with every body; what isn't decided then is told as not judged, which fails. A body that is let through takes one such further check
+at least, so a crate gets sixteen of them (`--further`), and what they leave open is told as not judged.
+
+Goals are named after the code, and an answer in proofs/ is used for the goal of its name alone. So a function with proof files may
+fail only because its body has another form: a branch, a loop or a `?` more or less, other words in a condition, or a call before
+another one of its name that an answer cites (`let all = list.len();` gives a call a name of its own). Such a failure counts only if a
+right body of that form is proved. The judge makes one: it puts the statement where the change begins into both branches of the new
+condition, behind a loop that does nothing, or behind a `?` that always goes on, or it writes its condition in another way. A line
+`right: TEXT` behind the `new:` line (`# right:` in must-fail/) names one in its place. They are tried in one more check, and only for
+bodies that would count as refused. Where none is proved, the wrong body is told as not judged.
+
+To be judged, a wrong body keeps the form: it changes a value, an argument or a bound. A threshold goes into no condition, since names
+of goals hold its words, but into a value that the next condition, call or `?` reads under its old name: before `if room < len` not
+`if len > 3_000 { return Err(AllocError); }`, but `let room = room.min(3_000);`. A body that keeps the form is refused also where it
+meets its contract for another reason than the answer gives, as by another number of the same range: no other answer is looked for.
 """
 import argparse
 import os
@@ -41,11 +59,14 @@ from collections import Counter
 from concurrent.futures import ThreadPoolExecutor
 from pathlib import Path
 
-from bodies_sources import Hunk, blanked, calls_itself, copied, edits_of, functions, in_copy, placed, reach, types
+from bodies_forms import change_of_form, right_bodies
+from bodies_public import without_body
+from bodies_sources import Edit, Hunk, blanked, calls_itself, copied, edit_files, edits_of, functions, in_copy, placed, reach, types
 
 TOP = Path(__file__).resolve().parent.parent
 SAID = re.compile(r"fn (\S+): (.*)")
 ERRORS = re.compile(r"^\./proofs/(\S+?\.antt):\d+:\d+: error: (.*)", re.M)
+STOPPED = re.compile(r"^(src/\S+?):(\d+):(\d+): error\[", re.M)  # an error before the prover is reached
 REACHED = re.compile(r"^(?:logic=(?:not-)?proved|only=\d)", re.M)
 GOAL = "`search` did not prove `"
 NAMED = re.compile(r"`search` did not prove `([^`]+)`|error: `([^`]+)`")  # a goal, or a declaration of a proof file
@@ -70,10 +91,15 @@ judged = unnamed
 """
 
 
+def lines_of(top):
+    """What each crate of crates.txt is, as `typst_c staticlib`, and what it uses."""
+    lines = [line.partition("#")[0].partition(":") for line in (top / "crates.txt").read_text().split("\n")]
+    return {name.split()[0]: (name.strip(), uses.split()) for name, _, uses in lines if name.strip()}
+
+
 def needs_of(top):
     """What each crate of crates.txt uses."""
-    lines = [line.partition("#")[0].partition(":") for line in (top / "crates.txt").read_text().split("\n")]
-    return {name.split()[0]: uses.split() for name, _, uses in lines if name.strip()}
+    return {name: uses for name, (_, uses) in lines_of(top).items()}
 
 
 def below(name, needs):
@@ -84,6 +110,16 @@ def below(name, needs):
         found |= new
         todo += new
     return found
+
+
+def stamp(place, names):
+    """Marks the libraries as built of what stands beside them, as `rt check` marks its own: `rt ci` has just made them."""
+    sys.path.insert(0, str(Path(shutil.which("rt")).resolve().parent))
+    import rtlib  # of the toolchain
+
+    for it in rtlib.crates_below(str(place)):
+        if it.name in names:
+            Path(it.folder, "out/rlib/stamp").write_text(it.stamp())
 
 
 class Room:
@@ -99,21 +135,12 @@ class Room:
             shutil.copytree(top / "crates" / it, Path(place) / "crates" / it, ignore=leaves_out)
             if proved:
                 shutil.copytree(proved.place / it, Path(place) / "crates" / it / "out/rlib")
-        listed = [f"{it}: {' '.join(needs[it])}\n" for it in needs if it in kept | {name}]
+        listed = [f"{what}: {' '.join(uses)}\n" for it, (what, uses) in lines_of(top).items() if it in kept | {name}]
         (Path(place) / "crates.txt").write_text("".join(listed))
         shutil.copy(top / "HANDLES", place)
         if proved:
             shutil.copytree(self.source / "src", self.crate / "src")  # rt reads no crate without one
-            self.stamp(place, kept)
-
-    def stamp(self, place, names):
-        """Marks the libraries as built of what stands beside them, as `rt check` marks its own: `rt ci` has just made them."""
-        sys.path.insert(0, str(Path(shutil.which("rt")).resolve().parent))
-        import rtlib  # of the toolchain
-
-        for it in rtlib.crates_below(str(place)):
-            if it.name in names:
-                Path(it.folder, "out/rlib/stamp").write_text(it.stamp())
+            stamp(place, kept)
 
     def folder(self, path):
         """The folder of the proof of the function with this path."""
@@ -440,7 +467,8 @@ class Judge:
         return next((it for it in (*REFUSED, "names", None) if it in seen), "proved")
 
     def fallen(self, edit, said, errors, shared):
-        """The goals of the edit's functions that weren't proved, and the declarations of their proofs that were refused."""
+        """The goals of the edit's functions that weren't proved, and the declarations of their proofs that were refused, but for those that
+        miss a name which the edit took away."""
         lines = []
         for it in edit.functions:
             for path in it.paths(self.room.crate.name, said):
@@ -448,7 +476,8 @@ class Judge:
                 lines += [line for other, line in own_said.items() if is_part(other, path)]
                 own = "/".join(path.split("::")[1:]).replace("/+", "/")
                 for file, text in own_errors:
-                    if file.rpartition("/")[0].replace("/+", "/") == own or it.cycle and f"/+{it.cycle}/" in f"/{file}":
+                    is_own = file.rpartition("/")[0].replace("/+", "/") == own or it.cycle and f"/+{it.cycle}/" in f"/{file}"
+                    if is_own and not VANISHED.search(text):
                         lines.append(f"error: {text}")
         return sorted({goal or declaration for line in lines for goal, declaration in NAMED.findall(line)})
 
@@ -472,11 +501,15 @@ class Judge:
             if outcome(path, it.cycle if it else "", said, errors) in REFUSED:
                 self.bad.append(f"{name}: {path} fails of its own, and no edit is in it: {said[path][:300]}")
 
-    def judge(self, each):
-        """Judges every edit."""
+    def judge(self, each, further):
+        """Judges every edit, with so many further checks for what the first ones leave open, or each edit in a check of its own."""
         todo = [([it], 2) for it in self.edits] if each else [(it, 0) for it in self.batches(self.edits, False)]
         while todo:
             batch, tries = todo.pop(0)
+            further -= bool(tries) and not each
+            if further < 0:
+                self.leave(batch)
+                continue
             batch, waiting, control = self.with_control(batch)
             if waiting:
                 todo.append((waiting, tries))
@@ -494,6 +527,63 @@ class Judge:
                 todo.append((open_ones, 2))
             else:
                 self.give_up(open_ones[0], ways.get(open_ones[0]))
+
+    def leave(self, batch):
+        """Tells of bodies that may be let through, and that no further check is made for."""
+        for edit in batch:
+            self.verdicts[edit.name] = "not judged"
+            self.bad.append(f"{self.room.crate.name}/{edit.name}: NOT JUDGED: no failure yet, and no further check is made: try it alone")
+
+    def look_at_forms(self):
+        """Takes back the verdict on each refused body that gives a function whose proof has files another form, unless a right body of
+        that form is proved."""
+        source, right = self.room.source, {}
+        for edit in self.edits:
+            for it in edit.functions if self.verdicts.get(edit.name) in REFUSED else ():
+                if it.name and it.written_proof(source / "proofs") and change_of_form(source, it, edit.hunks):
+                    right[edit, it] = [Edit("", hunks, frozenset({it})) for hunks in right_bodies(source, it, edit)]
+        proved = self.proved_of({it for made in right.values() for it in made})
+        for edit, function in sorted((it for it in right if not proved & {*right[it]}), key=lambda it: it[0].name):
+            if self.verdicts[edit.name] in REFUSED:
+                self.verdicts[edit.name] = "not judged"
+                label = f"{function.subject}::{function.name}".removeprefix("::")
+                self.bad.append(
+                    f"{self.room.crate.name}/{edit.name}: NOT JUDGED: it gives {label} another form, in which no right body was proved"
+                )
+
+    def proved_of(self, right):
+        """Which of these right bodies are proved, or are left with nothing to prove where a mark stands beside the proof."""
+        found, todo = set(), self.batches(sorted(right, key=lambda it: [(h.file, h.start, h.new) for h in it.hunks]), False)
+        while todo:
+            batch, waiting, control = self.with_control(todo.pop(0))
+            todo += [waiting] if waiting else []
+            copies = self.right_copies(batch)
+            said, errors, _ = self.checked(batch, copies, control, 0)
+            path = control and control.path(self.room.crate.name, said)
+            if not said and len(batch) > 1:
+                broken = self.broken(batch)
+                todo += [[it for it in batch if it not in broken]] if broken else [batch[: len(batch) // 2], batch[len(batch) // 2 :]]
+            elif path and said[path].startswith("proved"):
+                doubtful = {it for it, (made, _) in copies.items() if self.fails(made, said, errors)}
+                found |= {it.copied or it for it in batch if it.original not in doubtful and self.holds(it, said, errors)}
+            self.say(f"  {self.room.crate.name}: right bodies of the forms of others: {len(batch)}, so far {len(found)} proved")
+        return found
+
+    def broken(self, batch):
+        """The edits of the batch at whose places in the changed files the check told of errors before it reached the prover."""
+        found = set()
+        for file, line, column in STOPPED.findall(self.room.text):
+            text = (self.room.crate / file).read_text()
+            at = sum(len(it) + 1 for it in text.split("\n")[: int(line) - 1]) + int(column) - 1
+            for it in batch:
+                news = [hunk.new for hunk in it.hunks if hunk.file == file]
+                starts = [(place.start(), new) for new in news for place in re.finditer(re.escape(new), text)]
+                found |= {it} if any(start <= at < start + len(new) for start, new in starts) else set()
+        return found
+
+    def holds(self, edit, said, errors):
+        """Whether the check speaks of the functions of the edit, and of no failure of theirs."""
+        return not any(self.fails(it, said, errors) for it in edit.functions)
 
     def give_up(self, edit, way):
         name = f"{self.room.crate.name}/{edit.name}"
@@ -536,7 +626,8 @@ def judged(top, name, given, say, proved=None, nice=0):
     with tempfile.TemporaryDirectory(prefix="bodies-") as place:
         room = Room(top, name, place, given.jobs, proved, nice)
         judge = Judge(room, say, given.only, bad)
-        judge.judge(given.each)
+        judge.judge(given.each, given.further)
+        judge.look_at_forms()
         bad += [f"{name}/{it}: NOT REFUSED" for it, way in judge.verdicts.items() if way == "not refused"]
         if given.goals:
             say("\n".join(f"  {name}/{it}: falls at {', '.join(judge.goals[it])}" for it in sorted(judge.goals)))
@@ -545,10 +636,11 @@ def judged(top, name, given, say, proved=None, nice=0):
 
 
 def report(name, given, proved, nice):
-    """Judges a crate, says what came out, and returns whether all is well."""
+    """Judges a crate, says what came out, and returns what isn't well."""
     if proved and not proved.has(below(name, needs_of(TOP))):
-        print(f"{name}: not judged: what it stands on isn't proved", flush=True)
-        return False
+        line = f"{name}: not judged: what it stands on isn't proved"
+        print(line, flush=True)
+        return [line]
     began = time.monotonic()
     verdicts, bad, checks = judged(TOP, name, given, lambda text: print(text, flush=True), proved, nice)
     ways = [*verdicts.values()]
@@ -558,31 +650,38 @@ def report(name, given, proved, nice):
         f"{ways.count('not judged')} not judged; {checks} checks, {time.monotonic() - began:.0f} seconds"
     )
     print("\n".join(bad), flush=True)
-    return bool(verdicts) and len(bad) == 1
+    return bad[:-1] if verdicts else [f"{name}: it has no wrong body"]
 
 
 def judge_all(given):
     """Judges the crates, those with the most edits first; returns whether all is well.
 
     The first takes longest, and the others give way to it, so that it doesn't stand alone in the end."""
-    names = sorted(given.crates, key=lambda it: -len([*(TOP / "crates" / it).glob("wrong-bodies/*.edit")]))
+    names = sorted(given.crates, key=lambda it: -len(edit_files(TOP / "crates" / it)))
     with tempfile.TemporaryDirectory(prefix="proved-") as place, ThreadPoolExecutor(given.lanes) as pool:
         proved = Proved(given.beside, place) if given.beside else None
-        well = [*pool.map(lambda name: report(name, given, proved, 0 if name == names[0] else 9), names)]
+        bad = [*pool.map(lambda name: report(name, given, proved, 0 if name == names[0] else 9), names)]
         if proved:
             proved.is_over = True
     used = resource.getrusage(resource.RUSAGE_CHILDREN)
-    print(f"wrong bodies: {used.ru_utime + used.ru_stime:.0f} processor seconds, {well.count(False)} of {len(well)} crates not well")
-    return bool(well) and all(well)
+    for line in [line for lines in bad for line in lines]:
+        print(f"not well: {line}")
+    ill = sum(bool(it) for it in bad)
+    print(f"wrong bodies: {used.ru_utime + used.ru_stime:.0f} processor seconds, {ill} of {len(bad)} crates not well")
+    return bool(bad) and not ill
 
 
 def apply_all():
-    """Says whether each edit of each crate can be placed."""
-    bad, count = [], 0
+    """Says whether each edit of each crate can be placed, and whether each public function with clauses is changed by one."""
+    bad, missing, count = [], [], 0
     for crate in sorted((TOP / "crates").iterdir()):
-        count += len(edits_of(crate, functions(crate), bad))
-    print("\n".join([*bad, f"{count} wrong bodies can be placed, {len(bad)} can't"]))
-    return not bad
+        all_functions = functions(crate)
+        edits = edits_of(crate, all_functions, bad)
+        count += len(edits)
+        if edits:
+            missing += without_body(crate, all_functions, edits)
+    print("\n".join([*bad, *missing, f"{count} wrong bodies can be placed, {len(bad)} can't; {len(missing)} public functions have none"]))
+    return not bad and not missing
 
 
 def main():
@@ -591,6 +690,7 @@ def main():
     words.add_argument("--only", default="", help="the edits alone whose names hold this word, or one of these, parted by commas")
     words.add_argument("--beside", metavar="LOG", default="")
     words.add_argument("--jobs", type=int, default=2, help="how many jobs a check gets at most: one where no processor is idle")
+    words.add_argument("--further", type=int, default=16, help="how many further checks a crate gets for what the first ones leave open")
     words.add_argument("--lanes", type=int, default=1, help="how many crates are judged at a time")
     for flag in ("apply", "each", "goals", "test"):
         words.add_argument(f"--{flag}", action="store_true")

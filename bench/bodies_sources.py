@@ -36,14 +36,16 @@ class Function:
     is_own: bool = False  # a trait gives it its body
 
     def is_named(self, label):
-        """Whether an edit's `in:` line means it: `function`, `Type::function` or `Trait for Type::function`."""
+        """Whether an edit's `in:` line means it: `function`, `Type::function`, `Trait for Type::function`, with what the trait is given
+        or without it, or of what a type derives `Type`."""
         trait, _, rest = label.rpartition(" for ")
         subject, _, name = rest.rpartition("::")
-        return (
-            self.name == name
-            and self.subject.split("::")[-1] == subject
-            and trait in ("", re.sub("<.*", "", self.trait).split("::")[-1])
-        )
+        if not self.name:
+            return label == self.subject
+        of_trait, _, given = self.trait.partition("<")
+        of_trait = of_trait.split("::")[-1]
+        fits = trait in ("", of_trait, f"{of_trait}<{given}")
+        return self.name == name and self.subject.split("::")[-1] == subject and fits
 
     def holds(self, hunk):
         return hunk.file == self.file and self.start < hunk.end and hunk.start < self.end
@@ -57,6 +59,11 @@ class Function:
     def can_be_emptied(self):
         """Whether `unreachable!()` can stand for its body: it is no constant, no part of a cycle and no trait's own."""
         return bool(self.name) and not self.cycle and not self.name.isupper() and not self.is_own and "tests" not in self.modules
+
+    def written_proof(self, proofs):
+        """What of its proof, or of that of its cycle, is written by hand."""
+        folders = [*self.proof_folders(proofs), *(proofs.glob(f"**/+{self.cycle}") if self.cycle else ())]
+        return "".join(file.read_text() for folder in folders for file in folder.glob("*.antt"))
 
     def proof_folders(self, proofs):
         """The folders below proofs/ that are this function's alone."""
@@ -96,7 +103,9 @@ class Function:
             return path if path in known else None
         of_trait, _, given = self.trait.partition("<")
         head = self.subject.replace("::", "+") + of_trait.split("::")[-1]
-        for word in (head, head + given.rstrip(">").partition("<")[0]):
+        written = given.rstrip(">").partition("<")[0]
+        joined = "".join(part[:1].upper() + part[1:] for part in written.split("::"))  # `io::Error` is told as `IoError`
+        for word in (head, head + written, head + joined):
             fits = [it for it in known if it.split("::")[-2:] == [word, self.name]]
             near = [it for it in fits if tuple(it.split("::")[1:-2]) == self.modules]
             if len(fits) == 1 or len(near) == 1:
@@ -119,6 +128,7 @@ class Edit:
     name: str
     hunks: tuple
     functions: frozenset  # those that it changes
+    right: tuple = ()  # hunks of a right body of the same form, if it names one
     copied: "Edit | None" = None  # the edit that stands here in a copy of its function
     original: Function | None = None  # the function of that edit
 
@@ -173,7 +183,7 @@ def in_copy(crate, edit, name):
         return None
     made, hunk = copied(crate, function, name, edit.hunks)
     is_of_trait = function.trait and re.search(r"\bSelf::[A-Z]", hunk.new)  # a type of the trait's
-    return None if is_of_trait else Edit(edit.name, (hunk,), frozenset({made}), edit, function)
+    return None if is_of_trait else Edit(edit.name, (hunk,), frozenset({made}), copied=edit, original=function)
 
 
 @cache
@@ -240,19 +250,20 @@ def types(crate):
     return found
 
 
-def pairs(text):
-    """The changes that an edit's lines name: file, function (empty: the whole file), old text, new text."""
+def pairs(text, kind="new"):
+    """The changes that an edit's lines name: file, function, old text, new text, or where that is asked for right text of its form."""
     found, file, inside, old = [], "", "", ""
     for line in text.split("\n"):
         word, _, rest = line.partition(":")
         rest = rest.removeprefix(" ")
+        word = word.removeprefix("# ")
         if word == "file":
             file, inside = rest.strip(), ""
         elif word == "in":
             inside = rest.strip()
         elif word == "old":
             old = rest
-        elif word == "new":
+        elif word == kind:
             found.append((file, inside, old, rest))
     return found
 
@@ -265,8 +276,8 @@ def placed(text, hunks):
 
 
 def in_function(crate, all_functions, file, label, old, new):
-    """The hunk of a pair that names its function, in which the old text must stand once."""
-    fits = [it for it in all_functions if it.file == file and it.is_named(label)]
+    """The hunk of a pair that names its function, or a constant or a type, in which the old text must stand once."""
+    fits = [it for it in [*all_functions, *constants(crate)] if it.file == file and it.is_named(label)]
     if len(fits) != 1:
         raise ValueError(f"{len(fits)} functions of {file} are named {label}")
     text = (crate / file).read_text()[fits[0].start : fits[0].end]
@@ -346,21 +357,41 @@ def touched(crate, hunk, all_functions):
     return [it for it in all_functions if any(names(crate, it, constant) for constant in changed)]
 
 
+def edit_files(crate):
+    """The files of the crate's edits."""
+    return [*sorted((crate / "must-fail").glob("*.edit")), *sorted((crate / "wrong-bodies").rglob("*.edit"))]
+
+
+def look_at_place(crate, file, changes):
+    """Raises an error unless the edit of this file has changes, each names its function, and the file stands where it should."""
+    if not changes:
+        raise ValueError("it has no pair of an old and a new line")
+    for source, label, _, _ in changes:
+        if not label:
+            raise ValueError(f"a pair for {source} names no function by an `in:` line")
+    home = crate / "wrong-bodies" / Path(changes[0][0]).relative_to("src").with_suffix("")
+    if file.parent not in (home, crate / "must-fail"):
+        raise ValueError(f"it changes {changes[0][0]} first, so it belongs into {home.relative_to(crate)}")
+
+
 def edits_of(crate, all_functions, bad, only=""):
     """The crate's edits. What cannot be placed is told in bad."""
-    found = []
-    for file in sorted((crate / "wrong-bodies").glob("*.edit")):
+    found, names_seen = [], set()
+    for file in edit_files(crate):
         if not any(word in file.stem for word in only.split(",")):
             continue
         try:
+            if file.stem in names_seen:
+                raise ValueError("another edit of the crate has this name")
+            names_seen.add(file.stem)
             changes = pairs(file.read_text())
-            if not changes:
-                raise ValueError("it has no pair of an old and a new line")
+            look_at_place(crate, file, changes)
             hunks = hunks_of(crate, all_functions, changes)
             changed = frozenset(it for hunk in hunks for it in touched(crate, hunk, all_functions))
             if not changed:
                 raise ValueError("it changes no function")
-            found.append(Edit(file.stem, hunks, changed))
+            right = hunks_of(crate, all_functions, pairs(file.read_text(), "right"))
+            found.append(Edit(file.stem, hunks, changed, right))
         except (ValueError, OSError) as error:
             bad.append(f"{crate.name}/{file.stem}: cannot be placed: {error}")
     return found

@@ -6,6 +6,7 @@ from bodies import TOP, judged
 
 LIB = """#![tactic(auto)]
 
+ghost use Rattle.made_up.specs.Same.{same};
 ghost use Rattle.std.specs.Prelude.{◌≡◌, ◌↔◌, ◌%◌, IsTrue, Some};
 
 pub struct Dot;
@@ -109,6 +110,21 @@ pub fn kept() -> u8
     ten
 }
 
+pub fn passed(n: u8, most: u8) -> u8
+    ensures { result ≡ same n }
+{
+    let it = n;
+    it
+}
+
+pub fn cited(n: u8) -> u8
+    ensures { result ≡ same 1 }
+{
+    let before = n;
+    let _ = before;
+    one()
+}
+
 pub fn down(n: u8) -> u8
     ensures { result ≡ 0 }
 {
@@ -158,6 +174,31 @@ pub returns : goal.returns
 returns c = refl
 """
 
+PASSED = """use Rattle.made_up.specs.Same.{same}
+use Rattle.std.proofs.Common.{refl}
+use Rattle.made_up.proofs.passed.Goals as goal
+
+pub returns : goal.returns
+unfolding same
+returns c = refl
+"""
+
+CITED = """use Rattle.made_up.specs.Same.{same}
+use Rattle.made_up.proofs.cited.Goals as goal
+
+pub returns : goal.returns
+unfolding same
+returns c = c.one.ensures
+"""
+
+# A definition that the prover doesn't look into: what cites it wants an answer.
+SAME = """-- the number itself
+use Rattle.std.specs.Prelude.{ℕ}
+
+unfoldable pub same : ℕ → ℕ
+same n = n
+"""
+
 MEASURES = """use Rattle.made_up.proofs.+parity.Given as goal
 
 abbrev pub decreases-is_even : goal.decreases-is_even
@@ -191,7 +232,11 @@ decreases-down l = l.n
 
 FILES = {
     "src/lib.rt": LIB,
+    "specs/Lib.antt": "pub mod Same\n",
+    "specs/Same.antt": SAME,
     "proofs/Lib.antt": "",
+    "proofs/passed/Answers.antt": PASSED,
+    "proofs/cited/Answers.antt": CITED,
     "proofs/answered/Answers.antt": ANSWER.replace("NAME", "answered"),
     "proofs/kept/Answers.antt": ANSWER.replace("NAME", "kept"),
     "proofs/renamed/Answers.antt": ANSWER.replace("NAME", "renamed"),
@@ -200,22 +245,28 @@ FILES = {
     "proofs/+down/Invariants.antt": MEASURE,
 }
 
-# name: function (or none), old text, new text, verdict
+# name: function, old text, new text, verdict
 EDITS = {
-    "a_wrong_callee": ("", "let unit = 1;", "let unit = 0;", "goal"),
-    "a_right_caller_of_a_wrong_one": ("", "one() + one()", "let unit = one(); unit + unit", "not refused"),
-    "a_wrong_caller_of_a_wrong_one": ("", "two() + one()", "two() + two()", "goal"),
-    "an_edit": ("", "let it = 3;", "let it = 4;", "goal"),
-    "its_inverse_elsewhere": ("", "let it = 4;", "let it = 3;", "goal"),
-    "a_right_body_of_a_like_name": ("", "let dot = 5;", "let dot = 2 + 3;", "not refused"),
-    "a_wrong_body_of_a_like_name": ("", "let other = 6;", "let other = 5;", "goal"),
-    "what_no_contract_forbids": ("", "let any = 7;", "let any = 8;", "not refused"),
-    "a_wrong_answer_by_a_proof_file": ("", "let nine = 9;", "let nine = 8;", "proof file"),
-    "another_wrong_answer_by_a_proof_file": ("", "nine + 0", "nine - 1", "proof file"),
-    "a_right_answer_by_a_proof_file": ("", "let ten = 10;", "let ten = 5 + 5;", "not refused"),
-    "another_right_answer_by_a_proof_file": ("", "let ten = 10;", "let ten = 2 + 8;", "not refused"),
+    "a_wrong_callee": ("one", "let unit = 1;", "let unit = 0;", "goal"),
+    "a_right_caller_of_a_wrong_one": ("two", "one() + one()", "let unit = one(); unit + unit", "not refused"),
+    "a_wrong_caller_of_a_wrong_one": ("three", "two() + one()", "two() + two()", "goal"),
+    "an_edit": ("lower", "let it = 3;", "let it = 4;", "goal"),
+    "its_inverse_elsewhere": ("upper", "let it = 4;", "let it = 3;", "goal"),
+    "a_right_body_of_a_like_name": ("Dot::size", "let dot = 5;", "let dot = 2 + 3;", "not refused"),
+    "a_wrong_body_of_a_like_name": ("OtherDot::size", "let other = 6;", "let other = 5;", "goal"),
+    "what_no_contract_forbids": ("loose", "let any = 7;", "let any = 8;", "not refused"),
+    "a_wrong_answer_by_a_proof_file": ("answered", "let nine = 9;", "let nine = 8;", "proof file"),
+    "another_wrong_answer_by_a_proof_file": ("answered", "nine + 0", "nine - 1", "proof file"),
+    "a_right_answer_by_a_proof_file": ("kept", "let ten = 10;", "let ten = 5 + 5;", "not refused"),
+    "another_right_answer_by_a_proof_file": ("kept", "let ten = 10;", "let ten = 2 + 8;", "not refused"),
     "a_wrong_body_that_calls_itself": ("down", "{ 0 }", "{ 1 }", "goal"),
     "a_right_body_without_the_goal_of_a_proof": ("renamed", "8 + 0", "if is_high { 8 } else { 8 }", "not judged"),
+    "a_right_body_with_a_branch": ("passed", "let it = n;", "let it = if n > 9 { n } else { n };", "not judged"),
+    "a_right_body_with_a_way_out": ("passed", "let it = n;", "let it = n; if it > 9 { return it; }", "not judged"),
+    "a_wrong_body_with_a_branch": ("passed", "let it = n;", "let it = if n > 9 { 9 } else { n };", "not judged"),
+    "a_wrong_body_with_a_loop": ("passed", "let it = n;", "for _ in 0..most {} let it = most;", "proof file"),
+    "a_right_body_in_which_a_call_takes_a_name": ("cited", "let before = n;", "let before = n; one();", "not judged"),
+    "a_right_body_in_which_a_call_has_its_own": ("cited", "let before = n;", "let before = one();", "not refused"),
     "a_right_method_of_a_trait": ("Counted for Dot::count", "let seven = 7;", "let seven = 3 + 4;", "not refused"),
     "a_wrong_method_of_a_trait": ("Counted for Dot::count", "let seven = 7;", "let seven = 6;", "goal"),
     "a_right_step": ("Iterator for Fives::next", "let five = 5;", "let five = 2 + 3;", "not refused"),
@@ -230,8 +281,15 @@ EDITS = {
 
 # Of two bodies one stops the check of both.
 STOPPING = {
-    "what_compiles": ("", "let it = 3;", "let it = 4;", "goal"),
-    "what_does_not_compile": ("", "let any = 7;", "let any = nothing;", "not judged"),
+    "what_compiles": ("lower", "let it = 3;", "let it = 4;", "goal"),
+    "what_does_not_compile": ("loose", "let any = 7;", "let any = nothing;", "not judged"),
+}
+
+# Of bodies that are let through, one further check tells one.
+LET_THROUGH = {
+    "another_value": ("loose", "let any = 7;", "let any = 8;", "not refused"),
+    "one_value_more": ("loose", "let any = 7;", "let any = 9;", "not judged"),
+    "yet_another_value": ("loose", "let any = 7;", "let any = 10;", "not judged"),
 }
 
 
@@ -241,10 +299,10 @@ def written(top, edits):
     for name, text in FILES.items():
         (crate / name).parent.mkdir(parents=True, exist_ok=True)
         (crate / name).write_text(text)
-    (crate / "wrong-bodies").mkdir()
+    (crate / "wrong-bodies/lib").mkdir(parents=True)
     for name, (function, old, new, _) in edits.items():
-        inside = f"in: {function}\n" * bool(function)
-        (crate / "wrong-bodies" / f"{name}.edit").write_text(f"file: src/lib.rt\n{inside}old: {old}\nnew: {new}\n")
+        text = f"file: src/lib.rt\nin: {function}\nold: {old}\nnew: {new}\n"
+        (crate / "wrong-bodies/lib" / f"{name}.edit").write_text(text)
     (top / "crates.txt").write_text("made_up:\n")
     (top / "HANDLES").write_text((TOP / "HANDLES").read_text())
 
@@ -252,7 +310,8 @@ def written(top, edits):
 def tested(given):
     """Judges the made-up crate, and returns whether each verdict is the known one."""
     count, all_checks, wrong = 0, 0, []
-    for edits in (EDITS, STOPPING):
+    for edits, further in ((EDITS, given.further), (STOPPING, given.further), (LET_THROUGH, 1)):
+        given.further = further
         with tempfile.TemporaryDirectory(prefix="made-up-") as place:
             written(Path(place), edits)
             verdicts, bad, checks = judged(Path(place), "made_up", given, lambda text: print(text, flush=True))

@@ -1,11 +1,12 @@
 #!/usr/bin/env python3
-"""Looks for the depth of a chain of nodes, one in another, that each call reaches in a stack of 8 MB, and prints a table.
+"""Looks for the depth of a chain of nodes that each call reaches in a stack of 8 MB, and prints a table.
 
     bench/depth.py              the rows of the table in docs/MEMORY.md
     bench/depth.py CALL ..      those of these calls
 
-It runs the proved builds of crates/typst_deep and, for `show`, of the script program (`rt run` in the crate's folder makes each),
-once for each depth that it tries, and halves between one that a call returns from and one at which the process ends by a signal.
+Each node of the chain is inside the one before. The script runs the proved builds of crates/typst_deep and, for `show`,
+of the script program (`rt run` in the crate's folder makes each), once for each depth that it tries. It halves the
+distance between a depth that a call returns from and one at which a signal ends the process.
 """
 import resource
 import subprocess

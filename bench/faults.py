@@ -1,21 +1,21 @@
 #!/usr/bin/env python3
-"""Has the program's reads and writes fail, and compares what it then says and what it wrote before.
+"""Makes the program's reads and writes fail, and compares what it says then and what it wrote before.
 
     bench/faults.py
 
-runs the proved build of the script program, which `rt ci` makes, and `rt run` in crates/typst_tree_main. A script of edits, and
-one that is longer than the buffers, are run
+runs the proved build of the script program, which `rt ci` and `rt run` in crates/typst_tree_main make. It runs a script
+of edits, and one that is longer than the buffers,
 
-- with an input that fails after so many bytes, for each number of them (in the long script for those round the ends of buffers
-  and some others). It fails once, and says then that it has ended;
-- with an output that takes so many bytes and then fails, for each number of them (in the long answer for some, as above), so the
-  last write that does anything takes a part of what it is given;
+- with an input that fails after N bytes, for each N (in the long script for each N near the end of a buffer, and for
+  some others). It fails once, and then says that it has ended;
+- with an output that takes N bytes and then fails, for each N (in the long answer for some, as above). So the last
+  write that does anything takes a part of what it is given;
 - with one byte for each read, which must give the whole answer;
 - with a closed input, a folder as input, a closed output, a pipe that nobody reads, and an output that takes nothing.
 
-Where a read or a write fails the program must say `cannot read` or `cannot write`, in one line, and end with status 1, and what
-it wrote must be a beginning of the whole answer: of an output that takes so many bytes, all of them. `./run` on a folder must
-say so in one line.
+Where a read or a write fails, the program must say `cannot read` or `cannot write` in one line, and end with status 1.
+What it wrote must be a beginning of the whole answer. An output that takes N bytes must get all of them. `./run` on a
+folder, or on a file that isn't there, must say so in one line.
 """
 import os
 import resource
@@ -183,6 +183,8 @@ def spoiled():
         os.close(folder)
         ran = subprocess.run([TOP / "run", room], capture_output=True, check=False)
         wrong += told("./run on a folder", ran, f"cannot read: {room} is a folder")
+        ran = subprocess.run([TOP / "run", Path(room, "none")], capture_output=True, check=False)
+        wrong += told("./run on no file", ran, f"cannot read: there is no file {room}/none")
     return wrong
 
 

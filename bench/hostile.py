@@ -1,15 +1,20 @@
 #!/usr/bin/env python3
-"""Refuses each request for memory of each call in turn, and compares how the calls end with the table of docs/MEMORY.md.
+"""Refuses each request for memory of each call in turn, and compares how calls end with the table of docs/MEMORY.md.
 
-    bench/hostile.py             compares, and fails where anything differs
+    bench/hostile.py             compares, and fails if anything differs
     bench/hostile.py --found     prints the rows as they are found, with no comparison
 
-The program typst_hostile builds what a call needs, makes K requests of its own and then the call. `rt try --fail-alloc N`
-refuses the Nth request of a run. The first round asks, by the word `spare`, how many requests were granted before the
-refused one: with K that number, the refusal hits the call's first request, with one less its second, and so on. So the second
-round goes down from one more, which still ends before the call, past all requests of the call to passes in which none of them
-is refused, which must be whole. A pass in which memory was refused must say so, by the errors of the table, and leave what was
-lent as it was, or be whole where the call can do without, as a list that grows by less than it asked for first.
+The program typst_hostile builds what a call needs, makes K requests of its own, and then makes the call.
+`rt try --fail-alloc N` refuses the Nth request of a run.
+
+The first round asks, by the word `spare`, how many requests were granted before the refused one. If K is that number,
+the refusal hits the call's first request. If K is one less, it hits the second request, and so on. The second round
+begins with K one more than that number, where the run still ends before the call. It goes down past all requests of the
+call, to passes in which none of them is refused. These passes must be whole.
+
+A pass in which memory was refused must say so by the errors of the table, and leave what the call borrowed as it was.
+It may also be whole, where the call can do without the memory. A list that grows by less than it first asked for is
+such a case.
 """
 import re
 import subprocess
@@ -63,8 +68,10 @@ def run(asked):
 
 
 def spare_requests(names):
+    """How many requests are granted before the refused one in the place of each call. A call that can't be made has none."""
     ends = run([(name, "spare") for name in names])
-    return {name: int(ends[name, "spare"]) for name in names}
+    told = {name: ends[name, "spare"] for name in names}
+    return {name: int(end) for name, end in told.items() if end.isdigit()}
 
 
 def digits(count):
@@ -84,7 +91,7 @@ def judged(name, ends, first, passes):
     if ends[name, digits(first + 1)] != "early":
         wrong.append(f"{name}: one request more should hit none of the call's, and ends {ends[name, digits(first + 1)]}")
     if set(words[-PAST:]) != {"whole"}:
-        wrong.append(f"{name}: not whole in the last passes, but {words[-PAST:]}")
+        wrong.append(f"{name}: with ample memory, in the last passes, it ends {words[-PAST:]}, and not whole")
     for at, word in enumerate(words):
         if word not in ENDS:
             wrong.append(f"{name}: request {at + 1} refused, and the call ends {word}")
@@ -97,7 +104,9 @@ def main():
     names, found = calls(), "--found" in sys.argv
     told = {} if found else table()
     wrong = [] if found else [f"{it}: only in {TABLE} or only in {CRATE}/stdin" for it in sorted(set(names) ^ set(told))]
-    first = spare_requests([name for name in names if found or name in told])
+    asked = [name for name in names if found or name in told]
+    first = spare_requests(asked)
+    wrong += [f"{it}: with ample memory it isn't made, since what it needs can't be built" for it in asked if it not in first]
     passes = {name: MOST if found else sum(told[name].values()) + PAST for name in first}
     ends = ends_of(first, passes)
     count = 0

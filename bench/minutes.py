@@ -1,10 +1,11 @@
 #!/usr/bin/env python3
-"""Runs a command, and tells where the prover's processor time went, by crate and by part.
+"""Runs a command, and says where the prover's processor time went, by crate and by part.
 
     bench/minutes.py ./gate
 
-Each second it reads what every `rattle` process has used so far, so a part that lasts less isn't seen. A process is told by
-the folder in which it runs: a crate's own (its proof, or with --test that of its tests), or one of bench/bodies.py.
+Each second it reads what every `rattle` process has used so far. So it doesn't see a part that lasts less than a
+second. The folder in which a process runs says what it proves. It is a crate's own folder (the crate's proof, or with
+--test that of its tests) or one of bench/bodies.py.
 """
 import os
 import subprocess

@@ -11,8 +11,10 @@ use std::ops::Range;
 use typst_tree::session::{Reply, Request};
 use typst_tree::{FileId, NumberedTree, Span, SyntaxKind, SyntaxNode, node_at};
 
+/// How many lines the document has.
 const LINES: usize = 100;
 
+/// How many edits are made.
 const EDITS: usize = 300;
 
 /// A line of text, as a node.
@@ -30,8 +32,7 @@ fn document(alloc: Global) -> Result<NumberedTree> {
         lines.push(line(alloc, "line", number)?)?;
     }
     let root = SyntaxNode::inner(alloc, SyntaxKind::Markup, lines)?;
-    let file = FileId::new(1).context("no file")?;
-    NumberedTree::number(root, file, 2..402).map_err(|_| anyhow!("too few numbers"))
+    Ok(NumberedTree::number(root, FileId::FIRST, 2..402)?)
 }
 
 /// The edit with this index: which lines of a document go, and which come for them.

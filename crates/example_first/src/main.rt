@@ -2,7 +2,7 @@
 #![tactic(auto)]
 
 use anyhow::{Context, Result};
-use typst_tree::session::{Reply, Request};
+use typst_tree::session::Reply;
 use typst_tree::{FileId, NumberedTree, Span, SyntaxKind, SyntaxNode};
 
 fn main(rt: HostRuntime) -> Result<()> {
@@ -12,20 +12,13 @@ fn main(rt: HostRuntime) -> Result<()> {
         SyntaxNode::leaf(alloc, SyntaxKind::Text, "world")?,
     ]?;
     let root = SyntaxNode::inner(alloc, SyntaxKind::Markup, texts)?;
-    let tree = NumberedTree::number(root, FileId::FIRST, Span::FULL).ok();
-    let mut tree = tree.context("fewer numbers than nodes")?;
+    let mut tree = NumberedTree::number(root, FileId::FIRST, Span::FULL)?;
     let world = tree.root().children().last().context("no child")?.span();
 
-    // A space between the two: an empty range inserts.
+    // A space between the two.
     let space = SyntaxNode::leaf(alloc, SyntaxKind::Space, " ")?;
-    let insertion = Request::Replace {
-        path: Vec::new(alloc),
-        range: 1..1,
-        replacement: vec![in alloc; space]?,
-    };
-    if let Reply::Renumbered(_) = tree.serve(alloc, insertion) {
-        println!(rt; "{}", tree.root().full_text(alloc)?)?;
-    }
+    tree.insert(alloc, &[], 1, vec![in alloc; space]?)?;
+    println!(rt; "{}", tree.root().full_text(alloc)?)?;
     // The number of the second word leads back to it.
     if let Reply::Found { offset, .. } = tree.find(alloc, world) {
         println!(rt; "the second word begins at byte {offset}")?;

@@ -1,13 +1,15 @@
-//! Prints the headings of a document with their depth, a line each. Standard input is a script that builds the document.
+//! Prints the headings of a document with their depth, a line each. Standard input is a text of markup.
 #![tactic(auto)]
 
 ghost use Rattle.std.specs.Prelude.{◌≡◌, ◌++◌, OnOk, string_bytes, codes, decimal};
 
 use anyhow::Result;
 use std::alloc::{AllocError, Global};
-use typst_script::script;
+use std::io;
+use typst_markup::Markup;
+use typst_source::Source;
 use typst_tree::ast::{AstNode, Heading};
-use typst_tree::{LinkedNode, SyntaxNode};
+use typst_tree::{FileId, LinkedNode, SyntaxNode};
 
 /// Adds the line of a heading.
 fn push_line(lines: &mut String, depth: usize, title: &str) -> Result<(), AllocError>
@@ -33,7 +35,9 @@ fn outline(alloc: Global, tree: &SyntaxNode) -> Result<String, AllocError> {
 }
 
 fn main(rt: HostRuntime) -> Result<()> {
-    let tree = script::tree_of(rt.alloc(), rt.reader())?;
-    rt.print(outline(rt.alloc(), &tree)?)?;
+    let alloc = rt.alloc();
+    let text = io::read_to_string(alloc, rt.reader())?;
+    let source = Source::new(alloc, FileId::FIRST, &text, Markup)?;
+    rt.print(outline(alloc, source.root())?)?;
     Ok(())
 }

@@ -113,9 +113,7 @@ fn main(rt: HostRuntime) -> Result<()> {
     let old = words.next().context("no old name")?;
     let new = words.next().context("no new name")?;
     let root = script::tree_of(alloc, rt.reader())?;
-    let mut tree = NumberedTree::number(root, FileId::FIRST, Span::FULL).map_err(|_| anyhow!(
-        "too few numbers"
-    ))?;
+    let mut tree = NumberedTree::number(root, FileId::FIRST, Span::FULL)?;
     let paths = uses(alloc, tree.root(), &old)?;
     let mut slots = renamings(alloc, &paths, &new)?;
     tree.run(alloc, &mut slots);

@@ -1,3 +1,3 @@
-pub mod Kept
 pub mod Newlines
 pub mod Subject
+pub mod Written

@@ -6,7 +6,7 @@ use Rattle.typst_answers.specs.declared.subject.Subject.TheVariants.{Node, Blank
 use Rattle.typst_node.specs.Tree.{Tree}
 use Rattle.typst_node.specs.Views.{node_kind}
 
--- the node; none for a placeholder
+-- the node, or none for a placeholder
 abbrev pub node_of_subject : Subject → Option Tree
 node_of_subject (Node node) = Some node.now
 node_of_subject (Blank kind) = None

@@ -1,7 +1,9 @@
-//! The text that is printed about a tree, an answer a line.
-ghost use Rattle.std.specs.Prelude.{◌≡◌, ◌↔◌, ◌++◌, [], false, true, IfOk, IsErr, IsOkAnd, IsTrue, string_bytes};
-ghost use Rattle.typst_answers.specs.Kept.{Keeps};
+//! The text that is printed about a tree, one answer per line.
+ghost use Rattle.std.specs.Prelude.{◌≡◌, [], IfOk, IsErr, string_bytes};
+ghost use Rattle.typst_answers.specs.Written.{Adds, IsRefused, IsWritten};
+ghost use Rattle.typst_answers.specs.declared.form.Form.TheVariants.{Paths};
 
+use crate::form::Form;
 use crate::lists::{Ends, both, both_of};
 use crate::place::Place;
 use std::alloc::{AllocError, Global};
@@ -11,334 +13,292 @@ use typst_tree::{LinkedNode, SyntaxNode};
 
 /// The answers about one numbered tree.
 ///
-/// Where memory is refused, nothing more is written, and [`Answers::finish`] tells, as the builders of `fmt` do. So what
-/// writes answers goes on without a test after each.
+/// If memory is refused, nothing more is written, and [`Answers::finish`] reports it, as the builders of `fmt` do. So
+/// the code that writes answers needs no test after each answer.
 #[derive(Drop)]
 pub struct Answers<'t> {
     pub alloc: Global,
     pub tree: &'t SyntaxNode,
-    /// What each line begins with: the place that it is about, and its kind.
+    pub form: Form,
+    /// The beginning of each line: the place that the line is about, and its kind.
     head: String,
-    pub text: String,
-    pub is_refused: bool,
+    /// What has been written, unless memory was refused.
+    text: Result<String, AllocError>,
 }
 
 /// # From the beginning to the end
 impl<'t> Answers<'t> {
+    /// Makes answers about this tree, with nodes by their paths. Nothing is written yet.
     pub fn new(alloc: Global, tree: &'t SyntaxNode) -> Self
-        ensures text { string_bytes result.text ≡ [] }
-        ensures ready { result.is_refused ≡ false }
+        ensures empty { IsWritten [] result }
+        ensures form { result.form ≡ Paths }
+    {
+        Answers::in_form(alloc, tree, Form::Paths)
+    }
+
+    /// Makes answers about this tree, in a form. Nothing is written yet.
+    pub fn in_form(alloc: Global, tree: &'t SyntaxNode, form: Form) -> Self
+        ensures empty { IsWritten [] result }
+        ensures form { result.form ≡ form }
     {
         Answers {
             alloc,
             tree,
+            form,
             head: String::new(alloc),
-            text: String::new(alloc),
-            is_refused: false,
+            text: Ok(String::new(alloc)),
         }
     }
 
     /// The whole text, unless memory was refused.
     pub fn finish(self) -> Result<String, AllocError>
-        ensures text { IfOk result (λ text. string_bytes text ≡ string_bytes self.entry.text) }
-        ensures refused { IsErr result ↔ IsTrue self.entry.is_refused }
+        ensures whole { IfOk result (λ text. IsWritten (string_bytes text) self.entry) }
+        ensures refused { IsErr result → IsRefused self.entry }
     {
-        if self.is_refused {
-            Err(AllocError)
-        } else {
-            Ok(self.text)
-        }
+        self.text
     }
 
-    /// Takes note of a refusal.
-    pub fn note(&mut self, done: Result<(), AllocError>)
-        ensures noted { IsErr done → self.new.is_refused ≡ true }
-        ensures kept { Keeps self.old self.new }
+    /// Records that memory was refused.
+    pub fn refuse(&mut self)
+        ensures { IsRefused self.new }
     {
-        if done.is_err() {
-            self.is_refused = true;
-        }
+        self.text = Err(AllocError);
     }
 
-    /// Lets the lines from here on be about this place.
+    /// Makes this the place that the following lines are about.
     pub fn turn_to(&mut self, place: Place)
-        ensures kept { Keeps self.old self.new }
+        ensures { Adds [] self.old self.new }
     {
         match self.head_of(place) {
             Ok(head) => self.head = head,
-            Err(_) => self.is_refused = true,
+            Err(_) => self.refuse(),
         }
     }
 
+    /// The beginning of the lines about a place.
     fn head_of(&self, place: Place) -> Result<String, AllocError> {
-        let kind = place.kind;
-        let mut head = self.name_of(place)?;
-        write!(head, " {kind:?}.")?;
-        Ok(head)
-    }
-
-    /// The path of a node, or `~` and the kind of a placeholder.
-    fn name_of(&self, place: Place) -> Result<String, AllocError> {
         let alloc = self.alloc;
-        match LinkedNode::new(self.tree).find(alloc, place.span)? {
-            Some(node) => path_of(alloc, &node),
-            None => {
-                let kind = place.kind;
-                format!(in alloc; "~{kind:?}")
+        let kind = place.kind;
+        match self.form {
+            Form::Paths => {
+                let name = self.name_of(place)?;
+                format!(in alloc; "{name} {kind:?}.")
             }
+            Form::Ranges => Ok(String::new(alloc)),
         }
     }
-}
 
-/// `-` for the root, or the child indices joined by dots.
-pub fn path_of(alloc: Global, node: &LinkedNode) -> Result<String, AllocError> {
-    let path = node.path(alloc)?;
-    let Some((first, rest)) = path.split_first() else {
-        return String::from_str(alloc, "-");
-    };
-    let mut text = format!(in alloc; "{first}")?;
-    for index in rest {
-        write!(text, ".{index}")?;
+    /// The name of a node or a placeholder.
+    fn name_of(&self, place: Place) -> Result<String, AllocError> {
+        match LinkedNode::new(self.tree).find(self.alloc, place.span)? {
+            Some(node) => self.form.node(self.alloc, &node),
+            None => self.form.placeholder(self.alloc, place.kind),
+        }
     }
-    Ok(text)
 }
 
 /// # Pieces
 impl<'t> Answers<'t> {
     /// Writes a text.
     pub fn put(&mut self, text: &str)
-        ensures written { self.new.is_refused ≡ false
-            → string_bytes self.new.text ≡ string_bytes self.old.text ++ text.now }
-        ensures kept { Keeps self.old self.new }
+        ensures { Adds text.now self.old self.new }
     {
-        if !self.is_refused && self.text.push_str(text).is_err() {
-            self.is_refused = true;
+        if let Ok(written) = &mut self.text
+            && written.push_str(text).is_err()
+        {
+            self.text = Err(AllocError);
         }
     }
 
-    /// Writes a text that was made for this, or takes note that memory was refused for it.
+    /// Writes a text that was made for this, or records that memory was refused for it.
     pub fn put_made(&mut self, text: Result<String, AllocError>)
-        ensures written { self.new.is_refused ≡ false
-            → IsOkAnd text (λ made. string_bytes self.new.text ≡ string_bytes self.old.text ++ string_bytes made) }
-        ensures kept { Keeps self.old self.new }
+        ensures made { IfOk text (λ made. Adds (string_bytes made) self.old self.new) }
+        ensures refused { IsErr text → IsRefused self.new }
     {
         match text {
             Ok(text) => self.put(text.as_str()),
-            Err(_) => self.is_refused = true,
+            Err(_) => self.refuse(),
         }
     }
 
-    /// The beginning of an answer's line.
-    pub fn begin(&mut self, what: &str)
-        ensures kept { Keeps self.old self.new }
-    {
-        let alloc = self.alloc;
-        let head = self.head.as_str();
-        let beginning = format!(in alloc; "{head}{what} ");
+    /// Writes the beginning of an answer's line.
+    pub fn begin(&mut self, what: &str) {
+        let beginning = self.form.beginning(self.alloc, self.head.as_str(), what);
         self.put_made(beginning);
     }
 
-    pub fn end(&mut self)
-        ensures kept { Keeps self.old self.new }
-    {
+    /// Ends a line.
+    pub fn end(&mut self) {
         self.put("\n");
     }
 
-    pub fn put_place(&mut self, place: Place)
-        ensures kept { Keeps self.old self.new }
-    {
+    /// Writes the name of a node or a placeholder.
+    pub fn put_place(&mut self, place: Place) {
         let name = self.name_of(place);
         self.put_made(name);
     }
 
-    pub fn put_view<'v, T: AstNode<'v>>(&mut self, view: T)
-        ensures kept { Keeps self.old self.new }
-    {
+    /// Writes the name of the node or the placeholder of a view.
+    pub fn put_view<'v, T: AstNode<'v>>(&mut self, view: T) {
         self.put_place(Place::of(view));
     }
 
     /// Writes ` VIEW`.
-    pub fn put_next<'v, T: AstNode<'v>>(&mut self, view: T)
-        ensures kept { Keeps self.old self.new }
-    {
+    pub fn put_next<'v, T: AstNode<'v>>(&mut self, view: T) {
         self.put(" ");
         self.put_view(view);
     }
 
     /// Writes `NAME(VIEW)`.
-    pub fn put_wrapped<'v, T: AstNode<'v>>(&mut self, name: &str, view: T)
-        ensures kept { Keeps self.old self.new }
-    {
+    pub fn put_wrapped<'v, T: AstNode<'v>>(&mut self, name: &str, view: T) {
         self.put(name);
         self.put("(");
         self.put_view(view);
         self.put(")");
     }
 
-    /// Writes what parts the entry with this index from the one before it.
-    pub fn put_comma(&mut self, index: usize)
-        ensures kept { Keeps self.old self.new }
-    {
+    /// Writes what separates the entry with this index from the one before it.
+    pub fn put_comma(&mut self, index: usize) {
         if index > 0 {
             self.put(", ");
+        }
+    }
+
+    /// Writes how many entries of a list are left out, if any are.
+    fn put_more(&mut self, count: usize) {
+        if count > 0 {
+            let alloc = self.alloc;
+            self.put_made(format!(in alloc; ", and {count} more"));
         }
     }
 }
 
 /// # Lines
 impl<'t> Answers<'t> {
-    /// A line whose answer was made for this.
-    fn line(&mut self, what: &str, answer: Result<String, AllocError>)
-        ensures kept { Keeps self.old self.new }
-    {
+    /// Writes a line whose answer was made for this.
+    fn line(&mut self, what: &str, answer: Result<String, AllocError>) {
         self.begin(what);
         self.put_made(answer);
         self.end();
     }
 
-    /// A text, quoted.
-    pub fn text(&mut self, what: &str, text: &str)
-        ensures kept { Keeps self.old self.new }
-    {
-        let alloc = self.alloc;
-        self.line(what, format!(in alloc; "{text:?}"));
+    /// Writes a line whose answer is a text, in quotes.
+    pub fn text(&mut self, what: &str, text: &str) {
+        let quoted = self.form.text(self.alloc, text);
+        self.line(what, quoted);
     }
 
-    /// A text that was made for this, quoted.
-    pub fn owned(&mut self, what: &str, text: Result<String, AllocError>)
-        ensures kept { Keeps self.old self.new }
-    {
+    /// Writes a line whose answer is a text that was made for this, in quotes.
+    pub fn owned(&mut self, what: &str, text: Result<String, AllocError>) {
         match text {
             Ok(text) => self.text(what, text.as_str()),
-            Err(_) => self.is_refused = true,
+            Err(_) => self.refuse(),
         }
     }
 
-    pub fn shown<D: Display + Drop>(&mut self, what: &str, value: D)
-        ensures kept { Keeps self.old self.new }
-    {
+    /// Writes a line whose answer is a value, as `{}` prints it.
+    pub fn shown<D: Display + Drop>(&mut self, what: &str, value: D) {
         let alloc = self.alloc;
         self.line(what, format!(in alloc; "{value}"));
     }
 
-    pub fn debugged<D: Debug + Drop>(&mut self, what: &str, value: D)
-        ensures kept { Keeps self.old self.new }
-    {
+    /// Writes a line whose answer is a value, as `{:?}` prints it.
+    pub fn debugged<D: Debug + Drop>(&mut self, what: &str, value: D) {
         let alloc = self.alloc;
         self.line(what, format!(in alloc; "{value:?}"));
     }
 
-    /// A number, or `none`.
-    pub fn number<D: Display + Drop>(&mut self, what: &str, number: Option<D>)
-        ensures kept { Keeps self.old self.new }
-    {
+    /// Writes a line whose answer is a number, or `none`.
+    pub fn number<D: Display + Drop>(&mut self, what: &str, number: Option<D>) {
         match number {
             Some(number) => self.shown(what, number),
             None => self.shown(what, "none"),
         }
     }
 
-    pub fn view<'v, T: AstNode<'v>>(&mut self, what: &str, view: T)
-        ensures kept { Keeps self.old self.new }
-    {
+    /// Writes a line whose answer is a view.
+    pub fn view<'v, T: AstNode<'v>>(&mut self, what: &str, view: T) {
         self.begin(what);
         self.put_view(view);
         self.end();
     }
 
-    /// A view, or `none`.
-    pub fn option<'v, T: AstNode<'v>>(&mut self, what: &str, view: Option<T>)
-        ensures kept { Keeps self.old self.new }
-    {
+    /// Writes a line whose answer is a view, or `none`.
+    pub fn option<'v, T: AstNode<'v>>(&mut self, what: &str, view: Option<T>) {
         match view {
             Some(view) => self.view(what, view),
             None => self.shown(what, "none"),
         }
     }
 
-    /// [`Answers::view`] of an expression. Its own function, so that what all expressions are is looked up here alone.
-    pub fn expr_view(&mut self, what: &str, expr: Expr)
-        ensures kept { Keeps self.old self.new }
-    {
+    /// [`Answers::view`] of an expression. It is a function of its own, so that the facts about expressions are looked
+    /// up only here.
+    pub fn expr_view(&mut self, what: &str, expr: Expr) {
         self.view(what, expr);
     }
 
-    /// An expression, or `none`.
-    pub fn expr_option(&mut self, what: &str, expr: Option<Expr>)
-        ensures kept { Keeps self.old self.new }
-    {
+    /// Writes a line whose answer is an expression, or `none`.
+    pub fn expr_option(&mut self, what: &str, expr: Option<Expr>) {
         self.option(what, expr);
     }
 
     /// [`Answers::view`] of a pattern.
-    pub fn pattern_view(&mut self, what: &str, pattern: Pattern)
-        ensures kept { Keeps self.old self.new }
-    {
+    pub fn pattern_view(&mut self, what: &str, pattern: Pattern) {
         self.view(what, pattern);
     }
 
-    pub fn wrapped<'v, T: AstNode<'v>>(&mut self, what: &str, name: &str, view: T)
-        ensures kept { Keeps self.old self.new }
-    {
+    /// Writes a line whose answer is a view, in parentheses after a name.
+    pub fn wrapped<'v, T: AstNode<'v>>(&mut self, what: &str, name: &str, view: T) {
         self.begin(what);
         self.put_wrapped(name, view);
         self.end();
     }
 
-    /// The names that a pattern binds.
-    pub fn names(&mut self, what: &str, names: Result<Vec<Ident>, AllocError>)
-        ensures kept { Keeps self.old self.new }
-    {
+    /// Writes a line with the names that a pattern binds.
+    pub fn names(&mut self, what: &str, names: Result<Vec<Ident>, AllocError>) {
         match names {
             Ok(names) => self.listed(what, &names),
-            Err(_) => self.is_refused = true,
+            Err(_) => self.refuse(),
         }
     }
 
-    fn listed<'v, T: AstNode<'v>>(&mut self, what: &str, views: &[T])
-        ensures kept { Keeps self.old self.new }
-    {
+    /// Writes a line whose answer is a list of views, in brackets.
+    fn listed<'v, T: AstNode<'v>>(&mut self, what: &str, views: &[T]) {
         self.begin(what);
         self.put("[");
-        for (index, view) in views.iter().enumerate() {
+        let entries = self.form.entries(views);
+        for (index, view) in entries.iter().enumerate() {
             self.put_comma(index);
             self.put_view(*view);
         }
+        self.put_more(views.len().saturating_sub(entries.len()));
         self.put("]");
         self.end();
     }
 
-    /// The views of one class.
-    pub fn items<'v, T: AstNode<'v> + PartialEq>(&mut self, what: &str, items: Items<'v, T>)
-        ensures kept { Keeps self.old self.new }
-    {
+    /// Writes a line whose answer is a list of the views of one class.
+    pub fn items<'v, T: AstNode<'v> + PartialEq>(&mut self, what: &str, items: Items<'v, T>) {
         self.list(what, both_of(self.alloc, items));
     }
 
-    /// The expressions of markup or of math, handed over three times.
-    pub fn expr_list(&mut self, front: Exprs, back: Exprs, mixed: Exprs)
-        ensures kept { Keeps self.old self.new }
-    {
+    /// Writes a line with the expressions of markup or of math, which are passed three times.
+    pub fn expr_list(&mut self, front: Exprs, back: Exprs, mixed: Exprs) {
         self.list("exprs", both(self.alloc, front, back, mixed));
     }
 
-    /// A list, and whether it is another one from the back, or from both ends in turn.
-    fn list<'v, T: AstNode<'v>>(&mut self, what: &str, ends: Result<Ends<T>, AllocError>)
-        ensures kept { Keeps self.old self.new }
-    {
+    /// Writes a list, and whether it differs when it is read from the back, or from both ends in turn.
+    fn list<'v, T: AstNode<'v>>(&mut self, what: &str, ends: Result<Ends<T>, AllocError>) {
         match ends {
             Ok(ends) => {
                 self.listed(what, &ends.items);
                 self.warn_of(ends.agree);
             }
-            Err(_) => self.is_refused = true,
+            Err(_) => self.refuse(),
         }
     }
 
-    /// Says so where the ends of a list differ.
-    pub fn warn_of(&mut self, ends_agree: bool)
-        ensures kept { Keeps self.old self.new }
-    {
+    /// Writes a line if a list differs when it is read from another end.
+    pub fn warn_of(&mut self, ends_agree: bool) {
         if !ends_agree {
             self.put("THE ENDS DIFFER\n");
         }

@@ -1,5 +1,4 @@
 //! What blocks, operations and calls answer.
-ghost use Rattle.typst_answers.specs.Kept.{Keeps};
 
 use crate::answers::Answers;
 use crate::subject::Subject;
@@ -8,10 +7,8 @@ use typst_tree::ast::{
     Args, Binary, Closure, Code, CodeBlock, FieldAccess, FuncCall, Params, Parenthesized, Unary,
 };
 
-/// What the accessors of a node or a placeholder answer: nothing for a kind of another module.
-pub fn answer(out: &mut Answers, subject: Subject)
-    ensures kept { Keeps out.old out.new }
-{
+/// What the accessors of a node or a placeholder answer. For a kind of another module there is no answer.
+pub fn answer(out: &mut Answers, subject: Subject) {
     match subject.kind() {
         SyntaxKind::Code => out.items("exprs", subject.view::<Code>().exprs()),
         SyntaxKind::CodeBlock => out.view("body", subject.view::<CodeBlock>().body()),
@@ -27,52 +24,45 @@ pub fn answer(out: &mut Answers, subject: Subject)
     }
 }
 
-fn parenthesized(out: &mut Answers, parenthesized: Parenthesized)
-    ensures kept { Keeps out.old out.new }
-{
+/// What a group answers.
+fn parenthesized(out: &mut Answers, parenthesized: Parenthesized) {
     out.expr_view("expr", parenthesized.expr());
     out.pattern_view("pattern", parenthesized.pattern());
 }
 
-fn unary(out: &mut Answers, unary: Unary)
-    ensures kept { Keeps out.old out.new }
-{
+/// What an operator before its operand answers.
+fn unary(out: &mut Answers, unary: Unary) {
     out.debugged("op", unary.op());
     out.expr_view("expr", unary.expr());
 }
 
-fn binary(out: &mut Answers, binary: Binary)
-    ensures kept { Keeps out.old out.new }
-{
+/// What an operator between its operands answers.
+fn binary(out: &mut Answers, binary: Binary) {
     out.debugged("op", binary.op());
     out.expr_view("lhs", binary.lhs());
     out.expr_view("rhs", binary.rhs());
 }
 
-fn field_access(out: &mut Answers, access: FieldAccess)
-    ensures kept { Keeps out.old out.new }
-{
+/// What a field answers.
+fn field_access(out: &mut Answers, access: FieldAccess) {
     out.expr_view("target", access.target());
     out.view("field", access.field());
 }
 
-fn func_call(out: &mut Answers, call: FuncCall)
-    ensures kept { Keeps out.old out.new }
-{
+/// What a call answers.
+fn func_call(out: &mut Answers, call: FuncCall) {
     out.expr_view("callee", call.callee());
     out.view("args", call.args());
 }
 
-fn args(out: &mut Answers, args: Args)
-    ensures kept { Keeps out.old out.new }
-{
+/// What the arguments of a call answers.
+fn args(out: &mut Answers, args: Args) {
     out.items("items", args.items());
     out.shown("trailing_comma", args.trailing_comma());
 }
 
-fn closure(out: &mut Answers, closure: Closure)
-    ensures kept { Keeps out.old out.new }
-{
+/// What a closure answers.
+fn closure(out: &mut Answers, closure: Closure) {
     out.option("name", closure.name());
     out.view("params", closure.params());
     out.expr_view("body", closure.body());

@@ -1,14 +1,11 @@
-//! What a tree reports, and what it tells as a whole.
-ghost use Rattle.typst_answers.specs.Kept.{Keeps};
+//! What a tree reports, and what it answers as a whole.
 
 use crate::answers::Answers;
 use std::alloc::AllocError;
 use typst_tree::{SyntaxDiagnostic, SyntaxNode};
 
-/// The errors, the warnings, whether there are any, the text, and the tree for programmers.
-pub fn diagnostics(out: &mut Answers, tree: &SyntaxNode) -> Result<(), AllocError>
-    ensures kept { Keeps out.old out.new }
-{
+/// Writes the errors, the warnings, whether there are any, the text, and the tree for programmers.
+pub fn diagnostics(out: &mut Answers, tree: &SyntaxNode) -> Result<(), AllocError> {
     let alloc = out.alloc;
     let (errors, warnings) = tree.errors_and_warnings(alloc)?;
     put_messages(out, "error", &errors);
@@ -23,9 +20,8 @@ pub fn diagnostics(out: &mut Answers, tree: &SyntaxNode) -> Result<(), AllocErro
     Ok(())
 }
 
-fn put_messages(out: &mut Answers, word: &str, reports: &[SyntaxDiagnostic])
-    ensures kept { Keeps out.old out.new }
-{
+/// Writes the messages, one per line.
+fn put_messages(out: &mut Answers, word: &str, reports: &[SyntaxDiagnostic]) {
     let alloc = out.alloc;
     for report in reports {
         let message = report.message.as_str();

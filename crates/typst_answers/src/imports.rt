@@ -1,5 +1,4 @@
 //! What imports answer.
-ghost use Rattle.typst_answers.specs.Kept.{Keeps};
 
 use crate::answers::Answers;
 use crate::lists::both_of;
@@ -11,10 +10,8 @@ use typst_tree::ast::{
     RenamedImportItem,
 };
 
-/// What the accessors of a node or a placeholder answer: nothing for a kind of another module.
-pub fn answer(out: &mut Answers, subject: Subject)
-    ensures kept { Keeps out.old out.new }
-{
+/// What the accessors of a node or a placeholder answer. For a kind of another module there is no answer.
+pub fn answer(out: &mut Answers, subject: Subject) {
     match subject.kind() {
         SyntaxKind::ImportItemPath => import_item_path(out, subject.view()),
         SyntaxKind::RenamedImportItem => renamed_import_item(out, subject.view()),
@@ -28,36 +25,32 @@ pub fn answer(out: &mut Answers, subject: Subject)
     }
 }
 
-fn import_item_path(out: &mut Answers, path: ImportItemPath)
-    ensures kept { Keeps out.old out.new }
-{
+/// What the path of an imported item answers.
+fn import_item_path(out: &mut Answers, path: ImportItemPath) {
     out.items("iter", path.iter());
     out.view("name", path.name());
 }
 
-fn renamed_import_item(out: &mut Answers, item: RenamedImportItem)
-    ensures kept { Keeps out.old out.new }
-{
+/// What an imported item with a new name answers.
+fn renamed_import_item(out: &mut Answers, item: RenamedImportItem) {
     out.view("path", item.path());
     out.view("original_name", item.original_name());
     out.view("new_name", item.new_name());
 }
 
-fn import_items(out: &mut Answers, items: ImportItems)
-    ensures kept { Keeps out.old out.new }
-{
+/// What the items of an import answer.
+fn import_items(out: &mut Answers, items: ImportItems) {
     match both_of(out.alloc, items.iter()) {
         Ok(ends) => {
             import_item_list(out, &ends.items);
             out.warn_of(ends.agree);
         }
-        Err(error) => out.note(Err(error)),
+        Err(_) => out.refuse(),
     }
 }
 
-fn import_item_list(out: &mut Answers, items: &[ImportItem])
-    ensures kept { Keeps out.old out.new }
-{
+/// Writes the items of an import, one per line.
+fn import_item_list(out: &mut Answers, items: &[ImportItem]) {
     out.begin("iter");
     out.put("[");
     for (index, item) in items.iter().enumerate() {
@@ -68,37 +61,32 @@ fn import_item_list(out: &mut Answers, items: &[ImportItem])
     out.end();
 }
 
-/// The item, then its path, its own name and the name that it is bound to.
-fn import_item(out: &mut Answers, item: ImportItem)
-    ensures kept { Keeps out.old out.new }
-{
+/// Writes the item, then its path, its own name and the name that it is bound to.
+fn import_item(out: &mut Answers, item: ImportItem) {
     put_form(out, item);
     out.put_next(item.path());
     out.put_next(item.original_name());
     out.put_next(item.bound_name());
 }
 
-fn put_form(out: &mut Answers, item: ImportItem)
-    ensures kept { Keeps out.old out.new }
-{
+/// Writes the form of an item.
+fn put_form(out: &mut Answers, item: ImportItem) {
     match item {
         ImportItem::Simple(path) => out.put_wrapped("Simple", path),
         ImportItem::Renamed(renamed) => out.put_wrapped("Renamed", renamed),
     }
 }
 
-fn module_import(out: &mut Answers, import: ModuleImport)
-    ensures kept { Keeps out.old out.new }
-{
+/// What an import answers.
+fn module_import(out: &mut Answers, import: ModuleImport) {
     out.expr_view("source", import.source());
     imports(out, import.imports());
     out.option("new_name", import.new_name());
     bare_name(out, import);
 }
 
-fn imports(out: &mut Answers, imports: Option<Imports>)
-    ensures kept { Keeps out.old out.new }
-{
+/// What an import brings in.
+fn imports(out: &mut Answers, imports: Option<Imports>) {
     match imports {
         None => out.shown("imports", "none"),
         Some(Imports::Wildcard) => out.shown("imports", "Wildcard"),
@@ -106,12 +94,11 @@ fn imports(out: &mut Answers, imports: Option<Imports>)
     }
 }
 
-fn bare_name(out: &mut Answers, import: ModuleImport)
-    ensures kept { Keeps out.old out.new }
-{
+/// The name that an import brings in.
+fn bare_name(out: &mut Answers, import: ModuleImport) {
     let alloc = out.alloc;
     match import.bare_name(alloc, is_name, |text: &str| package(alloc, text)) {
         Ok(name) => out.debugged("bare_name", name),
-        Err(error) => out.note(Err(error)),
+        Err(_) => out.refuse(),
     }
 }

@@ -1,24 +1,26 @@
-//! What is seen in a numbered tree, as text: what every accessor of every view, every walk and every diagnostic answers, an
-//! answer a line (`docs/LOOK.md` has the form of each).
+//! Writes what can be seen in a numbered tree, as text: what every accessor of every view, every walk and every
+//! diagnostic answers, one answer per line. `docs/LOOK.md` has the form of each answer.
 //!
 //! ```text
-//! let mut out = Answers::new(alloc, &tree);
-//! views(&mut out, &tree)?;
-//! let text = out.finish()?;
-//! // The first lines of `text`: `- Markup.exprs [0, 1]`, `0 Text.hash false`, ..
+//! let mut answers = Answers::in_form(alloc, root, Form::Ranges);
+//! of_node(&mut answers, node);
+//! answers.finish()
 //! ```
 //!
-//! One function a view, and where views share a form one for all of them, so that each stays cheap to prove.
+//! There is one function for each view, or one for all views that share a form, so that each function stays cheap to
+//! prove.
 #![tactic(auto)]
 
 pub use answers::Answers;
+pub use form::Form;
 
 mod answers;
 mod code;
 mod control;
 pub mod diagnostics;
+mod form;
 mod imports;
-mod lists;
+pub mod lists;
 mod markup;
 mod math;
 mod names;

@@ -4,7 +4,7 @@ ghost use Rattle.std.specs.Iterator.{IsFinite};
 use std::alloc::{AllocError, Global};
 use typst_tree::ast::{AstNode, Items};
 
-/// The items of a list, and whether those from the back, and those from both ends in turn, are the same ones.
+/// The items of a list, and whether reading from the back, and from both ends in turn, gives the same ones.
 #[derive(Drop)]
 pub struct Ends<T> {
     pub items: Vec<T>,
@@ -13,7 +13,7 @@ pub struct Ends<T> {
 
 /// The views of one class.
 ///
-/// Its own function, so that what is known of iterators is looked up here alone, whatever the views are.
+/// It is a function of its own, so that what is known of iterators is looked up only here, whatever the views are.
 pub fn both_of<'t, T>(alloc: Global, items: Items<'t, T>) -> Result<Ends<T>, AllocError>
 where
     T: AstNode<'t> + PartialEq,
@@ -21,7 +21,7 @@ where
     both(alloc, items.clone()?, items.clone()?, items)
 }
 
-/// The items of a list, which is handed over three times.
+/// The items of a list, which is passed three times.
 pub fn both<T, I>(alloc: Global, front: I, back: I, mixed: I) -> Result<Ends<T>, AllocError>
 where
     T: PartialEq + Drop,
@@ -38,6 +38,7 @@ where
     Ok(Ends { items, agree })
 }
 
+/// The items in order.
 fn collected<T, I>(alloc: Global, items: I) -> Result<Vec<T>, AllocError>
 where
     T: Drop,
@@ -52,7 +53,7 @@ where
     Ok(all)
 }
 
-/// The items in order, of which every second one was taken from the back. At most two more are taken than expected.
+/// The items in order. Every second one was taken from the back. At most two more are taken than expected.
 fn in_turn<T, I>(alloc: Global, items: I, expected: usize) -> Result<Vec<T>, AllocError>
 where
     T: Drop,

@@ -1,5 +1,4 @@
 //! What markup answers.
-ghost use Rattle.typst_answers.specs.Kept.{Keeps};
 
 use crate::answers::Answers;
 use crate::subject::Subject;
@@ -8,10 +7,8 @@ use typst_tree::ast::{
     ContentBlock, Emph, EnumItem, Equation, Heading, ListItem, Markup, Ref, Strong, TermItem,
 };
 
-/// What the accessors of a node or a placeholder answer: nothing for a kind of another module.
-pub fn answer(out: &mut Answers, subject: Subject)
-    ensures kept { Keeps out.old out.new }
-{
+/// What the accessors of a node or a placeholder answer. For a kind of another module there is no answer.
+pub fn answer(out: &mut Answers, subject: Subject) {
     match subject.kind() {
         SyntaxKind::Markup => markup(out, subject.view()),
         SyntaxKind::Strong => out.view("body", subject.view::<Strong>().body()),
@@ -27,43 +24,37 @@ pub fn answer(out: &mut Answers, subject: Subject)
     }
 }
 
-fn markup(out: &mut Answers, markup: Markup)
-    ensures kept { Keeps out.old out.new }
-{
+/// What markup answers.
+fn markup(out: &mut Answers, markup: Markup) {
     out.expr_list(markup.exprs(), markup.exprs(), markup.exprs());
 }
 
-fn heading(out: &mut Answers, heading: Heading)
-    ensures kept { Keeps out.old out.new }
-{
+/// What a heading answers.
+fn heading(out: &mut Answers, heading: Heading) {
     out.view("body", heading.body());
     out.shown("depth", heading.depth());
 }
 
-fn enum_item(out: &mut Answers, item: EnumItem)
-    ensures kept { Keeps out.old out.new }
-{
+/// What a numbered item answers.
+fn enum_item(out: &mut Answers, item: EnumItem) {
     out.number("number", item.number());
     out.view("body", item.body());
 }
 
-fn term_item(out: &mut Answers, item: TermItem)
-    ensures kept { Keeps out.old out.new }
-{
+/// What a term answers.
+fn term_item(out: &mut Answers, item: TermItem) {
     out.view("term", item.term());
     out.view("description", item.description());
 }
 
-fn reference(out: &mut Answers, reference: Ref)
-    ensures kept { Keeps out.old out.new }
-{
+/// What a reference answers.
+fn reference(out: &mut Answers, reference: Ref) {
     out.text("target", reference.target());
     out.option("supplement", reference.supplement());
 }
 
-fn equation(out: &mut Answers, equation: Equation)
-    ensures kept { Keeps out.old out.new }
-{
+/// What an equation answers.
+fn equation(out: &mut Answers, equation: Equation) {
     out.view("body", equation.body());
     out.shown("block", equation.block());
 }

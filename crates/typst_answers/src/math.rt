@@ -1,5 +1,4 @@
 //! What math answers.
-ghost use Rattle.typst_answers.specs.Kept.{Keeps};
 
 use crate::answers::Answers;
 use crate::lists::both;
@@ -11,10 +10,8 @@ use typst_tree::ast::{
 };
 use typst_tree::{SyntaxKind, SyntaxNode};
 
-/// What the accessors of a node or a placeholder answer: nothing for a kind of another module.
-pub fn answer(out: &mut Answers, subject: Subject)
-    ensures kept { Keeps out.old out.new }
-{
+/// What the accessors of a node or a placeholder answer. For a kind of another module there is no answer.
+pub fn answer(out: &mut Answers, subject: Subject) {
     match subject.kind() {
         SyntaxKind::Math => math(out, subject.view()),
         SyntaxKind::MathFieldAccess => math_field_access(out, subject.view()),
@@ -28,37 +25,32 @@ pub fn answer(out: &mut Answers, subject: Subject)
     }
 }
 
-fn math(out: &mut Answers, math: Math)
-    ensures kept { Keeps out.old out.new }
-{
+/// What the contents of an equation answer.
+fn math(out: &mut Answers, math: Math) {
     out.expr_list(math.exprs(), math.exprs(), math.exprs());
     out.shown("was_deparenthesized", math.was_deparenthesized());
 }
 
-fn math_field_access(out: &mut Answers, access: MathFieldAccess)
-    ensures kept { Keeps out.old out.new }
-{
+/// What a field in math answers.
+fn math_field_access(out: &mut Answers, access: MathFieldAccess) {
     out.view("target", access.target());
     out.view("field", access.field());
 }
 
-fn math_call(out: &mut Answers, call: MathCall)
-    ensures kept { Keeps out.old out.new }
-{
+/// What a call in math answers.
+fn math_call(out: &mut Answers, call: MathCall) {
     out.view("callee", call.callee());
     out.view("args", call.args());
 }
 
-fn math_args(out: &mut Answers, args: MathArgs)
-    ensures kept { Keeps out.old out.new }
-{
+/// What arguments in math answer.
+fn math_args(out: &mut Answers, args: MathArgs) {
     content_items(out, args);
     arg_items(out, args);
 }
 
-fn content_items(out: &mut Answers, args: MathArgs)
-    ensures kept { Keeps out.old out.new }
-{
+/// Writes the items of arguments in math.
+fn content_items(out: &mut Answers, args: MathArgs) {
     match both(
         out.alloc,
         args.content_items(),
@@ -69,22 +61,20 @@ fn content_items(out: &mut Answers, args: MathArgs)
             math_content_items(out, &ends.items);
             out.warn_of(ends.agree);
         }
-        Err(error) => out.note(Err(error)),
+        Err(_) => out.refuse(),
     }
 }
 
-fn arg_items(out: &mut Answers, args: MathArgs)
-    ensures kept { Keeps out.old out.new }
-{
+/// Writes the arguments in math.
+fn arg_items(out: &mut Answers, args: MathArgs) {
     match args.arg_items().collect::<Vec<MathArg>>(out.alloc) {
         Ok(items) => math_arg_items(out, &items),
-        Err(error) => out.note(Err(error)),
+        Err(_) => out.refuse(),
     }
 }
 
-fn math_content_items(out: &mut Answers, items: &[MathArgItem])
-    ensures kept { Keeps out.old out.new }
-{
+/// Writes the line of the items.
+fn math_content_items(out: &mut Answers, items: &[MathArgItem]) {
     out.begin("content_items");
     out.put("[");
     for (index, item) in items.iter().enumerate() {
@@ -95,9 +85,8 @@ fn math_content_items(out: &mut Answers, items: &[MathArgItem])
     out.end();
 }
 
-fn math_arg_items(out: &mut Answers, items: &[MathArg])
-    ensures kept { Keeps out.old out.new }
-{
+/// Writes the line of the arguments.
+fn math_arg_items(out: &mut Answers, items: &[MathArg]) {
     out.begin("arg_items");
     out.put("[");
     for (index, item) in items.iter().enumerate() {
@@ -108,9 +97,8 @@ fn math_arg_items(out: &mut Answers, items: &[MathArg])
     out.end();
 }
 
-fn math_arg(out: &mut Answers, item: MathArg)
-    ensures kept { Keeps out.old out.new }
-{
+/// Writes an argument, and whether it ends in a semicolon.
+fn math_arg(out: &mut Answers, item: MathArg) {
     let end = if item.ends_in_semicolon {
         ", true)"
     } else {
@@ -121,9 +109,8 @@ fn math_arg(out: &mut Answers, item: MathArg)
     out.put(end);
 }
 
-fn math_arg_item(out: &mut Answers, item: MathArgItem)
-    ensures kept { Keeps out.old out.new }
-{
+/// Writes an item.
+fn math_arg_item(out: &mut Answers, item: MathArgItem) {
     match item {
         MathArgItem::Arg(arg) => out.put_wrapped("Arg", arg),
         MathArgItem::Space(space) => out.put_wrapped("Space", space),
@@ -134,42 +121,37 @@ fn math_arg_item(out: &mut Answers, item: MathArgItem)
     }
 }
 
-fn token(out: &mut Answers, name: &str, c: char, node: &SyntaxNode)
-    ensures kept { Keeps out.old out.new }
-{
+/// Writes an item that is a sign.
+fn token(out: &mut Answers, name: &str, c: char, node: &SyntaxNode) {
     let alloc = out.alloc;
     out.put_made(format!(in alloc; "{name}({c:?}, "));
     out.put_place(Place::of_node(node));
     out.put(")");
 }
 
-fn math_delimited(out: &mut Answers, delimited: MathDelimited)
-    ensures kept { Keeps out.old out.new }
-{
+/// What a part between delimiters answers.
+fn math_delimited(out: &mut Answers, delimited: MathDelimited) {
     out.expr_view("open", delimited.open());
     out.view("body", delimited.body());
     out.expr_view("close", delimited.close());
 }
 
-fn math_attach(out: &mut Answers, attach: MathAttach)
-    ensures kept { Keeps out.old out.new }
-{
+/// What a base with attachments answers.
+fn math_attach(out: &mut Answers, attach: MathAttach) {
     out.expr_view("base", attach.base());
     out.expr_option("bottom", attach.bottom());
     out.expr_option("top", attach.top());
     out.option("primes", attach.primes());
 }
 
-fn math_frac(out: &mut Answers, frac: MathFrac)
-    ensures kept { Keeps out.old out.new }
-{
+/// What a fraction answers.
+fn math_frac(out: &mut Answers, frac: MathFrac) {
     out.expr_view("num", frac.num());
     out.expr_view("denom", frac.denom());
 }
 
-fn math_root(out: &mut Answers, root: MathRoot)
-    ensures kept { Keeps out.old out.new }
-{
+/// What a root answers.
+fn math_root(out: &mut Answers, root: MathRoot) {
     out.number("index", root.index());
     out.expr_view("radicand", root.radicand());
 }

@@ -1,4 +1,4 @@
-//! What a reader of texts takes from a lexer: which characters are newlines, which texts are names, and which packages.
+//! What a reader of texts needs from a lexer: which characters are newlines, and which texts are names or packages.
 ghost use Rattle.std.specs.Prelude.{◌↔◌, IsTrue};
 ghost use Rattle.typst_answers.specs.Newlines.{IsNewline};
 
@@ -11,7 +11,7 @@ pub fn is_newline(c: char) -> bool
     matches!(c, '\n'..='\r' | '\u{85}' | '\u{2028}' | '\u{2029}')
 }
 
-/// Whether the text is a letter or a `_`, and then letters, digits, `_` and `-`.
+/// Whether the text is a letter or a `_`, followed by letters, digits, `_` and `-`.
 pub fn is_name(text: &str) -> bool {
     let mut chars = text.chars();
     match chars.next() {
@@ -20,10 +20,12 @@ pub fn is_name(text: &str) -> bool {
     }
 }
 
+/// Whether a name may begin with the character.
 fn is_name_start(c: char) -> bool {
     c == '_' || c.is_alphabetic()
 }
 
+/// Whether a name may continue with the character.
 fn is_name_part(c: char) -> bool {
     c == '_' || c == '-' || c.is_alphanumeric()
 }
@@ -36,6 +38,7 @@ pub fn package(alloc: Global, text: &str) -> Result<Option<String>, AllocError> 
     }
 }
 
+/// The name within the name of a package with its version.
 fn package_name(text: &str) -> Option<&str> {
     let (space, rest) = text.strip_prefix('@')?.split_once('/')?;
     let (name, version) = rest.split_once(':')?;
@@ -48,10 +51,12 @@ fn package_name(text: &str) -> Option<&str> {
     }
 }
 
+/// Whether these are the numbers of a version.
 fn is_version(major: &str, minor: &str, patch: &str) -> bool {
     is_number(major) && is_number(minor) && is_number(patch)
 }
 
+/// Whether the word is a number made of digits only.
 fn is_number(word: &str) -> bool {
     !word.starts_with('+') && word.parse::<u32>().is_ok()
 }

@@ -1,4 +1,4 @@
-//! Where an answer points to.
+//! The place that an answer points to.
 ghost use Rattle.std.specs.Prelude.{◌≡◌};
 ghost use Rattle.typst_node.specs.Views.{node_kind, span_or_detached};
 
@@ -13,7 +13,7 @@ pub struct Place {
 }
 
 impl Place {
-    /// The place of the node that a view is of, or its placeholder.
+    /// The place of the node or the placeholder that a view shows.
     pub fn of<'t, T: AstNode<'t>>(view: T) -> Place
         ensures span { result.span ≡ span_or_detached (T.node_of view) }
         ensures kind { result.kind ≡ T.view_kind view }

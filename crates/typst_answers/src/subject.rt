@@ -1,4 +1,4 @@
-//! What the accessors are asked of.
+//! The node or the placeholder whose accessors are read.
 ghost use Rattle.std.specs.Prelude.{◌≡◌, None, Some, false, true};
 ghost use Rattle.typst_answers.specs.Subject.{kind_of_subject, node_of_subject};
 ghost use Rattle.typst_node.specs.Tree.{Tree};
@@ -16,6 +16,7 @@ pub enum Subject<'t> {
 }
 
 impl<'t> Subject<'t> {
+    /// The kind of the node or of the placeholder.
     pub fn kind(self) -> SyntaxKind
         ensures { result ≡ kind_of_subject self.entry }
     {
@@ -25,7 +26,7 @@ impl<'t> Subject<'t> {
         }
     }
 
-    /// The node's view, or the placeholder where there is no node of the view's kinds.
+    /// The node's view, or the placeholder if there is no node of the view's kinds.
     pub fn view<T: AstNode<'t>>(self) -> T
         ensures node { (t : Tree) → node_of_subject self.entry ≡ Some t → T.class (node_kind t) ≡ true
             → IsViewOf T.node_of T.view_kind T.proper T.blank (Some t) result }
@@ -43,7 +44,7 @@ impl<'t> Subject<'t> {
         }
     }
 
-    /// Where it stands: a placeholder nowhere.
+    /// The place of the node or the placeholder. A placeholder has no place in the tree.
     pub fn place(self) -> Place
         ensures span { result.span ≡ span_or_detached (node_of_subject self.entry) }
         ensures kind { result.kind ≡ kind_of_subject self.entry }

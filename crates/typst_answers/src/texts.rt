@@ -1,5 +1,4 @@
 //! What leaves answer.
-ghost use Rattle.typst_answers.specs.Kept.{Keeps};
 
 use crate::answers::Answers;
 use crate::names::is_newline;
@@ -10,10 +9,9 @@ use typst_tree::ast::{
     MathShorthand, MathText, Numeric, Raw, RawLang, Shorthand, SmartQuote, Str, Text,
 };
 
-/// What the accessors of a node or a placeholder answer: nothing for a kind of another module, or a leaf with a reading.
-pub fn answer(out: &mut Answers, subject: Subject)
-    ensures kept { Keeps out.old out.new }
-{
+/// What the accessors of a node or a placeholder answer. For a kind of another module, or for a leaf with a reading,
+/// there is no answer.
+pub fn answer(out: &mut Answers, subject: Subject) {
     match subject.kind() {
         SyntaxKind::LineComment => out.text("text", subject.view::<LineComment>().text()),
         SyntaxKind::BlockComment => out.text("text", subject.view::<BlockComment>().text()),
@@ -29,10 +27,8 @@ pub fn answer(out: &mut Answers, subject: Subject)
     }
 }
 
-/// The same for leaves that are read as something else than their text.
-pub fn answer_reading(out: &mut Answers, subject: Subject)
-    ensures kept { Keeps out.old out.new }
-{
+/// The same for leaves that are read as something other than their text.
+pub fn answer_reading(out: &mut Answers, subject: Subject) {
     match subject.kind() {
         SyntaxKind::Escape => out.debugged("get", subject.view::<Escape>().get()),
         SyntaxKind::Shorthand => out.debugged("get", subject.view::<Shorthand>().get()),
@@ -48,23 +44,20 @@ pub fn answer_reading(out: &mut Answers, subject: Subject)
     }
 }
 
-fn ident(out: &mut Answers, ident: Ident)
-    ensures kept { Keeps out.old out.new }
-{
+/// What a name answers.
+fn ident(out: &mut Answers, ident: Ident) {
     out.text("get", ident.get());
     out.text("as_str", ident.as_str());
 }
 
-fn math_ident(out: &mut Answers, ident: MathIdent)
-    ensures kept { Keeps out.old out.new }
-{
+/// What a name in math answers.
+fn math_ident(out: &mut Answers, ident: MathIdent) {
     out.text("get", ident.get());
     out.text("as_str", ident.as_str());
 }
 
-fn raw(out: &mut Answers, raw: Raw)
-    ensures kept { Keeps out.old out.new }
-{
+/// What raw text answers.
+fn raw(out: &mut Answers, raw: Raw) {
     out.items("lines", raw.lines());
     out.option("lang", raw.lang());
     out.shown("block", raw.block(is_newline));

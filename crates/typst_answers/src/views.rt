@@ -1,5 +1,4 @@
 //! What every accessor of every view answers.
-ghost use Rattle.typst_answers.specs.Kept.{Keeps};
 
 use crate::answers::Answers;
 use crate::subject::Subject;
@@ -8,10 +7,8 @@ use std::alloc::AllocError;
 use typst_tree::ast::{AstNode, Expr, Pattern};
 use typst_tree::{LinkedNode, SyntaxKind, SyntaxNode};
 
-/// The answers for all nodes, a parent before its children.
-pub fn views(out: &mut Answers, tree: &SyntaxNode) -> Result<(), AllocError>
-    ensures kept { Keeps out.old out.new }
-{
+/// The answers for all nodes, each parent before its children.
+pub fn views(out: &mut Answers, tree: &SyntaxNode) -> Result<(), AllocError> {
     for node in LinkedNode::new(tree).preorder(out.alloc)? {
         let node = node?;
         of_node(out, node.get());
@@ -19,10 +16,8 @@ pub fn views(out: &mut Answers, tree: &SyntaxNode) -> Result<(), AllocError>
     Ok(())
 }
 
-/// The answers for a node: those as an expression and as a pattern, and those of its own view.
-fn of_node(out: &mut Answers, node: &SyntaxNode)
-    ensures kept { Keeps out.old out.new }
-{
+/// The answers for a node of the tree: as an expression, as a pattern, and as its own view.
+pub fn of_node(out: &mut Answers, node: &SyntaxNode) {
     let subject = Subject::Node(node);
     out.turn_to(subject.place());
     of_expr(out, Expr::from_untyped(node));
@@ -31,69 +26,59 @@ fn of_node(out: &mut Answers, node: &SyntaxNode)
 }
 
 /// The answers of the view of the kind.
-fn of_own_view(out: &mut Answers, subject: Subject)
-    ensures kept { Keeps out.old out.new }
-{
+fn of_own_view(out: &mut Answers, subject: Subject) {
     of_content(out, subject);
     of_code(out, subject);
 }
 
-fn of_content(out: &mut Answers, subject: Subject)
-    ensures kept { Keeps out.old out.new }
-{
+/// The answers of texts, markup and math.
+fn of_content(out: &mut Answers, subject: Subject) {
     texts::answer(out, subject);
     texts::answer_reading(out, subject);
     markup::answer(out, subject);
     math::answer(out, subject);
 }
 
-fn of_code(out: &mut Answers, subject: Subject)
-    ensures kept { Keeps out.old out.new }
-{
+/// The answers of code.
+fn of_code(out: &mut Answers, subject: Subject) {
     imports::answer(out, subject);
     code::answer(out, subject);
     pairs::answer(out, subject);
     control::answer(out, subject);
 }
 
-fn of_expr(out: &mut Answers, expr: Option<Expr>)
-    ensures kept { Keeps out.old out.new }
-{
+/// The answers of an expression.
+fn of_expr(out: &mut Answers, expr: Option<Expr>) {
     if let Some(expr) = expr {
         out.shown("hash", expr.hash());
         out.shown("is_literal", expr.is_literal());
     }
 }
 
-fn of_pattern(out: &mut Answers, pattern: Option<Pattern>)
-    ensures kept { Keeps out.old out.new }
-{
+/// The answers of a pattern.
+fn of_pattern(out: &mut Answers, pattern: Option<Pattern>) {
     if let Some(pattern) = pattern {
         out.names("bindings", pattern.bindings(out.alloc));
     }
 }
 
 /// The answers for the placeholders of expressions and patterns, and for those of each view of one kind.
-pub fn blanks(out: &mut Answers)
-    ensures kept { Keeps out.old out.new }
-{
+pub fn blanks(out: &mut Answers) {
     of_blank_classes(out);
     for kind in KINDS {
         of_blank(out, kind);
     }
 }
 
-fn of_blank_classes(out: &mut Answers)
-    ensures kept { Keeps out.old out.new }
-{
+/// The answers of the placeholders of expressions and patterns.
+fn of_blank_classes(out: &mut Answers) {
     out.turn_to(Subject::Blank(SyntaxKind::None).place());
     of_expr(out, Some(Expr::placeholder()));
     of_pattern(out, Some(Pattern::placeholder()));
 }
 
-fn of_blank(out: &mut Answers, kind: SyntaxKind)
-    ensures kept { Keeps out.old out.new }
-{
+/// The answers of the placeholder of a kind.
+fn of_blank(out: &mut Answers, kind: SyntaxKind) {
     let subject = Subject::Blank(kind);
     out.turn_to(subject.place());
     of_own_view(out, subject);

@@ -1,14 +1,12 @@
 //! What the walks of linked nodes answer.
-ghost use Rattle.typst_answers.specs.Kept.{Keeps};
 
-use crate::answers::{Answers, path_of};
+use crate::answers::Answers;
+use crate::form::path_of;
 use std::alloc::AllocError;
 use typst_tree::{LinkedNode, Side, SyntaxMode, SyntaxNode};
 
-/// The neighbours and the modes of all nodes, a parent before its children, and the leaves at all cursors.
-pub fn walks(out: &mut Answers, tree: &SyntaxNode) -> Result<(), AllocError>
-    ensures kept { Keeps out.old out.new }
-{
+/// The neighbours and the modes of all nodes, each parent before its children, and the leaves at all cursors.
+pub fn walks(out: &mut Answers, tree: &SyntaxNode) -> Result<(), AllocError> {
     let root = LinkedNode::new(tree);
     for node in root.preorder(out.alloc)? {
         neighbours(out, &node?);
@@ -19,9 +17,8 @@ pub fn walks(out: &mut Answers, tree: &SyntaxNode) -> Result<(), AllocError>
     Ok(())
 }
 
-fn neighbours(out: &mut Answers, node: &LinkedNode)
-    ensures kept { Keeps out.old out.new }
-{
+/// Writes the line of a node.
+fn neighbours(out: &mut Answers, node: &LinkedNode) {
     let alloc = out.alloc;
     let offset = node.offset();
     out.put_made(path_of(alloc, node));
@@ -35,18 +32,16 @@ fn neighbours(out: &mut Answers, node: &LinkedNode)
     out.end();
 }
 
-fn put_siblings(out: &mut Answers, node: &LinkedNode)
-    ensures kept { Keeps out.old out.new }
-{
+/// Writes the siblings of a node.
+fn put_siblings(out: &mut Answers, node: &LinkedNode) {
     put_found(out, node.prev_sibling());
     put_found(out, node.next_sibling());
     put_found(out, node.prev_sibling_with_trivia());
     put_found(out, node.next_sibling_with_trivia());
 }
 
-fn put_leaves(out: &mut Answers, node: &LinkedNode)
-    ensures kept { Keeps out.old out.new }
-{
+/// Writes the leaves of a node, and the leaves next to it.
+fn put_leaves(out: &mut Answers, node: &LinkedNode) {
     let alloc = out.alloc;
     put_found(out, node.leftmost_leaf(alloc));
     put_found(out, node.rightmost_leaf(alloc));
@@ -54,10 +49,8 @@ fn put_leaves(out: &mut Answers, node: &LinkedNode)
     put_found(out, node.next_leaf(alloc));
 }
 
-/// ` PATH@OFFSET`, or ` none`.
-fn put_found(out: &mut Answers, found: Result<Option<LinkedNode>, AllocError>)
-    ensures kept { Keeps out.old out.new }
-{
+/// Writes ` PATH@OFFSET`, or ` none`.
+fn put_found(out: &mut Answers, found: Result<Option<LinkedNode>, AllocError>) {
     let alloc = out.alloc;
     out.put(" ");
     match found {
@@ -67,13 +60,12 @@ fn put_found(out: &mut Answers, found: Result<Option<LinkedNode>, AllocError>)
             out.put_made(format!(in alloc; "@{offset}"));
         }
         Ok(None) => out.put("none"),
-        Err(error) => out.note(Err(error)),
+        Err(_) => out.refuse(),
     }
 }
 
-fn put_mode(out: &mut Answers, mode: Option<SyntaxMode>)
-    ensures kept { Keeps out.old out.new }
-{
+/// Writes a mode, or `none`.
+fn put_mode(out: &mut Answers, mode: Option<SyntaxMode>) {
     let alloc = out.alloc;
     match mode {
         Some(mode) => out.put_made(format!(in alloc; " {mode:?}")),
@@ -81,9 +73,8 @@ fn put_mode(out: &mut Answers, mode: Option<SyntaxMode>)
     }
 }
 
-fn leaves_at(out: &mut Answers, root: &LinkedNode, cursor: usize)
-    ensures kept { Keeps out.old out.new }
-{
+/// Writes the line of a cursor.
+fn leaves_at(out: &mut Answers, root: &LinkedNode, cursor: usize) {
     let alloc = out.alloc;
     out.put_made(format!(in alloc; "leaf_at {cursor}"));
     put_leaf(out, root.leaf_at(alloc, cursor, Side::Before));
@@ -91,15 +82,13 @@ fn leaves_at(out: &mut Answers, root: &LinkedNode, cursor: usize)
     out.end();
 }
 
-/// ` PATH`, or ` none`.
-fn put_leaf(out: &mut Answers, leaf: Result<Option<LinkedNode>, AllocError>)
-    ensures kept { Keeps out.old out.new }
-{
+/// Writes ` PATH`, or ` none`.
+fn put_leaf(out: &mut Answers, leaf: Result<Option<LinkedNode>, AllocError>) {
     let alloc = out.alloc;
     out.put(" ");
     match leaf {
         Ok(Some(leaf)) => out.put_made(path_of(alloc, &leaf)),
         Ok(None) => out.put("none"),
-        Err(error) => out.note(Err(error)),
+        Err(_) => out.refuse(),
     }
 }

@@ -1,7 +1,7 @@
 -- The second and the third of a class, by what stands after the first.
 use Rattle.std.proofs.Common.{◌≡◌, true, false, cond, List, [], ◌∷◌, refl}
 use Rattle.typst_ast.specs.Lists.{third_of}
-use Rattle.typst_atoms.specs.Children.{all_in, behind_first, first_of, second_of}
+use Rattle.typst_node.specs.Children.{all_in, behind_first, first_of, second_of}
 use Rattle.typst_node.specs.Tree.{Tree}
 use Rattle.typst_node.specs.Views.{Class, node_kind}
 

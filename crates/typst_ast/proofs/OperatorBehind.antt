@@ -11,7 +11,7 @@ use Rattle.typst_atoms.specs.declared.operators.BinOp.TheVariants.{Add, NotIn}
 use Rattle.typst_base.specs.contracts.kind.SyntaxKind.{the_type}
 use Rattle.typst_base.specs.declared.kind.SyntaxKind.{SyntaxKind}
 use Rattle.typst_base.specs.declared.kind.SyntaxKind.TheVariants as kinds
-use Rattle.typst_node.proofs.FirstMatch.{before-hit, before-miss}
+use Rattle.typst_node.proofs.FirstThatPasses.{before-hit, before-miss}
 use Rattle.typst_node.specs.Tree.{Tree}
 use Rattle.typst_node.specs.Views.{node_kind}
 use denote.Enum.Bare.{same_true}

@@ -8,7 +8,7 @@ use Rattle.typst_ast.specs.Alike.{AreAlike, AreOfOneKind, IsAlike, plain_arg}
 use Rattle.typst_ast.specs.EnumNumbers.{HasNumber, IsFirstNumber, marker_digits}
 use Rattle.typst_ast.specs.Headings.{heading_depth}
 use Rattle.typst_ast.specs.Lists.{all_but_last, before_last, of_class, third_of}
-use Rattle.typst_atoms.specs.Children.{all_children, all_in, behind_first, children_in, first_child, first_of, last_child, last_of, second_of}
+use Rattle.typst_node.specs.Children.{all_children, all_in, behind_first, children_in, first_child, first_of, last_child, last_of, second_of}
 use Rattle.typst_atoms.specs.Classes.{is_arg_kind}
 use Rattle.typst_atoms.specs.Kinds.{is_kind}
 use Rattle.typst_atoms.specs.MathItems.{args_in, ends_in_semicolon}

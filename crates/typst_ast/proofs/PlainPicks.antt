@@ -7,8 +7,9 @@ use Rattle.typst_ast.specs.Closures.{closure_name}
 use Rattle.typst_ast.specs.Equations.{is_block_equation, is_deparenthesized}
 use Rattle.typst_ast.specs.LetBindings.{is_no_expr_besides, let_pattern_kind, let_value}
 use Rattle.typst_ast.specs.Lists.{all_but_last, third_of}
-use Rattle.typst_atoms.specs.Children.{all_children, first_child, last_child, last_of, second_child, second_of}
-use Rattle.typst_atoms.specs.Classes.{is_expr_kind, is_pattern_kind}
+use Rattle.typst_node.specs.Children.{all_children, first_child, last_child, last_of, second_child, second_of}
+use Rattle.typst_atoms.specs.Classes.{is_pattern_kind}
+use Rattle.typst_atoms.specs.ExprKinds.{is_expr_kind}
 use Rattle.typst_atoms.specs.Kinds.{is_kind}
 use Rattle.typst_atoms.specs.Missing.{is_of_kind}
 use Rattle.typst_atoms.specs.Raws.{is_fenced, lang_node, trimmed_in}

@@ -4,17 +4,18 @@ use Rattle.std.proofs.lemmas.List.{map-append}
 use Rattle.std.specs.List.{flat_map}
 use Rattle.std.specs.Option.{option_to_list}
 use Rattle.typst_ast.proofs.OperatorBehind.{behind_nothing_is_in, binary_operator_behind}
-use Rattle.typst_ast.proofs.PlainParts.{all_in_plain, all_plain, args_alike, before_last_plain, behind_first_plain, children_alike, children_plain, cond_lists, depth_alike, first_number_alike, first_of_alike, first_plain, is_of_kind_alike, kind_alike, kind_or_plain, kind_plain, kinds_alike, last_plain, lengths_alike, option_list_plain, text_alike, text_in_plain, texts_alike}
+use Rattle.typst_ast.proofs.PlainParts.{all_in_plain, all_plain, args_alike, before_last_plain, behind_first_plain, children_plain, cond_lists, depth_alike, first_number_alike, first_of_alike, first_plain, is_of_kind_alike, kind_alike, kind_or_plain, kind_plain, kinds_alike, last_plain, lengths_alike, option_list_plain, text_alike, text_in_plain, texts_alike}
 use Rattle.typst_ast.proofs.PlainPicks.{all_picked, block_alike, deparenthesized_alike, fenced_picked, first_picked, lang_picked, last_before_end_picked, last_picked, name_picked, next_picked, pattern_kind_picked, picked_before, picked_behind, second_picked, third_picked, trimmed_alike, value_picked}
-use Rattle.typst_ast.specs.Alike.{AreAlike, IsAlike, PicksSameKinds, ReadsAlike}
+use Rattle.typst_ast.specs.Alike.{AreAlike, IsAlike, ReadsAlike}
 use Rattle.typst_ast.specs.Exprs.{is_expr_or_space_kind, markup_exprs}
 use Rattle.typst_ast.specs.Lists.{before_last}
 use Rattle.typst_ast.specs.Operators.{binary_operator_at, binary_operator_in, unary_operator_in}
 use Rattle.typst_atoms.proofs.ItemLists.{items_in_content}
 use Rattle.typst_atoms.proofs.KeptLists.{kept_in_markup}
 use Rattle.typst_atoms.specs.Bindings.{count_in, names_bound, names_of_item, names_of_pattern, names_within}
-use Rattle.typst_atoms.specs.Children.{all_children, all_in, behind_first, children_in, first_child, last_child}
-use Rattle.typst_atoms.specs.Classes.{is_arg_kind, is_destructuring_item_kind, is_expr_kind, is_pattern_kind}
+use Rattle.typst_node.specs.Children.{all_children, all_in, behind_first, children_in, first_child, last_child}
+use Rattle.typst_atoms.specs.Classes.{is_arg_kind, is_destructuring_item_kind, is_pattern_kind}
+use Rattle.typst_atoms.specs.ExprKinds.{is_expr_kind}
 use Rattle.typst_atoms.specs.KeptNodes.{kept, kept_in, markup_nodes}
 use Rattle.typst_atoms.specs.Kinds.{is_kind}
 use Rattle.typst_atoms.specs.MathItems.{content_items, is_behind_hash, is_item, item_alone, items_in}
@@ -141,22 +142,6 @@ bound_by_items_alike ts us same =
     ∙ ap (flat_map (names_of_item names_bound)) same
     ∙ parts_plain names_bound names_plain us
 
-picks_same_kinds : (a b : Option Tree) → IsAlike a b → PicksSameKinds a b
-picks_same_kinds a b e = record {
-  first = λ c. kind_alike _ _ (first_picked a b e c);
-  second = λ c. kind_alike _ _ (second_picked a b e c);
-  third = λ c. kind_alike _ _ (third_picked a b e c);
-  last = λ c. kind_alike _ _ (last_picked a b e c);
-  behind = λ c d. kind_alike _ _ (picked_behind a b e c d);
-  before = λ c d. kind_alike _ _ (picked_before a b e c d);
-  next = λ c d. kind_alike _ _ (next_picked a b e c d);
-  closure = kind_alike _ _ (name_picked a b e);
-  value = kind_alike _ _ (value_picked a b e);
-  all = λ c. kinds_alike _ _ (all_picked a b e c);
-  exprs = kinds_alike _ _ (exprs_alike _ _ (children_alike a b e));
-  items = kinds_alike _ _ (items_alike _ _ (children_alike a b e));
-}
-
 -- so of nodes that are alike they read what is alike
 pub reads_alike : (a b : Option Tree) → IsAlike a b → ReadsAlike a b
 reads_alike a b e =
@@ -183,7 +168,6 @@ reads_alike a b e =
       kinds = kinds_alike _ _ children;
       texts = texts_alike _ _ children;
       lengths = lengths_alike _ _ children;
-      picked = picks_same_kinds a b e;
       args = args_alike _ _ (items_alike _ _ children);
       block = block_alike _ _ children;
       deparenthesized = deparenthesized_alike _ _ children;

@@ -1,6 +1,6 @@
--- What a clause sees of an `ArrayItem`.
+-- An `ArrayItem` in contracts.
 use Rattle.std.specs.Prelude.{Option, IfSome, ◌≡◌}
-use Rattle.typst_ast.specs.Expr.{expr_node, expr_kind, expr_kind_is_node_kind}
+use Rattle.typst_ast.specs.ExprTable.{expr_node, expr_kind, expr_kind_is_node_kind}
 use Rattle.typst_ast.specs.View.{node_of}
 use Rattle.typst_ast.specs.declared.array_item.ArrayItem.{ArrayItem}
 use Rattle.typst_ast.specs.declared.array_item.ArrayItem.TheVariants.{Pos, Spread}
@@ -10,12 +10,12 @@ use Rattle.typst_base.specs.declared.kind.SyntaxKind.TheVariants as kinds
 use Rattle.typst_node.specs.Tree.{Tree}
 use Rattle.typst_node.specs.Views.{node_kind}
 
--- the node that it views; none for a placeholder
+-- the node of the item; a placeholder has none
 abbrev pub array_item_node : ArrayItem → Option Tree
 array_item_node (Pos v) = expr_node v
 array_item_node (Spread v) = node_of v
 
--- the kind that it has, also without a node; the kind tells the variant
+-- the kind of the item, with or without a node; it determines the variant
 abbrev pub array_item_kind : ArrayItem → SyntaxKind
 array_item_kind (Pos v) = expr_kind v
 array_item_kind (Spread v) = kinds.Spread

@@ -3,11 +3,11 @@ use Rattle.std.specs.Prelude.{List, Option, ◌≡◌}
 use Rattle.typst_atoms.specs.Bindings.{names_of_pattern}
 use Rattle.typst_node.specs.Tree.{Tree}
 
--- `names` says of each pattern what the rule says of it, where `names` says what the patterns below it bind
+-- `names` gives each pattern the names by the rule, which takes the names of the patterns below it from `names`
 abbrev pub MeetsRule : (Option Tree → List Tree) → Type 0
 MeetsRule names = (pattern : Option Tree) → names pattern ≡ names_of_pattern names pattern
 
--- there are names that meet the rule, all that meet it are the same, and this holds of them
+-- there are names that meet the rule, all names that meet it are the same, and `Holds` is true of them
 abbrev pub ByRule : ((Option Tree → List Tree) → Type 0) → Type 0
 ByRule Holds =
     (names : Option Tree → List Tree) × MeetsRule names

@@ -8,17 +8,17 @@ use Rattle.typst_ast.specs.declared.lets.LetBindingKind.TheVariants.{Normal as N
 use Rattle.typst_ast.specs.declared.pattern.Pattern.{Pattern}
 use Rattle.typst_ast.specs.declared.pattern.Pattern.TheVariants.{Normal, Placeholder, Parenthesized, Destructuring}
 use Rattle.typst_atoms.specs.Bindings.{names_bound, names_of_items}
-use Rattle.typst_atoms.specs.Children.{first_child}
+use Rattle.typst_node.specs.Children.{first_child}
 use Rattle.typst_atoms.specs.Classes.{is_pattern_kind}
 use Rattle.typst_atoms.specs.View.{node_of as atom_node}
 use Rattle.typst_node.specs.Tree.{Tree}
 
--- the nodes of the names that the view of a pattern binds: an identifier is a name also as a placeholder
+-- the nodes of the names that an expression binds as a pattern: an identifier binds itself, even as a placeholder
 abbrev pub expr_names : Expr → List (Option Tree)
 expr_names (Ident v) = atom_node v ∷ []
 expr_names _ = []
 
--- What a view binds, where `names` says what a node binds as a pattern.
+-- What a view binds, if `names` says what a node binds as a pattern.
 module _ (names : Option Tree → List Tree) where
   abbrev pub destructuring_names_by : Option Tree → List (Option Tree)
   destructuring_names_by parts = map Some (names_of_items names parts)
@@ -34,7 +34,7 @@ module _ (names : Option Tree → List Tree) where
   let_names_by (NormalKind pattern) = pattern_names_by pattern
   let_names_by (Closure name) = atom_node name ∷ []
 
--- the same by the names down to as many levels as there are nodes
+-- the same, with the names that nodes bind
 abbrev pub destructuring_names : Option Tree → List (Option Tree)
 destructuring_names = destructuring_names_by names_bound
 

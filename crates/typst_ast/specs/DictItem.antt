@@ -1,4 +1,4 @@
--- What a clause sees of a `DictItem`.
+-- A `DictItem` in contracts.
 use Rattle.std.specs.Prelude.{Option, IfSome, ◌≡◌}
 use Rattle.typst_ast.specs.View.{node_of}
 use Rattle.typst_ast.specs.declared.dict_item.DictItem.{DictItem}
@@ -9,13 +9,13 @@ use Rattle.typst_base.specs.declared.kind.SyntaxKind.TheVariants as kinds
 use Rattle.typst_node.specs.Tree.{Tree}
 use Rattle.typst_node.specs.Views.{node_kind}
 
--- the node that it views; none for a placeholder
+-- the node of the item; a placeholder has none
 abbrev pub dict_item_node : DictItem → Option Tree
 dict_item_node (Named v) = node_of v
 dict_item_node (Keyed v) = node_of v
 dict_item_node (Spread v) = node_of v
 
--- the kind that it has, also without a node; the kind tells the variant
+-- the kind of the item, with or without a node; it determines the variant
 abbrev pub dict_item_kind : DictItem → SyntaxKind
 dict_item_kind (Named v) = kinds.Named
 dict_item_kind (Keyed v) = kinds.Keyed

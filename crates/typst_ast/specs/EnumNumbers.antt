@@ -5,11 +5,11 @@ use Rattle.typst_atoms.specs.Trims.{without_trailing}
 use Rattle.typst_node.specs.Text.{own_text}
 use Rattle.typst_node.specs.Tree.{Tree}
 
--- what a marker's text writes: without all `.`, byte 46, at its end and without one `+` before
+-- the text of a marker without all `.`, byte 46, at its end and without one `+` at its beginning
 abbrev pub marker_digits : List ℕ → List ℕ
 marker_digits bs = without_leading_plus (without_trailing (λ b. b == 46) bs)
 
--- that is one decimal digit or more, of a value that a `u64` holds
+-- that text is at least one decimal digit, whose value a `u64` holds
 abbrev pub HasNumber : List ℕ → Type 0
 HasNumber bs = IsNumeral 10 (marker_digits bs) × (digits_value 10 (marker_digits bs) < 2 ^ 64)
 

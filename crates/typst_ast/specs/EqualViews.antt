@@ -1,57 +1,41 @@
--- Equality of views: variant and node are the same, spans and bounds included.
-use Rattle.std.specs.Prelude.{◌≡◌, ◌↔◌, ◌==◌, ◌&&◌, ⊤, ℕ, Bool, true, false, refl}
-use Rattle.std.proofs.Common.{eq-eqb}
-use Rattle.typst_ast.specs.Expr.{expr_kind, expr_node}
+-- Equality of views: they have the same variant and the same node, spans and bounds included.
+use Rattle.std.specs.Prelude.{◌≡◌, ◌==◌, ◌&&◌, ⊤, ℕ, Bool, Option, Some, None}
+use Rattle.std.specs.Bool.{beq}
+use Rattle.std.specs.Cmp.{IsEquivalence, IsPartialEquivalence, and_equiv, bool_eq_equiv, nat_eq_equiv, on_equiv, partial_equiv_from_equiv}
+use Rattle.typst_ast.specs.ExprTable.{expr_kind, expr_node}
 use Rattle.typst_ast.specs.View.{node_of}
-use Rattle.typst_ast.specs.contracts.same_exprs.ExprPartialEq.TheImpl.{ghosts as of_exprs}
-use Rattle.typst_ast.specs.contracts.math_args.MathArgPartialEq.TheImpl.{ghosts as of_math_args}
-use Rattle.typst_ast.specs.contracts.view.ViewPartialEq.TheImpl.{ghosts}
 use Rattle.typst_ast.specs.declared.expr.Expr.{Expr}
 use Rattle.typst_ast.specs.declared.math_args.MathArg.{MathArg}
-use Rattle.typst_ast.specs.declared.view.View.{View}
-use Rattle.typst_atoms.specs.SameViews.{same_views_are}
-use Rattle.typst_atoms.specs.View.{node_of as atom_node}
-use Rattle.typst_node.specs.Equal.{same_nodes, tree_eq, tree_eq_same, tree_same}
-use Rattle.typst_node.specs.Tree.{Tree}
-use denote.RattleType.{RattleType}
-use mathlib.Core.Bool.{beq}
 use Rattle.typst_ast.specs.declared.pattern.Pattern.{Pattern}
 use Rattle.typst_ast.specs.declared.pattern.Pattern.TheVariants.{Normal as Pattern_Normal, Placeholder as Pattern_Placeholder, Parenthesized as Pattern_Parenthesized, Destructuring as Pattern_Destructuring}
-use Rattle.typst_ast.specs.contracts.pattern.PatternPartialEq.TheImpl.{ghosts as of_patterns}
 use Rattle.typst_ast.specs.declared.arg.Arg.{Arg}
 use Rattle.typst_ast.specs.declared.arg.Arg.TheVariants.{Pos as Arg_Pos, Named as Arg_Named, Spread as Arg_Spread}
-use Rattle.typst_ast.specs.contracts.arg.ArgPartialEq.TheImpl.{ghosts as of_args}
 use Rattle.typst_ast.specs.declared.param.Param.{Param}
 use Rattle.typst_ast.specs.declared.param.Param.TheVariants.{Pos as Param_Pos, Named as Param_Named, Spread as Param_Spread}
-use Rattle.typst_ast.specs.contracts.param.ParamPartialEq.TheImpl.{ghosts as of_params}
 use Rattle.typst_ast.specs.declared.array_item.ArrayItem.{ArrayItem}
 use Rattle.typst_ast.specs.declared.array_item.ArrayItem.TheVariants.{Pos as ArrayItem_Pos, Spread as ArrayItem_Spread}
-use Rattle.typst_ast.specs.contracts.array_item.ArrayItemPartialEq.TheImpl.{ghosts as of_array_items}
 use Rattle.typst_ast.specs.declared.dict_item.DictItem.{DictItem}
 use Rattle.typst_ast.specs.declared.dict_item.DictItem.TheVariants.{Named as DictItem_Named, Keyed as DictItem_Keyed, Spread as DictItem_Spread}
-use Rattle.typst_ast.specs.contracts.dict_item.DictItemPartialEq.TheImpl.{ghosts as of_dict_items}
 use Rattle.typst_ast.specs.declared.destructuring_item.DestructuringItem.{DestructuringItem}
 use Rattle.typst_ast.specs.declared.destructuring_item.DestructuringItem.TheVariants.{Pattern as DestructuringItem_Pattern, Named as DestructuringItem_Named, Spread as DestructuringItem_Spread}
-use Rattle.typst_ast.specs.contracts.destructuring_item.DestructuringItemPartialEq.TheImpl.{ghosts as of_destructuring_items}
 use Rattle.typst_ast.specs.declared.imports.Imports.{Imports}
 use Rattle.typst_ast.specs.declared.imports.Imports.TheVariants.{Wildcard as Imports_Wildcard, Items as Imports_Items}
-use Rattle.typst_ast.specs.contracts.imports.ImportsPartialEq.TheImpl.{ghosts as of_imports}
 use Rattle.typst_ast.specs.declared.lets.LetBindingKind.{LetBindingKind}
 use Rattle.typst_ast.specs.declared.lets.LetBindingKind.TheVariants.{Normal as LetBindingKind_Normal, Closure as LetBindingKind_Closure}
-use Rattle.typst_ast.specs.contracts.lets.LetBindingKindPartialEq.TheImpl.{ghosts as of_let_binding_kinds}
 use Rattle.typst_ast.specs.declared.math_args.MathArgItem.{MathArgItem}
 use Rattle.typst_ast.specs.declared.math_args.MathArgItem.TheVariants.{Arg as MathArgItem_Arg, Space as MathArgItem_Space, Comma as MathArgItem_Comma, Semicolon as MathArgItem_Semicolon, LeftParen as MathArgItem_LeftParen, RightParen as MathArgItem_RightParen}
-use Rattle.typst_ast.specs.contracts.math_args.MathArgItemPartialEq.TheImpl.{ghosts as of_math_arg_items}
+use Rattle.typst_atoms.specs.SameViews.{same_parts, same_views_equivalence}
+use Rattle.typst_atoms.specs.View.{node_of as atom_node}
+use Rattle.typst_base.specs.declared.kind.SyntaxKind.{SyntaxKind}
+use Rattle.typst_base.specs.declared.kind.SyntaxKind.TheVariants as kinds
+use Rattle.typst_node.specs.Tree.{Tree}
 
--- views of one kind are equal exactly if their nodes are
-pub equal_views : (M : RattleType) (g : _) (d : _) (v w : View M.Denot g) → ((ghosts M g d).eq v w ≡ true) ↔ (node_of v ≡ node_of w)
-equal_views M g d v w = same_nodes v.node w.node
-
--- two expressions are the same: of one kind, which tells the variant, and of the same tree or both placeholders
+-- two expressions are the same: they have one kind, which determines the variant, and the same tree, or both are
+-- placeholders
 abbrev pub AreSameExprs : Expr → Expr → Type 0
 AreSameExprs v w = (expr_kind v ≡ expr_kind w) × (expr_node v ≡ expr_node w)
 
--- Two views of several kinds are the same: the same variant of the same.
+-- Two views of several kinds are the same: they have the same variant with the same content.
 abbrev pub AreSamePatterns : Pattern → Pattern → Type 0
 AreSamePatterns (Pattern_Normal v) (Pattern_Normal w) = AreSameExprs v w
 AreSamePatterns (Pattern_Placeholder v) (Pattern_Placeholder w) = atom_node v ≡ atom_node w
@@ -111,153 +95,167 @@ AreSameMathArgItems _ _ = ⊥
 abbrev pub AreSameMathArgs : MathArg → MathArg → Type 0
 AreSameMathArgs a b = AreSameArgs a.arg b.arg × (a.ends_in_semicolon ≡ b.ends_in_semicolon)
 
--- that they are equal means that they are the same
-both : (v w : Bool) → (v && w) ≡ true → (v ≡ true) × (w ≡ true)
-both true w e = (refl, e)
-both false w e = cc
+-- Equality as a test. The number of its variant, and the kind and the node of its content, determine a view.
+abbrev Held : Type 0
+Held = ℕ × (SyntaxKind × Option Tree)
 
-same_bools : (v w : Bool) → beq v w ≡ true → v ≡ w
-same_bools true true e = refl
-same_bools true false e = cc
-same_bools false true e = cc
-same_bools false false e = refl
+abbrev held_eq : Held → Held → Bool
+held_eq a b = a.0 == b.0 && same_parts a.1.0 a.1.1 b.1.0 b.1.1
 
-bools_same : (v w : Bool) → v ≡ w → beq v w ≡ true
-bools_same true true e = refl
-bools_same true false e = cc
-bools_same false true e = cc
-bools_same false false e = refl
+held_eq_equivalence : IsEquivalence held_eq
+held_eq_equivalence =
+    and_equiv (on_equiv (λ (h : Held). h.0) nat_eq_equiv) (same_views_equivalence (λ (h : Held). h.1.0) (λ (h : Held). h.1.1))
 
-same_chars_and_nodes : (c d : ℕ) (t u : Tree) → (((c == d) && tree_eq t u) ≡ true) ↔ ((c ≡ d) × (t ≡ u))
-same_chars_and_nodes c d t u = (
-  (λ e. let h = both (c == d) (tree_eq t u) e in (Rattle.std.proofs.lemmas.Bool.eqb-true c d h.0, tree_same t u h.1)),
-  (λ e. λ i. eq-eqb c d e.0 i && tree_eq_same t u e.1 i),
-)
+abbrev twice_held_eq : ℕ × Held → ℕ × Held → Bool
+twice_held_eq a b = a.0 == b.0 && held_eq a.1 b.1
 
-pub equal_exprs : (v w : Expr) → (of_exprs.eq v w ≡ true) ↔ AreSameExprs v w
-equal_exprs v w = same_views_are expr_kind expr_node v w
+twice_held_eq_equivalence : IsEquivalence twice_held_eq
+twice_held_eq_equivalence =
+    and_equiv (on_equiv (λ (h : ℕ × Held). h.0) nat_eq_equiv) (on_equiv (λ (h : ℕ × Held). h.1) held_eq_equivalence)
 
-pub equal_patterns : (a b : Pattern) → (of_patterns.eq a b ≡ true) ↔ AreSamePatterns a b
-equal_patterns (Pattern_Normal v) (Pattern_Normal w) = equal_exprs v w
-equal_patterns (Pattern_Normal v) (Pattern_Placeholder w) = (λ e. cc, λ e. absurd e)
-equal_patterns (Pattern_Normal v) (Pattern_Parenthesized w) = (λ e. cc, λ e. absurd e)
-equal_patterns (Pattern_Normal v) (Pattern_Destructuring w) = (λ e. cc, λ e. absurd e)
-equal_patterns (Pattern_Placeholder v) (Pattern_Normal w) = (λ e. cc, λ e. absurd e)
-equal_patterns (Pattern_Placeholder v) (Pattern_Placeholder w) = same_nodes v.node w.node
-equal_patterns (Pattern_Placeholder v) (Pattern_Parenthesized w) = (λ e. cc, λ e. absurd e)
-equal_patterns (Pattern_Placeholder v) (Pattern_Destructuring w) = (λ e. cc, λ e. absurd e)
-equal_patterns (Pattern_Parenthesized v) (Pattern_Normal w) = (λ e. cc, λ e. absurd e)
-equal_patterns (Pattern_Parenthesized v) (Pattern_Placeholder w) = (λ e. cc, λ e. absurd e)
-equal_patterns (Pattern_Parenthesized v) (Pattern_Parenthesized w) = same_nodes v.node w.node
-equal_patterns (Pattern_Parenthesized v) (Pattern_Destructuring w) = (λ e. cc, λ e. absurd e)
-equal_patterns (Pattern_Destructuring v) (Pattern_Normal w) = (λ e. cc, λ e. absurd e)
-equal_patterns (Pattern_Destructuring v) (Pattern_Placeholder w) = (λ e. cc, λ e. absurd e)
-equal_patterns (Pattern_Destructuring v) (Pattern_Parenthesized w) = (λ e. cc, λ e. absurd e)
-equal_patterns (Pattern_Destructuring v) (Pattern_Destructuring w) = same_nodes v.node w.node
+abbrev pattern_held : Pattern → Held
+pattern_held (Pattern_Normal v) = (0, (expr_kind v, expr_node v))
+pattern_held (Pattern_Placeholder v) = (1, (kinds.Underscore, atom_node v))
+pattern_held (Pattern_Parenthesized v) = (2, (kinds.Parenthesized, node_of v))
+pattern_held (Pattern_Destructuring v) = (3, (kinds.Destructuring, node_of v))
 
-pub equal_args : (a b : Arg) → (of_args.eq a b ≡ true) ↔ AreSameArgs a b
-equal_args (Arg_Pos v) (Arg_Pos w) = equal_exprs v w
-equal_args (Arg_Pos v) (Arg_Named w) = (λ e. cc, λ e. absurd e)
-equal_args (Arg_Pos v) (Arg_Spread w) = (λ e. cc, λ e. absurd e)
-equal_args (Arg_Named v) (Arg_Pos w) = (λ e. cc, λ e. absurd e)
-equal_args (Arg_Named v) (Arg_Named w) = same_nodes v.node w.node
-equal_args (Arg_Named v) (Arg_Spread w) = (λ e. cc, λ e. absurd e)
-equal_args (Arg_Spread v) (Arg_Pos w) = (λ e. cc, λ e. absurd e)
-equal_args (Arg_Spread v) (Arg_Named w) = (λ e. cc, λ e. absurd e)
-equal_args (Arg_Spread v) (Arg_Spread w) = same_nodes v.node w.node
+-- whether two patterns are the same
+abbrev pub patterns_eq : Pattern → Pattern → Bool
+patterns_eq v w = held_eq (pattern_held v) (pattern_held w)
 
-pub equal_params : (a b : Param) → (of_params.eq a b ≡ true) ↔ AreSameParams a b
-equal_params (Param_Pos v) (Param_Pos w) = equal_patterns v w
-equal_params (Param_Pos v) (Param_Named w) = (λ e. cc, λ e. absurd e)
-equal_params (Param_Pos v) (Param_Spread w) = (λ e. cc, λ e. absurd e)
-equal_params (Param_Named v) (Param_Pos w) = (λ e. cc, λ e. absurd e)
-equal_params (Param_Named v) (Param_Named w) = same_nodes v.node w.node
-equal_params (Param_Named v) (Param_Spread w) = (λ e. cc, λ e. absurd e)
-equal_params (Param_Spread v) (Param_Pos w) = (λ e. cc, λ e. absurd e)
-equal_params (Param_Spread v) (Param_Named w) = (λ e. cc, λ e. absurd e)
-equal_params (Param_Spread v) (Param_Spread w) = same_nodes v.node w.node
+pub patterns_equivalence : IsEquivalence patterns_eq
+patterns_equivalence = on_equiv pattern_held held_eq_equivalence
 
-pub equal_array_items : (a b : ArrayItem) → (of_array_items.eq a b ≡ true) ↔ AreSameArrayItems a b
-equal_array_items (ArrayItem_Pos v) (ArrayItem_Pos w) = equal_exprs v w
-equal_array_items (ArrayItem_Pos v) (ArrayItem_Spread w) = (λ e. cc, λ e. absurd e)
-equal_array_items (ArrayItem_Spread v) (ArrayItem_Pos w) = (λ e. cc, λ e. absurd e)
-equal_array_items (ArrayItem_Spread v) (ArrayItem_Spread w) = same_nodes v.node w.node
+pub patterns_laws : IsPartialEquivalence patterns_eq
+patterns_laws = partial_equiv_from_equiv patterns_equivalence
 
-pub equal_dict_items : (a b : DictItem) → (of_dict_items.eq a b ≡ true) ↔ AreSameDictItems a b
-equal_dict_items (DictItem_Named v) (DictItem_Named w) = same_nodes v.node w.node
-equal_dict_items (DictItem_Named v) (DictItem_Keyed w) = (λ e. cc, λ e. absurd e)
-equal_dict_items (DictItem_Named v) (DictItem_Spread w) = (λ e. cc, λ e. absurd e)
-equal_dict_items (DictItem_Keyed v) (DictItem_Named w) = (λ e. cc, λ e. absurd e)
-equal_dict_items (DictItem_Keyed v) (DictItem_Keyed w) = same_nodes v.node w.node
-equal_dict_items (DictItem_Keyed v) (DictItem_Spread w) = (λ e. cc, λ e. absurd e)
-equal_dict_items (DictItem_Spread v) (DictItem_Named w) = (λ e. cc, λ e. absurd e)
-equal_dict_items (DictItem_Spread v) (DictItem_Keyed w) = (λ e. cc, λ e. absurd e)
-equal_dict_items (DictItem_Spread v) (DictItem_Spread w) = same_nodes v.node w.node
+abbrev arg_held : Arg → Held
+arg_held (Arg_Pos v) = (0, (expr_kind v, expr_node v))
+arg_held (Arg_Named v) = (1, (kinds.Named, node_of v))
+arg_held (Arg_Spread v) = (2, (kinds.Spread, node_of v))
 
-pub equal_destructuring_items : (a b : DestructuringItem) → (of_destructuring_items.eq a b ≡ true) ↔ AreSameDestructuringItems a b
-equal_destructuring_items (DestructuringItem_Pattern v) (DestructuringItem_Pattern w) = equal_patterns v w
-equal_destructuring_items (DestructuringItem_Pattern v) (DestructuringItem_Named w) = (λ e. cc, λ e. absurd e)
-equal_destructuring_items (DestructuringItem_Pattern v) (DestructuringItem_Spread w) = (λ e. cc, λ e. absurd e)
-equal_destructuring_items (DestructuringItem_Named v) (DestructuringItem_Pattern w) = (λ e. cc, λ e. absurd e)
-equal_destructuring_items (DestructuringItem_Named v) (DestructuringItem_Named w) = same_nodes v.node w.node
-equal_destructuring_items (DestructuringItem_Named v) (DestructuringItem_Spread w) = (λ e. cc, λ e. absurd e)
-equal_destructuring_items (DestructuringItem_Spread v) (DestructuringItem_Pattern w) = (λ e. cc, λ e. absurd e)
-equal_destructuring_items (DestructuringItem_Spread v) (DestructuringItem_Named w) = (λ e. cc, λ e. absurd e)
-equal_destructuring_items (DestructuringItem_Spread v) (DestructuringItem_Spread w) = same_nodes v.node w.node
+-- whether two arguments are the same
+abbrev pub args_eq : Arg → Arg → Bool
+args_eq v w = held_eq (arg_held v) (arg_held w)
 
-pub equal_imports : (a b : Imports) → (of_imports.eq a b ≡ true) ↔ AreSameImports a b
-equal_imports Imports_Wildcard Imports_Wildcard = ((λ e. tt), (λ e. refl))
-equal_imports Imports_Wildcard (Imports_Items w) = (λ e. cc, λ e. absurd e)
-equal_imports (Imports_Items v) Imports_Wildcard = (λ e. cc, λ e. absurd e)
-equal_imports (Imports_Items v) (Imports_Items w) = same_nodes v.node w.node
+pub args_equivalence : IsEquivalence args_eq
+args_equivalence = on_equiv arg_held held_eq_equivalence
 
-pub equal_let_binding_kinds : (a b : LetBindingKind) → (of_let_binding_kinds.eq a b ≡ true) ↔ AreSameLetBindingKinds a b
-equal_let_binding_kinds (LetBindingKind_Normal v) (LetBindingKind_Normal w) = equal_patterns v w
-equal_let_binding_kinds (LetBindingKind_Normal v) (LetBindingKind_Closure w) = (λ e. cc, λ e. absurd e)
-equal_let_binding_kinds (LetBindingKind_Closure v) (LetBindingKind_Normal w) = (λ e. cc, λ e. absurd e)
-equal_let_binding_kinds (LetBindingKind_Closure v) (LetBindingKind_Closure w) = same_nodes v.node w.node
+pub args_laws : IsPartialEquivalence args_eq
+args_laws = partial_equiv_from_equiv args_equivalence
 
-pub equal_math_arg_items : (a b : MathArgItem) → (of_math_arg_items.eq a b ≡ true) ↔ AreSameMathArgItems a b
-equal_math_arg_items (MathArgItem_Arg v) (MathArgItem_Arg w) = equal_args v w
-equal_math_arg_items (MathArgItem_Arg v) (MathArgItem_Space w) = (λ e. cc, λ e. absurd e)
-equal_math_arg_items (MathArgItem_Arg v) (MathArgItem_Comma d w) = (λ e. cc, λ e. absurd e)
-equal_math_arg_items (MathArgItem_Arg v) (MathArgItem_Semicolon d w) = (λ e. cc, λ e. absurd e)
-equal_math_arg_items (MathArgItem_Arg v) (MathArgItem_LeftParen d w) = (λ e. cc, λ e. absurd e)
-equal_math_arg_items (MathArgItem_Arg v) (MathArgItem_RightParen d w) = (λ e. cc, λ e. absurd e)
-equal_math_arg_items (MathArgItem_Space v) (MathArgItem_Arg w) = (λ e. cc, λ e. absurd e)
-equal_math_arg_items (MathArgItem_Space v) (MathArgItem_Space w) = same_nodes v.node w.node
-equal_math_arg_items (MathArgItem_Space v) (MathArgItem_Comma d w) = (λ e. cc, λ e. absurd e)
-equal_math_arg_items (MathArgItem_Space v) (MathArgItem_Semicolon d w) = (λ e. cc, λ e. absurd e)
-equal_math_arg_items (MathArgItem_Space v) (MathArgItem_LeftParen d w) = (λ e. cc, λ e. absurd e)
-equal_math_arg_items (MathArgItem_Space v) (MathArgItem_RightParen d w) = (λ e. cc, λ e. absurd e)
-equal_math_arg_items (MathArgItem_Comma c v) (MathArgItem_Arg w) = (λ e. cc, λ e. absurd e)
-equal_math_arg_items (MathArgItem_Comma c v) (MathArgItem_Space w) = (λ e. cc, λ e. absurd e)
-equal_math_arg_items (MathArgItem_Comma c v) (MathArgItem_Comma d w) = same_chars_and_nodes c d v.now w.now
-equal_math_arg_items (MathArgItem_Comma c v) (MathArgItem_Semicolon d w) = (λ e. cc, λ e. absurd e)
-equal_math_arg_items (MathArgItem_Comma c v) (MathArgItem_LeftParen d w) = (λ e. cc, λ e. absurd e)
-equal_math_arg_items (MathArgItem_Comma c v) (MathArgItem_RightParen d w) = (λ e. cc, λ e. absurd e)
-equal_math_arg_items (MathArgItem_Semicolon c v) (MathArgItem_Arg w) = (λ e. cc, λ e. absurd e)
-equal_math_arg_items (MathArgItem_Semicolon c v) (MathArgItem_Space w) = (λ e. cc, λ e. absurd e)
-equal_math_arg_items (MathArgItem_Semicolon c v) (MathArgItem_Comma d w) = (λ e. cc, λ e. absurd e)
-equal_math_arg_items (MathArgItem_Semicolon c v) (MathArgItem_Semicolon d w) = same_chars_and_nodes c d v.now w.now
-equal_math_arg_items (MathArgItem_Semicolon c v) (MathArgItem_LeftParen d w) = (λ e. cc, λ e. absurd e)
-equal_math_arg_items (MathArgItem_Semicolon c v) (MathArgItem_RightParen d w) = (λ e. cc, λ e. absurd e)
-equal_math_arg_items (MathArgItem_LeftParen c v) (MathArgItem_Arg w) = (λ e. cc, λ e. absurd e)
-equal_math_arg_items (MathArgItem_LeftParen c v) (MathArgItem_Space w) = (λ e. cc, λ e. absurd e)
-equal_math_arg_items (MathArgItem_LeftParen c v) (MathArgItem_Comma d w) = (λ e. cc, λ e. absurd e)
-equal_math_arg_items (MathArgItem_LeftParen c v) (MathArgItem_Semicolon d w) = (λ e. cc, λ e. absurd e)
-equal_math_arg_items (MathArgItem_LeftParen c v) (MathArgItem_LeftParen d w) = same_chars_and_nodes c d v.now w.now
-equal_math_arg_items (MathArgItem_LeftParen c v) (MathArgItem_RightParen d w) = (λ e. cc, λ e. absurd e)
-equal_math_arg_items (MathArgItem_RightParen c v) (MathArgItem_Arg w) = (λ e. cc, λ e. absurd e)
-equal_math_arg_items (MathArgItem_RightParen c v) (MathArgItem_Space w) = (λ e. cc, λ e. absurd e)
-equal_math_arg_items (MathArgItem_RightParen c v) (MathArgItem_Comma d w) = (λ e. cc, λ e. absurd e)
-equal_math_arg_items (MathArgItem_RightParen c v) (MathArgItem_Semicolon d w) = (λ e. cc, λ e. absurd e)
-equal_math_arg_items (MathArgItem_RightParen c v) (MathArgItem_LeftParen d w) = (λ e. cc, λ e. absurd e)
-equal_math_arg_items (MathArgItem_RightParen c v) (MathArgItem_RightParen d w) = same_chars_and_nodes c d v.now w.now
+abbrev param_held : Param → ℕ × Held
+param_held (Param_Pos v) = (0, pattern_held v)
+param_held (Param_Named v) = (1, (0, (kinds.Named, node_of v)))
+param_held (Param_Spread v) = (2, (0, (kinds.Spread, node_of v)))
 
-pub equal_math_args : (a b : MathArg) → (of_math_args.eq a b ≡ true) ↔ AreSameMathArgs a b
-equal_math_args a b =
-    let law = equal_args a.arg b.arg in (
-      (λ e. let h = both (of_args.eq a.arg b.arg) (beq a.ends_in_semicolon b.ends_in_semicolon) e in (law.0 h.0, same_bools a.ends_in_semicolon b.ends_in_semicolon h.1)),
-      (λ e. λ i. law.1 e.0 i && bools_same a.ends_in_semicolon b.ends_in_semicolon e.1 i),
-    )
+-- whether two parameters are the same
+abbrev pub params_eq : Param → Param → Bool
+params_eq v w = twice_held_eq (param_held v) (param_held w)
+
+pub params_equivalence : IsEquivalence params_eq
+params_equivalence = on_equiv param_held twice_held_eq_equivalence
+
+pub params_laws : IsPartialEquivalence params_eq
+params_laws = partial_equiv_from_equiv params_equivalence
+
+abbrev array_item_held : ArrayItem → Held
+array_item_held (ArrayItem_Pos v) = (0, (expr_kind v, expr_node v))
+array_item_held (ArrayItem_Spread v) = (1, (kinds.Spread, node_of v))
+
+-- whether two items of arrays are the same
+abbrev pub array_items_eq : ArrayItem → ArrayItem → Bool
+array_items_eq v w = held_eq (array_item_held v) (array_item_held w)
+
+pub array_items_equivalence : IsEquivalence array_items_eq
+array_items_equivalence = on_equiv array_item_held held_eq_equivalence
+
+pub array_items_laws : IsPartialEquivalence array_items_eq
+array_items_laws = partial_equiv_from_equiv array_items_equivalence
+
+abbrev dict_item_held : DictItem → Held
+dict_item_held (DictItem_Named v) = (0, (kinds.Named, node_of v))
+dict_item_held (DictItem_Keyed v) = (1, (kinds.Keyed, node_of v))
+dict_item_held (DictItem_Spread v) = (2, (kinds.Spread, node_of v))
+
+-- whether two items of dictionaries are the same
+abbrev pub dict_items_eq : DictItem → DictItem → Bool
+dict_items_eq v w = held_eq (dict_item_held v) (dict_item_held w)
+
+pub dict_items_equivalence : IsEquivalence dict_items_eq
+dict_items_equivalence = on_equiv dict_item_held held_eq_equivalence
+
+pub dict_items_laws : IsPartialEquivalence dict_items_eq
+dict_items_laws = partial_equiv_from_equiv dict_items_equivalence
+
+abbrev destructuring_item_held : DestructuringItem → ℕ × Held
+destructuring_item_held (DestructuringItem_Pattern v) = (0, pattern_held v)
+destructuring_item_held (DestructuringItem_Named v) = (1, (0, (kinds.Named, node_of v)))
+destructuring_item_held (DestructuringItem_Spread v) = (2, (0, (kinds.Spread, node_of v)))
+
+-- whether two parts of destructurings are the same
+abbrev pub destructuring_items_eq : DestructuringItem → DestructuringItem → Bool
+destructuring_items_eq v w = twice_held_eq (destructuring_item_held v) (destructuring_item_held w)
+
+pub destructuring_items_equivalence : IsEquivalence destructuring_items_eq
+destructuring_items_equivalence = on_equiv destructuring_item_held twice_held_eq_equivalence
+
+pub destructuring_items_laws : IsPartialEquivalence destructuring_items_eq
+destructuring_items_laws = partial_equiv_from_equiv destructuring_items_equivalence
+
+abbrev imports_held : Imports → Held
+imports_held Imports_Wildcard = (0, (kinds.Star, None))
+imports_held (Imports_Items v) = (1, (kinds.ImportItems, atom_node v))
+
+-- whether two imports are the same
+abbrev pub imports_eq : Imports → Imports → Bool
+imports_eq v w = held_eq (imports_held v) (imports_held w)
+
+pub imports_equivalence : IsEquivalence imports_eq
+imports_equivalence = on_equiv imports_held held_eq_equivalence
+
+pub imports_laws : IsPartialEquivalence imports_eq
+imports_laws = partial_equiv_from_equiv imports_equivalence
+
+abbrev let_binding_kind_held : LetBindingKind → ℕ × Held
+let_binding_kind_held (LetBindingKind_Normal v) = (0, pattern_held v)
+let_binding_kind_held (LetBindingKind_Closure v) = (1, (0, (kinds.Ident, atom_node v)))
+
+-- whether two kinds of let bindings are the same
+abbrev pub let_binding_kinds_eq : LetBindingKind → LetBindingKind → Bool
+let_binding_kinds_eq v w = twice_held_eq (let_binding_kind_held v) (let_binding_kind_held w)
+
+pub let_binding_kinds_equivalence : IsEquivalence let_binding_kinds_eq
+let_binding_kinds_equivalence = on_equiv let_binding_kind_held twice_held_eq_equivalence
+
+pub let_binding_kinds_laws : IsPartialEquivalence let_binding_kinds_eq
+let_binding_kinds_laws = partial_equiv_from_equiv let_binding_kinds_equivalence
+
+abbrev math_arg_item_held : MathArgItem → ℕ × Held
+math_arg_item_held (MathArgItem_Arg v) = (0, arg_held v)
+math_arg_item_held (MathArgItem_Space v) = (1, (0, (kinds.Space, atom_node v)))
+math_arg_item_held (MathArgItem_Comma c v) = (2, (c, (kinds.Comma, Some v.now)))
+math_arg_item_held (MathArgItem_Semicolon c v) = (3, (c, (kinds.Semicolon, Some v.now)))
+math_arg_item_held (MathArgItem_LeftParen c v) = (4, (c, (kinds.LeftParen, Some v.now)))
+math_arg_item_held (MathArgItem_RightParen c v) = (5, (c, (kinds.RightParen, Some v.now)))
+
+-- whether two parts of arguments in math are the same
+abbrev pub math_arg_items_eq : MathArgItem → MathArgItem → Bool
+math_arg_items_eq v w = twice_held_eq (math_arg_item_held v) (math_arg_item_held w)
+
+pub math_arg_items_equivalence : IsEquivalence math_arg_items_eq
+math_arg_items_equivalence = on_equiv math_arg_item_held twice_held_eq_equivalence
+
+pub math_arg_items_laws : IsPartialEquivalence math_arg_items_eq
+math_arg_items_laws = partial_equiv_from_equiv math_arg_items_equivalence
+
+-- whether two arguments in math are the same
+abbrev pub math_args_eq : MathArg → MathArg → Bool
+math_args_eq a b = args_eq a.arg b.arg && beq a.ends_in_semicolon b.ends_in_semicolon
+
+pub math_args_equivalence : IsEquivalence math_args_eq
+math_args_equivalence =
+    and_equiv (on_equiv (λ (a : MathArg). a.arg) args_equivalence) (on_equiv (λ (a : MathArg). a.ends_in_semicolon) bool_eq_equiv)
+
+pub math_args_laws : IsPartialEquivalence math_args_eq
+math_args_laws = partial_equiv_from_equiv math_args_equivalence

@@ -1,8 +1,8 @@
 -- The expressions of markup and of math: children that are expressions or spaces.
 use Rattle.std.specs.Prelude.{Bool, map, Option, List, ◌||◌}
 use Rattle.typst_ast.specs.declared.exprs.Exprs.{Exprs}
-use Rattle.typst_atoms.specs.Children.{all_in}
-use Rattle.typst_atoms.specs.Classes.{is_expr_kind}
+use Rattle.typst_node.specs.Children.{all_in}
+use Rattle.typst_atoms.specs.ExprKinds.{is_expr_kind}
 use Rattle.typst_atoms.specs.KeptNodes.{kept_left, markup_nodes, nodes_ahead as kept_nodes_ahead}
 use Rattle.typst_atoms.specs.Kinds.{is_kind}
 use Rattle.typst_base.specs.declared.kind.SyntaxKind.{SyntaxKind}
@@ -26,6 +26,6 @@ nodes_ahead e = kept_nodes_ahead e.nodes
 abbrev pub exprs_left : Exprs → List Tree
 exprs_left e = all_in is_expr_or_space_kind (kept_left e.nodes)
 
--- what is told of each of these views
+-- what is said about each of these views
 abbrev pub told_exprs_left : Exprs → List (Option Tree × SyntaxKind × Bool)
 told_exprs_left e = map told_of (exprs_left e)

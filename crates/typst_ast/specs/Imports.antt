@@ -1,4 +1,4 @@
--- What an import brings in.
+-- The items that an import brings in.
 use Rattle.std.specs.Prelude.{Bool, ◌||◌, Option, Some, None, ◌≡◌}
 use Rattle.typst_ast.specs.declared.imports.Imports.{Imports}
 use Rattle.typst_ast.specs.declared.imports.Imports.TheVariants.{Wildcard, Items}
@@ -13,7 +13,7 @@ use Rattle.typst_node.specs.Views.{node_kind}
 abbrev pub is_imports_kind : SyntaxKind → Bool
 is_imports_kind k = is_kind kinds.Star k || is_kind kinds.ImportItems k
 
--- the imports that such a node stands for: all of a star, those of items, and none where there is no node
+-- the imports of such a node: everything for a star, the items for import items, and none if there is no node
 abbrev pub IsImportsOf : Option Tree → Option Imports → Type 0
 IsImportsOf None imports = imports ≡ None
 IsImportsOf (Some t) None = ⊥

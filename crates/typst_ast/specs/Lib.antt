@@ -8,9 +8,12 @@ pub mod Closures
 pub mod DestructuringItem
 pub mod DictItem
 pub mod EnumNumbers
+pub mod EqualHashes
 pub mod EqualViews
 pub mod Equations
 pub mod Expr
+pub mod ExprClasses
+pub mod ExprTable
 pub mod Exprs
 pub mod Headings
 pub mod Imports

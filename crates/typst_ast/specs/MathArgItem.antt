@@ -1,4 +1,4 @@
--- What a clause sees of a `MathArgItem` and of a `MathArg`.
+-- A `MathArgItem` and a `MathArg` in contracts.
 use Rattle.std.specs.Prelude.{Bool, true, ◌==◌, Option, Some}
 use Rattle.typst_ast.specs.Arg.{arg_node, arg_kind}
 use Rattle.typst_ast.specs.declared.math_args.MathArg.{MathArg}
@@ -28,8 +28,8 @@ item_kind (Semicolon c node) = kinds.Semicolon
 item_kind (LeftParen c node) = kinds.LeftParen
 item_kind (RightParen c node) = kinds.RightParen
 
--- What an item is besides: an argument is of a kind of arguments, so that kind and node tell the variant,
--- and the others have their character: `,` is 44, `;` is 59, `(` is 40 and `)` is 41.
+-- The item has its proper form. An argument has a kind of arguments, so its kind and node determine the variant. The
+-- other items have their character: `,` is 44, `;` is 59, `(` is 40 and `)` is 41.
 abbrev pub is_proper_item : MathArgItem → Bool
 is_proper_item (Arg arg) = is_arg_kind (arg_kind arg)
 is_proper_item (Space space) = true
@@ -38,6 +38,6 @@ is_proper_item (Semicolon c node) = c == 59
 is_proper_item (LeftParen c node) = c == 40
 is_proper_item (RightParen c node) = c == 41
 
--- what is told of an argument: its node, its kind, and whether it ends in a semicolon
+-- what is said about an argument: its node, its kind, and whether it ends in a semicolon
 abbrev pub told_arg : MathArg → Option Tree × SyntaxKind × Bool
 told_arg a = (arg_node a.arg, arg_kind a.arg, a.ends_in_semicolon)

@@ -1,4 +1,4 @@
--- What is told of the items and the arguments of a function call in math that are still to come.
+-- The items and the arguments of a function call in math that are still to come.
 use Rattle.std.specs.Prelude.{Bool, map, Option, Some, List}
 use Rattle.typst_ast.specs.declared.math_args.MathArgItems.{MathArgItems}
 use Rattle.typst_ast.specs.declared.math_args.MathArgList.{MathArgList}
@@ -7,7 +7,7 @@ use Rattle.typst_base.specs.declared.kind.SyntaxKind.{SyntaxKind}
 use Rattle.typst_node.specs.Tree.{Tree}
 use Rattle.typst_node.specs.Views.{node_kind, told_of}
 
--- the nodes that an iterator over items, over arguments, hasn't passed yet
+-- the nodes that an iterator hasn't passed yet, over items and over arguments
 abbrev pub nodes_ahead : MathArgItems → List Tree
 nodes_ahead i = math_nodes_ahead i.nodes
 
@@ -22,7 +22,7 @@ items_left i = nodes_left i.nodes
 abbrev pub args_left : MathArgList → List (Tree × Bool)
 args_left l = args_in (nodes_left l.nodes)
 
--- what is told of each of these items, and of each of these arguments
+-- what is said about each of these items, and about each of these arguments
 abbrev pub told_items_left : MathArgItems → List (Option Tree × SyntaxKind × Bool)
 told_items_left i = map told_of (items_left i)
 

@@ -1,4 +1,4 @@
--- What a clause sees of a `Param`.
+-- A `Param` in contracts.
 use Rattle.std.specs.Prelude.{Option, IfSome, Bool, true, ◌≡◌}
 use Rattle.typst_ast.specs.Pattern.{pattern_node, pattern_kind, pattern_kind_is_node_kind, is_proper_pattern}
 use Rattle.typst_ast.specs.View.{node_of}
@@ -10,13 +10,13 @@ use Rattle.typst_base.specs.declared.kind.SyntaxKind.TheVariants as kinds
 use Rattle.typst_node.specs.Tree.{Tree}
 use Rattle.typst_node.specs.Views.{node_kind}
 
--- the node that it views; none for a placeholder
+-- the node of the parameter; a placeholder has none
 abbrev pub param_node : Param → Option Tree
 param_node (Pos v) = pattern_node v
 param_node (Named v) = node_of v
 param_node (Spread v) = node_of v
 
--- the kind that it has, also without a node
+-- the kind of the parameter, with or without a node
 abbrev pub param_kind : Param → SyntaxKind
 param_kind (Pos v) = pattern_kind v
 param_kind (Named v) = kinds.Named
@@ -27,7 +27,7 @@ param_kind_is_node_kind (Pos v) = pattern_kind_is_node_kind v
 param_kind_is_node_kind (Named v) = kind_from_test kinds.Named v.node v.of_kind
 param_kind_is_node_kind (Spread v) = kind_from_test kinds.Spread v.node v.of_kind
 
--- it holds the proper form of a pattern
+-- the parameter has the proper form of a pattern
 abbrev pub is_proper_param : Param → Bool
 is_proper_param (Pos v) = is_proper_pattern v
 is_proper_param (Named v) = true

@@ -8,7 +8,7 @@ cube_root_sign = 0xE2 ∷ 0x88 ∷ 0x9B ∷ []
 abbrev pub fourth_root_sign : List ℕ
 fourth_root_sign = 0xE2 ∷ 0x88 ∷ 0x9C ∷ []
 
--- the index that a root has by its sign: 3 for `∛`, 4 for `∜`, and none for any other
+-- the index of a root by its sign: 3 for `∛`, 4 for `∜`, and none for any other sign
 abbrev pub IsRootIndex : List ℕ → Option ℕ → Type 0
 IsRootIndex sign (Some index) = ((sign ≡ cube_root_sign) × (index ≡ 3)) ⊎ ((sign ≡ fourth_root_sign) × (index ≡ 4))
 IsRootIndex sign None = (sign ≢ cube_root_sign) × (sign ≢ fourth_root_sign)

@@ -1,4 +1,4 @@
--- What a clause sees of a view of one kind.
+-- A view of one kind in contracts.
 use Rattle.std.specs.Prelude.{Option, true}
 use Rattle.std.specs.Option.{option_copied}
 use Rattle.typst_ast.specs.declared.view.View.{View}
@@ -8,14 +8,14 @@ use Rattle.typst_base.specs.declared.kind.SyntaxKind.{SyntaxKind}
 use Rattle.typst_node.specs.Tree.{Tree}
 use Rattle.typst_node.specs.Views.{IsOptionalViewOf}
 
--- the node of a view; none for a placeholder
+-- the node of a view; a placeholder has none
 abbrev pub node_of : {M : _} {g : _} → View M g → Option Tree
 node_of v = option_copied v.node
 
--- a view of this kind is there exactly if the node is, and then it is the view of that node
+-- there is a view of this kind exactly if there is a node, and then it is the view of that node
 abbrev pub IsOptionalView : {M : _} {g : _} → SyntaxKind → Option Tree → Option (View M g) → Type 0
 IsOptionalView k = IsOptionalViewOf node_of (λ _. k) (λ _. true) k
 
--- the same of a view that comes from the crate of views of single kinds
+-- the same for a view from the crate of views of single kinds
 abbrev pub IsOptionalAtom : {M : _} {g : _} → SyntaxKind → Option Tree → Option (Atom M g) → Type 0
 IsOptionalAtom k = IsOptionalViewOf atom_node (λ _. k) (λ _. true) k

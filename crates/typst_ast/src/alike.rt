@@ -4,11 +4,11 @@ ghost use Rattle.typst_ast.specs.Alike.{IsAlike, ReadsAlike};
 
 use typst_node::AstNode;
 
-/// Whether two views are of the same plain tree, spans and bounds aside, or both of none.
+/// Whether two views have equal nodes, apart from spans and bounds, or both have none.
 ///
-/// Then all that accessors answer of them is alike as well, since an accessor reads nothing but the plain tree: so the
-/// views of an edited tree read as those of the same tree built anew. It takes time in proportion to the smaller tree at
-/// most, and no memory.
+/// An accessor reads nothing but the plain tree. So all accessors of such views answer alike, and the views of an
+/// edited tree read as those of the same tree built anew. It takes time at most in proportion to the smaller tree, and
+/// no memory.
 #[tactic(auto, using(crate::proofs::PlainReads::reads_alike))]
 pub fn is_alike<'a, T: AstNode<'a>>(view: T, other: T) -> bool
     ensures plain { IsTrue result ↔ IsAlike (T.node_of view) (T.node_of other) }

@@ -3,7 +3,7 @@ ghost use Rattle.std.specs.Prelude.{◌≡◌, ◌≢◌, Err, IfOk, string_byte
 ghost use Rattle.std.specs.Fn.{FnReturnsAt};
 ghost use Rattle.typst_ast.specs.BareNames.{import_kind, import_source, IsAccepted, IsDynamic, IsFileName, IsImportName, IsName, IsPackageName, IsSourceName, IsStringName};
 ghost use Rattle.typst_ast.specs.View.{node_of};
-ghost use Rattle.typst_atoms.specs.Children.{last_child};
+ghost use Rattle.typst_node.specs.Children.{last_child};
 ghost use Rattle.typst_atoms.specs.Kinds.{is_kind};
 ghost use Rattle.typst_atoms.specs.Texts.{text_in};
 ghost use Rattle.typst_atoms.specs.View.{node_of as atom_node};
@@ -17,18 +17,18 @@ use std::alloc::{AllocError, Global};
 /// Why an import gives its module no name.
 #[derive(Clone, Copy, Debug, PartialEq, Eq, Hash)]
 pub enum BareImportError {
-    /// The source is computed: it is neither a name, a field nor a string.
+    /// The source is computed: it is not a name, a field or a string.
     Dynamic,
-    /// The path has no file stem, or the name is no identifier.
+    /// The path has no file stem, or the name is not an identifier.
     PathInvalid,
     /// The text after an `@` names no package.
     PackageInvalid,
 }
 
-/// A name or why there is none, unless memory was refused.
+/// A name, or the reason why there is none. It fails if memory is refused.
 pub type BareNameResult = Result<Result<String, BareImportError>, AllocError>;
 
-// The name, if it is an identifier.
+/// The name, if it is an identifier.
 fn accepted<I: Fn(&str) -> bool>(name: String, is_ident: &I) -> Result<String, BareImportError>
     requires { I.IsAlwaysCallable is_ident.now }
     ensures { IsAccepted (FnReturnsAt I.Fn is_ident.now) (string_bytes name) result }
@@ -40,7 +40,7 @@ fn accepted<I: Fn(&str) -> bool>(name: String, is_ident: &I) -> Result<String, B
     }
 }
 
-// The name of the package.
+/// The name of the package.
 fn package_name<I, P>(text: &str, is_ident: &I, package: &P) -> BareNameResult
 where
     I: Fn(&str) -> bool,
@@ -55,7 +55,7 @@ where
     }
 }
 
-// The name of the file.
+/// The name of the file.
 fn file_name<I: Fn(&str) -> bool>(alloc: Global, path: &str, is_ident: &I) -> BareNameResult
     requires { I.IsAlwaysCallable is_ident.now }
     ensures { IfOk result (IsFileName (FnReturnsAt I.Fn is_ident.now) path.now) }
@@ -66,7 +66,7 @@ fn file_name<I: Fn(&str) -> bool>(alloc: Global, path: &str, is_ident: &I) -> Ba
     }
 }
 
-// The name of the package or the file.
+/// The name of the package or the file.
 fn import_name<I, P>(alloc: Global, text: &str, is_ident: &I, package: &P) -> BareNameResult
 where
     I: Fn(&str) -> bool,
@@ -81,14 +81,14 @@ where
     }
 }
 
-// The name that is copied.
+/// A copy of the name.
 fn copied(alloc: Global, text: &str) -> BareNameResult
     ensures { IfOk result (IsName text.now) }
 {
     Ok(Ok(String::from_str(alloc, text)?))
 }
 
-// The name that a string gives.
+/// The name that a string gives to the module.
 fn string_name<I, P>(alloc: Global, string: Str, is_ident: &I, package: &P) -> BareNameResult
 where
     I: Fn(&str) -> bool,
@@ -103,11 +103,12 @@ where
 }
 
 impl<'a> ModuleImport<'a> {
-    /// The name that the module gets where the import gives it no other: that of the source.
+    /// The name that the module gets from the source, if the import gives it no other name.
     ///
-    /// It is a name itself, the field's name, or what a string names: a package if it begins with `@`, else the file,
-    /// by its [`file_stem`]. The caller tells which texts are identifiers, and which package a text names; a refusal of
-    /// memory there is passed on. It takes memory in proportion to the text.
+    /// A name gives itself, and a field access gives the name of the field. A string that begins with `@` gives the
+    /// name of a package. Any other string gives the [`file_stem`] of its path. `is_ident` tells which texts are
+    /// identifiers, and `package` tells which package a text names. If `package` fails because memory is refused, this
+    /// call fails, too. It takes memory in proportion to the text.
     pub fn bare_name<I, P>(self, alloc: Global, is_ident: I, package: P) -> BareNameResult
     where
         I: Fn(&str) -> bool,

@@ -5,9 +5,10 @@ ghost use Rattle.typst_ast.specs.Kinds.{is_param_kind};
 ghost use Rattle.typst_ast.specs.Lists.{all_but_last, last_significant};
 ghost use Rattle.typst_ast.specs.Closures.{closure_name};
 ghost use Rattle.typst_ast.specs.View.{IsOptionalAtom, node_of};
-ghost use Rattle.typst_atoms.specs.Children.{all_children, children_in, first_child, last_child};
-ghost use Rattle.typst_atoms.specs.Classes.{is_arg_kind, is_expr_kind};
-ghost use Rattle.typst_atoms.specs.Items.{nodes_ahead, nodes_left};
+ghost use Rattle.typst_node.specs.Children.{all_children, children_in, first_child, last_child};
+ghost use Rattle.typst_atoms.specs.Classes.{is_arg_kind};
+ghost use Rattle.typst_atoms.specs.ExprKinds.{is_expr_kind};
+ghost use Rattle.typst_node.specs.Items.{nodes_ahead, nodes_left};
 ghost use Rattle.typst_atoms.specs.Kinds.{is_kind};
 ghost use Rattle.typst_atoms.specs.Missing.{is_of_kind};
 ghost use Rattle.typst_base.specs.declared.kind.SyntaxKind.TheVariants as kinds;
@@ -20,8 +21,9 @@ use crate::nodes::{
 use crate::param::Param;
 use crate::views::{Args, Closure, FuncCall, Ident, Params};
 use typst_atoms::nodes::children;
-use typst_atoms::{Items, cast_all, cast_first, cast_last};
+use typst_atoms::{cast_all, cast_first, cast_last};
 use typst_base::SyntaxKind;
+use typst_node::Items;
 
 impl<'a> FuncCall<'a> {
     /// The function that is called.
@@ -40,7 +42,7 @@ impl<'a> FuncCall<'a> {
 }
 
 impl<'a> Args<'a> {
-    /// The arguments in order, from both ends.
+    /// The arguments in order. They can be read from both ends.
     pub fn items(self) -> Items<'a, Arg<'a>>
         ensures left { nodes_left is_arg_kind result ≡ all_children is_arg_kind (node_of self.entry) }
         ensures ahead { nodes_ahead result ≡ children_in (node_of self.entry) }
@@ -48,7 +50,8 @@ impl<'a> Args<'a> {
         cast_all(self.node())
     }
 
-    /// Whether a comma stands after the last argument: before the last child, trivia aside, a comma is last.
+    /// Whether a comma comes after the last argument: among the children before the last one, the last child that isn't
+    /// trivia is a comma.
     pub fn trailing_comma(self) -> bool
         ensures { result
             ≡ is_of_kind kinds.Comma (last_significant (all_but_last (children_in (node_of self.entry)))) }
@@ -59,7 +62,7 @@ impl<'a> Args<'a> {
 }
 
 impl<'a> Closure<'a> {
-    /// The closure's name, if it has one: it is the first child then.
+    /// The closure's name, if it has one. The name is then the first child.
     pub fn name(self) -> Option<Ident<'a>>
         ensures { IsOptionalAtom kinds.Ident (closure_name (node_of self.entry)) result }
     {
@@ -82,7 +85,7 @@ impl<'a> Closure<'a> {
 }
 
 impl<'a> Params<'a> {
-    /// The parameters in order, from both ends.
+    /// The parameters in order. They can be read from both ends.
     pub fn children(self) -> Items<'a, Param<'a>>
         ensures left { nodes_left is_param_kind result ≡ all_children is_param_kind (node_of self.entry) }
         ensures ahead { nodes_ahead result ≡ children_in (node_of self.entry) }

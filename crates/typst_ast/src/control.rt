@@ -3,8 +3,9 @@ ghost use Rattle.typst_ast.specs.Expr.{IsExprOf, IsOptionalExprOf};
 ghost use Rattle.typst_ast.specs.Pattern.{IsPatternOf};
 ghost use Rattle.typst_ast.specs.Lists.{third_of};
 ghost use Rattle.typst_ast.specs.View.{node_of};
-ghost use Rattle.typst_atoms.specs.Children.{all_children, all_in, behind_first, children_in, first_child, first_of, last_child, second_child};
-ghost use Rattle.typst_atoms.specs.Classes.{is_expr_kind, is_pattern_kind};
+ghost use Rattle.typst_node.specs.Children.{all_children, all_in, behind_first, children_in, first_child, first_of, last_child, second_child};
+ghost use Rattle.typst_atoms.specs.Classes.{is_pattern_kind};
+ghost use Rattle.typst_atoms.specs.ExprKinds.{is_expr_kind};
 ghost use Rattle.typst_atoms.specs.Kinds.{is_kind};
 ghost use Rattle.typst_base.specs.declared.kind.SyntaxKind.TheVariants as kinds;
 
@@ -25,7 +26,7 @@ impl<'a> Conditional<'a> {
         first_expr(self.node())
     }
 
-    /// What is evaluated where the condition holds: the second expression.
+    /// The expression for a true condition: the second expression.
     pub fn if_body(self) -> Expr<'a>
         ensures { IsExprOf (second_child is_expr_kind (node_of self.entry)) result }
     {
@@ -35,7 +36,7 @@ impl<'a> Conditional<'a> {
         }
     }
 
-    /// What is evaluated otherwise: the third expression, if there is one.
+    /// The expression for a false condition: the third expression, if there is one.
     pub fn else_body(self) -> Option<Expr<'a>>
         ensures { IsOptionalExprOf (third_of (all_children is_expr_kind (node_of self.entry))) result }
     {
@@ -67,7 +68,7 @@ impl<'a> ForLoop<'a> {
         cast_first(self.node())
     }
 
-    /// What the loop goes through: the first expression after the first `in`.
+    /// The value that the loop goes through: the first expression after the first `in`.
     pub fn iterable(self) -> Expr<'a>
         ensures { IsExprOf
             (first_of (all_in is_expr_kind
@@ -89,7 +90,7 @@ impl<'a> ForLoop<'a> {
 }
 
 impl<'a> FuncReturn<'a> {
-    /// What is returned, if anything is.
+    /// The value that is returned, if there is one.
     pub fn body(self) -> Option<Expr<'a>>
         ensures { IsOptionalExprOf (last_child is_expr_kind (node_of self.entry)) result }
     {

@@ -4,7 +4,7 @@ ghost use Rattle.std.specs.Option.{SomeIff};
 ghost use Rattle.std.specs.Str.Parse.{digits_value};
 ghost use Rattle.typst_ast.specs.EnumNumbers.{HasNumber, IsFirstNumber, marker_digits};
 ghost use Rattle.typst_ast.specs.View.{node_of};
-ghost use Rattle.typst_atoms.specs.Children.{all_children, first_child};
+ghost use Rattle.typst_node.specs.Children.{all_children, first_child};
 ghost use Rattle.typst_atoms.specs.Kinds.{is_kind};
 ghost use Rattle.typst_atoms.specs.Trims.{without_trailing};
 ghost use Rattle.typst_base.specs.declared.kind.SyntaxKind.TheVariants as kinds;
@@ -14,14 +14,14 @@ use typst_atoms::cast_first;
 use typst_atoms::nodes::children;
 use typst_base::SyntaxKind;
 
-// The text without all `.` at its end.
+/// The text without all `.` at its end.
 fn without_dots(text: &str) -> &str
     ensures { result.now ≡ without_trailing (λ b. b == 46) text.now }
 {
     text.trim_end_matches('.')
 }
 
-// The number that a marker's text writes, if it writes one.
+/// The number in a marker's text, if there is one.
 fn marker_number(text: &str) -> Option<u64>
     ensures { SomeIff result (HasNumber text.now) (digits_value 10 (marker_digits text.now)) }
 {
@@ -32,9 +32,10 @@ fn marker_number(text: &str) -> Option<u64>
 }
 
 impl<'a> EnumItem<'a> {
-    /// The number that the item is given explicitly, if any: that of its first marker which writes one.
+    /// The number that the source gives to the item, if it gives one: the number of its first marker that has one.
     ///
-    /// A marker writes a number by an optional `+` and decimal digits, with any `.` after them, where a `u64` holds the value.
+    /// A marker has a number if its text is an optional `+`, decimal digits, and any number of `.` after them, and if a
+    /// `u64` holds the value.
     pub fn number(self) -> Option<u64>
         ensures { IsFirstNumber (all_children (is_kind kinds.EnumMarker) (node_of self.entry)) result }
     {

@@ -1,7 +1,8 @@
+// Written by bench/kinds.py from crates/kinds.txt: change that and run it.
 //! Expressions.
 ghost use Rattle.std.specs.Prelude.{◌≡◌};
-ghost use Rattle.typst_ast.specs.Kinds.{is_hash_kind, is_literal_kind};
-ghost use Rattle.typst_atoms.specs.Classes.{is_expr_kind};
+ghost use Rattle.typst_ast.specs.ExprClasses.{is_hash_kind, is_literal_kind};
+ghost use Rattle.typst_atoms.specs.ExprKinds.{is_expr_kind};
 
 use crate::views as of;
 use typst_base::{Span, SyntaxKind};
@@ -9,137 +10,137 @@ use typst_node::{AstNode, SyntaxNode, span_of};
 
 /// An expression in markup, math or code.
 ///
-/// Each variant holds the view of the kind of its own name. Expressions are equal where kind and node are, spans and bounds
-/// included.
+/// Each variant holds the view of the kind of its own name. Two expressions are equal if their kinds and their nodes
+/// are equal, spans and bounds included.
 #[derive(Clone, Copy)]
 pub enum Expr<'a> {
-    /// Plain text without markup.
+    /// Plain text: `Hello`.
     Text(of::Text<'a>),
-    /// A space in markup or math, which the lists of expressions there hold besides.
+    /// White space. In markup it has at most one line break.
     Space(of::Space<'a>),
-    /// A forced line break: `\`.
+    /// A line break within a paragraph: `one \ two`.
     Linebreak(of::Linebreak<'a>),
-    /// A paragraph break: a blank line or more.
+    /// White space with an empty line, which ends a paragraph.
     Parbreak(of::Parbreak<'a>),
-    /// An escape sequence: `\#`, `\u{1F5FA}`.
+    /// A character that stands for itself, or that is given by its number: `\*`, `\u{2603}`.
     Escape(of::Escape<'a>),
-    /// A shorthand in markup: `~` or `...`.
+    /// Signs in markup that stand for one character: `--`, `~`.
     Shorthand(of::Shorthand<'a>),
-    /// A smart quote: `'` or `"`.
+    /// A quote, which is set by the rules of the language: `"` or `'`.
     SmartQuote(of::SmartQuote<'a>),
-    /// Strong content: `*Strong*`.
+    /// Content between stars: `*bold*`.
     Strong(of::Strong<'a>),
-    /// Emphasized content: `_Emphasized_`.
+    /// Content between underscores: `_stressed_`.
     Emph(of::Emph<'a>),
-    /// Raw text with optional syntax highlighting: `` `..` ``.
+    /// Text that is kept as it is written: `` `let x` ``.
     Raw(of::Raw<'a>),
-    /// A hyperlink: `https://typst.org`.
+    /// An address that is written out: `https://example.org`.
     Link(of::Link<'a>),
-    /// A label: `<intro>`.
+    /// A name by which references find what comes before it: `<intro>`.
     Label(of::Label<'a>),
-    /// A reference: `@target`, `@target[..]`.
+    /// A reference to a label: `@intro`, `@intro[Chapter]`.
     Ref(of::Ref<'a>),
-    /// A section heading: `= Introduction`.
+    /// A heading: `= Introduction`.
     Heading(of::Heading<'a>),
-    /// An item in a bullet list: `- ..`.
+    /// An item of a list with bullets: `- milk`.
     ListItem(of::ListItem<'a>),
-    /// An item in a numbered list: `+ ..` or `1. ..`.
+    /// An item of a numbered list: `+ boil`, `3. serve`.
     EnumItem(of::EnumItem<'a>),
-    /// An item in a term list: `/ Term: Details`.
+    /// A term with its meaning: `/ Leaf: a node without children`.
     TermItem(of::TermItem<'a>),
-    /// An equation: `$x$`, `$ x^2 $`.
+    /// An equation: `$a^2$` in a line, `$ a^2 $` as a block.
     Equation(of::Equation<'a>),
-    /// The contents of an equation: `x^2 + 1`.
+    /// The content of an equation or of a part of one: the `a^2 + b` of `$a^2 + b$`.
     Math(of::Math<'a>),
-    /// A single character or a number in math: `x`, `25`.
+    /// A character or a number that stands for itself in an equation: `a`, `2.5`, `=`.
     MathText(of::MathText<'a>),
-    /// An identifier in math: `pi`.
+    /// A name of two letters or more in an equation: `alpha`.
     MathIdent(of::MathIdent<'a>),
-    /// A field access in math: `arrow.r`.
+    /// A field of a name in an equation: `arrow.l`.
     MathFieldAccess(of::MathFieldAccess<'a>),
-    /// A shorthand in math: `a <= b`.
+    /// Signs in an equation that stand for one character: `->`, `<=`.
     MathShorthand(of::MathShorthand<'a>),
-    /// An alignment point in math: `&`.
+    /// A point at which the lines of an equation are aligned: `&`.
     MathAlignPoint(of::MathAlignPoint<'a>),
-    /// A function call in math: `sin(x)`.
+    /// A call in an equation: `vec(1, 2)`.
     MathCall(of::MathCall<'a>),
-    /// Math in delimiters: `[x + y]`.
+    /// A part of an equation between two delimiters: `[a + b]`.
     MathDelimited(of::MathDelimited<'a>),
-    /// A base with attachments in math: `a_1^2`.
+    /// A base with what is above and below it: `x_1^2`.
     MathAttach(of::MathAttach<'a>),
-    /// Primes in math: `a'''`.
+    /// Primes after a base: the `''` of `f''`.
     MathPrimes(of::MathPrimes<'a>),
-    /// A fraction in math: `x/2`.
+    /// A fraction: `a/b`.
     MathFrac(of::MathFrac<'a>),
-    /// A root in math: `√x`, `∛x` or `∜x`.
+    /// A root by its sign: `√x`, `∛x`.
     MathRoot(of::MathRoot<'a>),
-    /// An identifier: `left`.
-    Ident(of::Ident<'a>),
-    /// The `none` literal.
+    /// The value `none`.
     None(of::None<'a>),
-    /// The `auto` literal.
+    /// The value `auto`.
     Auto(of::Auto<'a>),
-    /// A boolean: `true`, `false`.
+    /// A name in code: `width`.
+    Ident(of::Ident<'a>),
+    /// A truth value: `true`, `false`.
     Bool(of::Bool<'a>),
-    /// An integer: `120`.
+    /// A whole number: `42`, `0x2a`.
     Int(of::Int<'a>),
-    /// A floating-point number: `1.2`, `10e-4`.
+    /// A number with a point or an exponent: `0.5`, `1e3`.
     Float(of::Float<'a>),
-    /// A number with a unit: `12pt`, `3cm`, `2em`, `90deg`, `50%`.
+    /// A number with a unit: `2cm`, `30%`.
     Numeric(of::Numeric<'a>),
-    /// A quoted string: `".."`.
+    /// A text between quotes: `"two\nlines"`.
     Str(of::Str<'a>),
-    /// A code block: `{ let x = 1; x + 2 }`.
+    /// Code between braces: `{ let a = 1; a }`.
     CodeBlock(of::CodeBlock<'a>),
-    /// A content block: `[*Hi* there!]`.
+    /// Markup between brackets: `[A *bold* word]`.
     ContentBlock(of::ContentBlock<'a>),
-    /// A grouped expression: `(1 + 2)`.
+    /// An expression in parentheses: `(a + b)`.
     Parenthesized(of::Parenthesized<'a>),
-    /// An array: `(1, "hi", 12cm)`.
+    /// An array: `(1, 2, 3)`.
     Array(of::Array<'a>),
-    /// A dictionary: `(thickness: 3pt, dash: "solid")`.
+    /// A dictionary: `(width: 2cm, "key": 1)`.
     Dict(of::Dict<'a>),
-    /// A unary operation: `-x`.
+    /// An operator before its operand: `-a`, `not a`.
     Unary(of::Unary<'a>),
-    /// A binary operation: `a + b`.
+    /// An operator between two operands: `a + b`, `a in b`.
     Binary(of::Binary<'a>),
-    /// A field access: `properties.age`.
+    /// A field of a value: `page.width`.
     FieldAccess(of::FieldAccess<'a>),
-    /// A function call: `f(x, y)`.
+    /// A call: `calc.max(a, b)`, `list[A][B]`.
     FuncCall(of::FuncCall<'a>),
-    /// A closure: `(x, y) => z`.
+    /// A function without a name, or one that `let` binds: `(a, b) => a + b`.
     Closure(of::Closure<'a>),
-    /// A let binding: `let x = 1`.
+    /// A binding: `let a = 1`, `let f(x) = x`.
     LetBinding(of::LetBinding<'a>),
-    /// A destructuring assignment: `(x, y) = (1, 2)`.
-    DestructAssignment(of::DestructAssignment<'a>),
-    /// A set rule: `set text(..)`.
+    /// A rule that sets parameters for what comes after it: `set text(size: 9pt)`.
     SetRule(of::SetRule<'a>),
-    /// A show rule: `show heading: it => emph(it.body)`.
+    /// A rule that says how elements are shown: `show heading: it => it.body`.
     ShowRule(of::ShowRule<'a>),
-    /// A contextual expression: `context text.lang`.
+    /// An expression that depends on its place in the document: `context text.size`.
     Contextual(of::Contextual<'a>),
-    /// An if-else conditional: `if x { y } else { z }`.
+    /// A choice: `if a { b } else { c }`.
     Conditional(of::Conditional<'a>),
-    /// A while loop: `while x { y }`.
+    /// A loop while a condition holds: `while a < 3 { a += 1 }`.
     WhileLoop(of::WhileLoop<'a>),
-    /// A for loop: `for x in y { z }`.
+    /// A loop over items: `for a in list { a }`.
     ForLoop(of::ForLoop<'a>),
-    /// A module import: `import "utils.typ": a, b, c`.
+    /// An import of a module: `import "shapes.typ": circle as ring`.
     ModuleImport(of::ModuleImport<'a>),
-    /// A module include: `include "chapter1.typ"`.
+    /// The content of another file: `include "chapter.typ"`.
     ModuleInclude(of::ModuleInclude<'a>),
-    /// A break from a loop: `break`.
+    /// The end of a loop: `break`.
     LoopBreak(of::LoopBreak<'a>),
-    /// A continue in a loop: `continue`.
+    /// The next round of a loop: `continue`.
     LoopContinue(of::LoopContinue<'a>),
-    /// A return from a function: `return`, `return x + 1`.
+    /// The end of a function, with a value or without: `return a`.
     FuncReturn(of::FuncReturn<'a>),
+    /// An assignment to several places at once: `(a, b) = (b, a)`.
+    DestructAssignment(of::DestructAssignment<'a>),
 }
 
 impl<'a> AstNode<'a> for Expr<'a> {
     ghost use Rattle.std.specs.Prelude.{refl};
-    ghost use Rattle.typst_ast.specs.Expr.{expr_node, expr_kind, expr_kind_is_node_kind};
+    ghost use Rattle.typst_ast.specs.ExprTable.{expr_node, expr_kind, expr_kind_is_node_kind};
     ghost use Rattle.typst_base.specs.declared.kind.SyntaxKind.TheVariants as kinds;
 
     ghost class = { is_expr_kind };
@@ -154,6 +155,9 @@ impl<'a> AstNode<'a> for Expr<'a> {
 
     ghost kind_is_node_kind = { expr_kind_is_node_kind };
 
+    // Inlined, so that the caller decides at once what becomes of the answer. An option of an expression takes four
+    // words.
+    #[inline(always)]
     fn from_untyped(node: &'a SyntaxNode) -> Option<Self> {
         match node.kind() {
             SyntaxKind::Text => Some(Expr::Text(of::Text::of_kind(node))),
@@ -193,9 +197,9 @@ impl<'a> AstNode<'a> for Expr<'a> {
             SyntaxKind::MathPrimes => Some(Expr::MathPrimes(of::MathPrimes::of_kind(node))),
             SyntaxKind::MathFrac => Some(Expr::MathFrac(of::MathFrac::of_kind(node))),
             SyntaxKind::MathRoot => Some(Expr::MathRoot(of::MathRoot::of_kind(node))),
-            SyntaxKind::Ident => Some(Expr::Ident(of::Ident::of_kind(node))),
             SyntaxKind::None => Some(Expr::None(of::None::of_kind(node))),
             SyntaxKind::Auto => Some(Expr::Auto(of::Auto::of_kind(node))),
+            SyntaxKind::Ident => Some(Expr::Ident(of::Ident::of_kind(node))),
             SyntaxKind::Bool => Some(Expr::Bool(of::Bool::of_kind(node))),
             SyntaxKind::Int => Some(Expr::Int(of::Int::of_kind(node))),
             SyntaxKind::Float => Some(Expr::Float(of::Float::of_kind(node))),
@@ -214,9 +218,6 @@ impl<'a> AstNode<'a> for Expr<'a> {
             SyntaxKind::FuncCall => Some(Expr::FuncCall(of::FuncCall::of_kind(node))),
             SyntaxKind::Closure => Some(Expr::Closure(of::Closure::of_kind(node))),
             SyntaxKind::LetBinding => Some(Expr::LetBinding(of::LetBinding::of_kind(node))),
-            SyntaxKind::DestructAssignment => Some(Expr::DestructAssignment(
-                of::DestructAssignment::of_kind(node),
-            )),
             SyntaxKind::SetRule => Some(Expr::SetRule(of::SetRule::of_kind(node))),
             SyntaxKind::ShowRule => Some(Expr::ShowRule(of::ShowRule::of_kind(node))),
             SyntaxKind::Contextual => Some(Expr::Contextual(of::Contextual::of_kind(node))),
@@ -230,6 +231,9 @@ impl<'a> AstNode<'a> for Expr<'a> {
             SyntaxKind::LoopBreak => Some(Expr::LoopBreak(of::LoopBreak::of_kind(node))),
             SyntaxKind::LoopContinue => Some(Expr::LoopContinue(of::LoopContinue::of_kind(node))),
             SyntaxKind::FuncReturn => Some(Expr::FuncReturn(of::FuncReturn::of_kind(node))),
+            SyntaxKind::DestructAssignment => Some(Expr::DestructAssignment(
+                of::DestructAssignment::of_kind(node),
+            )),
             _ => None,
         }
     }
@@ -266,9 +270,9 @@ impl<'a> AstNode<'a> for Expr<'a> {
             Expr::MathPrimes(view) => view.to_untyped(),
             Expr::MathFrac(view) => view.to_untyped(),
             Expr::MathRoot(view) => view.to_untyped(),
-            Expr::Ident(view) => view.to_untyped(),
             Expr::None(view) => view.to_untyped(),
             Expr::Auto(view) => view.to_untyped(),
+            Expr::Ident(view) => view.to_untyped(),
             Expr::Bool(view) => view.to_untyped(),
             Expr::Int(view) => view.to_untyped(),
             Expr::Float(view) => view.to_untyped(),
@@ -285,7 +289,6 @@ impl<'a> AstNode<'a> for Expr<'a> {
             Expr::FuncCall(view) => view.to_untyped(),
             Expr::Closure(view) => view.to_untyped(),
             Expr::LetBinding(view) => view.to_untyped(),
-            Expr::DestructAssignment(view) => view.to_untyped(),
             Expr::SetRule(view) => view.to_untyped(),
             Expr::ShowRule(view) => view.to_untyped(),
             Expr::Contextual(view) => view.to_untyped(),
@@ -297,6 +300,7 @@ impl<'a> AstNode<'a> for Expr<'a> {
             Expr::LoopBreak(view) => view.to_untyped(),
             Expr::LoopContinue(view) => view.to_untyped(),
             Expr::FuncReturn(view) => view.to_untyped(),
+            Expr::DestructAssignment(view) => view.to_untyped(),
         }
     }
 
@@ -336,9 +340,9 @@ impl<'a> AstNode<'a> for Expr<'a> {
             Expr::MathPrimes(_) => SyntaxKind::MathPrimes,
             Expr::MathFrac(_) => SyntaxKind::MathFrac,
             Expr::MathRoot(_) => SyntaxKind::MathRoot,
-            Expr::Ident(_) => SyntaxKind::Ident,
             Expr::None(_) => SyntaxKind::None,
             Expr::Auto(_) => SyntaxKind::Auto,
+            Expr::Ident(_) => SyntaxKind::Ident,
             Expr::Bool(_) => SyntaxKind::Bool,
             Expr::Int(_) => SyntaxKind::Int,
             Expr::Float(_) => SyntaxKind::Float,
@@ -355,7 +359,6 @@ impl<'a> AstNode<'a> for Expr<'a> {
             Expr::FuncCall(_) => SyntaxKind::FuncCall,
             Expr::Closure(_) => SyntaxKind::Closure,
             Expr::LetBinding(_) => SyntaxKind::LetBinding,
-            Expr::DestructAssignment(_) => SyntaxKind::DestructAssignment,
             Expr::SetRule(_) => SyntaxKind::SetRule,
             Expr::ShowRule(_) => SyntaxKind::ShowRule,
             Expr::Contextual(_) => SyntaxKind::Contextual,
@@ -367,6 +370,7 @@ impl<'a> AstNode<'a> for Expr<'a> {
             Expr::LoopBreak(_) => SyntaxKind::LoopBreak,
             Expr::LoopContinue(_) => SyntaxKind::LoopContinue,
             Expr::FuncReturn(_) => SyntaxKind::FuncReturn,
+            Expr::DestructAssignment(_) => SyntaxKind::DestructAssignment,
         }
     }
 
@@ -376,16 +380,16 @@ impl<'a> AstNode<'a> for Expr<'a> {
 }
 
 impl<'a> Expr<'a> {
-    ghost use Rattle.typst_ast.specs.Expr.{expr_kind};
+    ghost use Rattle.typst_ast.specs.ExprTable.{expr_kind};
 
-    /// Whether it may stand after a hash in markup.
+    /// Whether it is an expression that may follow a hash in markup.
     pub fn hash(self) -> bool
         ensures { result ≡ is_hash_kind (expr_kind self.entry) }
     {
         match self {
-            Expr::Ident(_) => true,
             Expr::None(_) => true,
             Expr::Auto(_) => true,
+            Expr::Ident(_) => true,
             Expr::Bool(_) => true,
             Expr::Int(_) => true,
             Expr::Float(_) => true,

@@ -1,11 +1,12 @@
-//! The expressions of markup and of math, from both ends.
+//! The expressions of markup and of math. They can be read from both ends.
 ghost use Rattle.std.specs.Prelude.{◌≡◌, ◌↔◌, true, IsSome, IfSome, Some, length};
 ghost use Rattle.std.specs.Iterator.{UpTo, YieldsFirstBy, YieldsLastBy, at_most, item_count};
 ghost use Rattle.std.specs.Iterator.SizeHint.{IsWithinCount};
-ghost use Rattle.typst_ast.specs.Expr.{IsExprOf, expr_node, expr_kind};
+ghost use Rattle.typst_ast.specs.Expr.{IsExprOf};
+ghost use Rattle.typst_ast.specs.ExprTable.{expr_node, expr_kind};
 ghost use Rattle.typst_ast.specs.Exprs.{is_expr_or_space_kind, markup_exprs, nodes_ahead, exprs_left, told_exprs_left};
 ghost use Rattle.typst_ast.specs.View.{node_of};
-ghost use Rattle.typst_atoms.specs.Children.{all_children, children_in};
+ghost use Rattle.typst_node.specs.Children.{all_children, children_in};
 ghost use Rattle.typst_node.specs.Views.{node_kind, told};
 
 use crate::expr::Expr;
@@ -15,16 +16,16 @@ use typst_atoms::KeptNodes;
 use typst_base::SyntaxKind;
 use typst_node::{AstNode, SyntaxNode};
 
-/// The expressions and spaces of markup or of math, in order: one list from both ends.
+/// The expressions and spaces of markup or of math, in order. They can be read from both ends.
 ///
-/// Markup leaves out each space that stands directly after a statement.
-/// Each step passes over the children of other kinds, so all steps together go over the children once.
+/// Markup leaves out each space directly after a statement. Each step skips the children of other kinds, so all steps
+/// together read the children once.
 #[derive(Clone, Debug, Drop)]
 pub struct Exprs<'a> {
     nodes: KeptNodes<'a>,
 }
 
-// The expression or the space that the node is, if it is one.
+/// The view of the node as an expression or a space, if it is one.
 fn expr_or_space<'a>(node: &'a SyntaxNode) -> Option<Expr<'a>>
     ensures in_class { IsSome result ↔ (is_expr_or_space_kind (node_kind node.now) ≡ true) }
     ensures view { IfSome result (IsExprOf (Some node.now)) }
@@ -52,8 +53,8 @@ impl<'a> Iterator for Exprs<'a> {
         None
     }
 
-    /// From none up to all of the nodes that it hasn't passed yet.
-    #[tactic(auto, using(typst_atoms::proofs::NoMore::no_more_in_class))]
+    /// At least 0, and at most the number of nodes that it hasn't passed yet.
+    #[tactic(auto, using(typst_node::proofs::NoMore::no_more_in_class))]
     fn size_hint(&self) -> (usize, Option<usize>)
         ensures lower { IsWithinCount result.0 (at_most (length (exprs_left self.now))) }
         ensures upper { IfSome result.1 (UpTo (at_most (length (exprs_left self.now)))) }
@@ -79,7 +80,8 @@ impl<'a> DoubleEndedIterator for Exprs<'a> {
 impl<'a> FusedIterator for Exprs<'a> {}
 
 impl<'a> of::Markup<'a> {
-    /// The expressions and spaces in order, from both ends. A space directly after a statement is left out.
+    /// The expressions and spaces in order. They can be read from both ends. A space directly after a statement is left
+    /// out.
     pub fn exprs(self) -> Exprs<'a>
         ensures left { exprs_left result ≡ markup_exprs (children_in (node_of self.entry)) }
         ensures ahead { nodes_ahead result ≡ children_in (node_of self.entry) }
@@ -91,7 +93,7 @@ impl<'a> of::Markup<'a> {
 }
 
 impl<'a> of::Math<'a> {
-    /// The expressions and spaces in order, from both ends.
+    /// The expressions and spaces in order. They can be read from both ends.
     pub fn exprs(self) -> Exprs<'a>
         ensures left { exprs_left result ≡ all_children is_expr_or_space_kind (node_of self.entry) }
         ensures ahead { nodes_ahead result ≡ children_in (node_of self.entry) }

@@ -1,22 +1,23 @@
-//! Typed views of a syntax tree: expressions, what they are made of, and everything that holds them.
+//! Typed views of a syntax tree: expressions, their parts, and everything that holds them.
 //!
 //! An evaluator, a formatter or a linter walks a tree by these views. A view is a node of its kinds, or a placeholder
-//! that stands for a missing node; so an accessor never fails, whatever tree it is called on, and a reader of a broken
-//! document goes on with placeholders. [`Expr`] is any expression. [`views`] has the views of single kinds, with those
-//! of `typst_atoms` among them; their accessors stand in the modules of this crate by what they are about.
+//! for a missing node. So an accessor never fails, whatever the tree is, and a reader of a broken document goes on with
+//! placeholders. [`Expr`] is any expression. [`views`] has the views of single kinds, including those of `typst_atoms`.
+//! Each module of this crate has the accessors of one topic.
 //!
 //! ```text
 //! let name = SyntaxNode::leaf(alloc, SyntaxKind::Ident, "x")?;
 //! let plus = SyntaxNode::leaf(alloc, SyntaxKind::Plus, "+")?;
 //! let one = SyntaxNode::leaf(alloc, SyntaxKind::Int, "1")?;
 //! let tree = SyntaxNode::inner(alloc, SyntaxKind::Binary, vec![in alloc; name, plus, one]?)?;
-//! let sum = Binary::from_untyped(&tree).unwrap_or(Binary::placeholder());
-//! // `sum.op()` is `BinOp::Add`, `sum.lhs()` an `Expr::Ident` and `sum.rhs()` an `Expr::Int`.
+//! let sum = tree.cast::<Binary>().unwrap_or(Binary::placeholder());
+//! assert!(rt; sum.op() == BinOp::Add);
+//! assert!(rt; matches!(sum.lhs(), Expr::Ident(_)) && matches!(sum.rhs(), Expr::Int(_)));
 //! ```
 //!
-//! Views are copied freely and live as long as the tree is borrowed. Only what answers a text or a list of its own takes
-//! memory: the bindings of patterns and the bare names of imports. What an accessor answers is stated over the plain
-//! list of the node's children: the first, last or all children whose kind lies in a class.
+//! Views are copied freely and live as long as the borrow of the tree. An accessor takes memory only if it answers a
+//! text or a list of its own: the bindings of patterns and the bare names of imports. Contracts state each answer over
+//! the plain list of the node's children: the first, last or all children whose kind lies in a class.
 #![tactic(auto)]
 
 pub use alike::is_alike;
@@ -47,7 +48,6 @@ pub mod control;
 pub mod destructuring_item;
 pub mod dict_item;
 pub mod enum_number;
-pub mod equal;
 pub mod expr;
 pub mod exprs;
 pub mod imports;

@@ -1,9 +1,9 @@
-//! Markup: what its parts have.
+//! Accessors of markup.
 ghost use Rattle.std.specs.Prelude.{◌≡◌, ◌==◌};
 ghost use Rattle.typst_ast.specs.Headings.{heading_depth};
 ghost use Rattle.typst_ast.specs.Refs.{ref_target};
 ghost use Rattle.typst_ast.specs.View.{IsOptionalView, node_of};
-ghost use Rattle.typst_atoms.specs.Children.{first_child, last_child};
+ghost use Rattle.typst_node.specs.Children.{first_child, last_child};
 ghost use Rattle.typst_atoms.specs.Kinds.{is_kind};
 ghost use Rattle.typst_atoms.specs.Trims.{without_leading};
 ghost use Rattle.typst_base.specs.declared.kind.SyntaxKind.TheVariants as kinds;
@@ -74,7 +74,7 @@ impl<'a> Heading<'a> {
         cast_first(self.node())
     }
 
-    /// The section depth: the bytes of the marker, 1 where the marker is empty or missing.
+    /// The section depth: the number of bytes of the marker, or 1 if the marker is empty or missing.
     pub fn depth(self) -> NonZeroUsize
         ensures { result.value ≡ heading_depth (first_child (is_kind kinds.HeadingMarker) (node_of self.entry)) }
     {
@@ -85,7 +85,7 @@ impl<'a> Heading<'a> {
     }
 }
 
-// The text without all `@` at its front.
+/// The text without all `@` at its beginning.
 fn without_at_signs(text: &str) -> &str
     ensures { result.now ≡ without_leading (λ b. b == 64) text.now }
 {
@@ -93,7 +93,7 @@ fn without_at_signs(text: &str) -> &str
 }
 
 impl<'a> Ref<'a> {
-    /// What the reference points to: the marker's text without all `@` at its front.
+    /// The target of the reference: the marker's text without all `@` at its beginning.
     pub fn target(self) -> &'a str
         ensures { result.now ≡ ref_target (first_child (is_kind kinds.RefMarker) (node_of self.entry)) }
     {

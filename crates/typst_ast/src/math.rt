@@ -1,12 +1,12 @@
-//! Math: what its parts have.
+//! Accessors of math.
 ghost use Rattle.std.specs.Prelude.{◌≡◌};
 ghost use Rattle.typst_ast.specs.Equations.{is_block_equation, is_deparenthesized};
 ghost use Rattle.typst_ast.specs.Expr.{IsExprOf, IsOptionalExprOf};
 ghost use Rattle.typst_ast.specs.Lists.{of_class};
 ghost use Rattle.typst_ast.specs.Roots.{IsRootIndex};
 ghost use Rattle.typst_ast.specs.View.{IsOptionalAtom, node_of};
-ghost use Rattle.typst_atoms.specs.Children.{all_in, behind_first, children_in, first_of, first_child, last_child};
-ghost use Rattle.typst_atoms.specs.Classes.{is_expr_kind};
+ghost use Rattle.typst_node.specs.Children.{all_in, behind_first, children_in, first_of, first_child, last_child};
+ghost use Rattle.typst_atoms.specs.ExprKinds.{is_expr_kind};
 ghost use Rattle.typst_atoms.specs.Kinds.{is_kind, is_math_access_kind};
 ghost use Rattle.typst_atoms.specs.MathAccess.{IsMathAccessOf};
 ghost use Rattle.typst_atoms.specs.Texts.{text_in};
@@ -32,7 +32,7 @@ impl<'a> Equation<'a> {
         cast_first(self.node())
     }
 
-    /// Whether it is a block of its own: its second and its last but one child are spaces.
+    /// Whether the equation is a block: its second child and its last child but one are spaces.
     pub fn block(self) -> bool
         ensures { result ≡ is_block_equation (children_in (node_of self.entry)) }
     {
@@ -43,8 +43,8 @@ impl<'a> Equation<'a> {
 }
 
 impl<'a> Math<'a> {
-    /// Whether these are the contents of parens that were taken off: at least two children, the first an opening paren
-    /// and the last a closing one.
+    /// Whether these are the contents of parens that were removed. There are at least two children, the first is an
+    /// opening paren, and the last is a closing paren.
     pub fn was_deparenthesized(self) -> bool
         ensures { result ≡ is_deparenthesized (children_in (node_of self.entry)) }
     {
@@ -82,7 +82,7 @@ impl<'a> MathDelimited<'a> {
         first_expr(self.node())
     }
 
-    /// The contents, the delimiters not included.
+    /// The contents without the delimiters.
     pub fn body(self) -> Math<'a>
         ensures { node_of result ≡ first_child (is_kind kinds.Math) (node_of self.entry) }
     {
@@ -97,7 +97,7 @@ impl<'a> MathDelimited<'a> {
     }
 }
 
-// The first node, if it is primes.
+/// The first node, if it is primes.
 fn first_primes<'a>(nodes: &'a [SyntaxNode]) -> Option<MathPrimes<'a>>
     ensures { IsOptionalAtom kinds.MathPrimes
         (of_class (is_kind kinds.MathPrimes) (first_of nodes.now)) result }
@@ -109,7 +109,7 @@ fn first_primes<'a>(nodes: &'a [SyntaxNode]) -> Option<MathPrimes<'a>>
 }
 
 impl<'a> MathAttach<'a> {
-    /// The base, to which things are attached.
+    /// The base of the attachments.
     pub fn base(self) -> Expr<'a>
         ensures { IsExprOf (first_child is_expr_kind (node_of self.entry)) result }
     {
@@ -136,7 +136,7 @@ impl<'a> MathAttach<'a> {
         first_expr_in(behind(self.node(), SyntaxKind::Hat))
     }
 
-    /// The primes, if they stand directly after the base.
+    /// The primes, if they come directly after the base.
     pub fn primes(self) -> Option<MathPrimes<'a>>
         ensures { IsOptionalAtom kinds.MathPrimes
             (of_class (is_kind kinds.MathPrimes)
@@ -164,7 +164,7 @@ impl<'a> MathFrac<'a> {
 }
 
 impl<'a> MathRoot<'a> {
-    /// The index: 3 where the first child is `∛`, 4 where it is `∜`, else none.
+    /// The index: 3 if the first child is `∛`, 4 if it is `∜`, else none.
     pub fn index(self) -> Option<u8>
         ensures { IsRootIndex (text_in (first_of (children_in (node_of self.entry)))) result }
     {
@@ -178,7 +178,7 @@ impl<'a> MathRoot<'a> {
         }
     }
 
-    /// What the root is taken of.
+    /// The radicand of the root.
     pub fn radicand(self) -> Expr<'a>
         ensures { IsExprOf (first_child is_expr_kind (node_of self.entry)) result }
     {

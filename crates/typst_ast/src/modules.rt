@@ -2,8 +2,8 @@
 ghost use Rattle.typst_ast.specs.Expr.{IsExprOf};
 ghost use Rattle.typst_ast.specs.Imports.{IsImportsOf, is_imports_kind};
 ghost use Rattle.typst_ast.specs.View.{IsOptionalAtom, node_of};
-ghost use Rattle.typst_atoms.specs.Children.{all_in, behind_first, children_in, first_child, first_of, last_child};
-ghost use Rattle.typst_atoms.specs.Classes.{is_expr_kind};
+ghost use Rattle.typst_node.specs.Children.{all_in, behind_first, children_in, first_child, first_of, last_child};
+ghost use Rattle.typst_atoms.specs.ExprKinds.{is_expr_kind};
 ghost use Rattle.typst_atoms.specs.Kinds.{is_kind};
 ghost use Rattle.typst_base.specs.declared.kind.SyntaxKind.TheVariants as kinds;
 
@@ -11,19 +11,19 @@ use crate::expr::Expr;
 use crate::imports::Imports;
 use crate::nodes::{first_expr, last_expr};
 use crate::views::{Ident, ImportItems, ModuleImport, ModuleInclude};
-use typst_atoms::casts::first_in;
 use typst_atoms::nodes::{behind, children};
 use typst_base::SyntaxKind;
+use typst_node::casts::first_in;
 
 impl<'a> ModuleImport<'a> {
-    /// The module or the path that is imported from.
+    /// The module or the path that the import names.
     pub fn source(self) -> Expr<'a>
         ensures { IsExprOf (first_child is_expr_kind (node_of self.entry)) result }
     {
         first_expr(self.node())
     }
 
-    /// What is imported from the module, if anything is named: the first child that is a star or import items.
+    /// What is imported from the module, if the import names it: the first child that is a star or import items.
     pub fn imports(self) -> Option<Imports<'a>>
         ensures { IsImportsOf (first_child is_imports_kind (node_of self.entry)) result }
     {

@@ -4,20 +4,21 @@ ghost use Rattle.std.specs.Option.{option_copied};
 ghost use Rattle.typst_ast.specs.Expr.{IsExprOf, IsOptionalExprOf};
 ghost use Rattle.typst_ast.specs.Lists.{all_but_last, before_last, last_significant, of_class, third_of};
 ghost use Rattle.typst_ast.specs.View.{IsOptionalAtom};
-ghost use Rattle.typst_atoms.specs.Children.{all_in, behind_first, first_child, first_of, last_child, last_of, second_of};
-ghost use Rattle.typst_atoms.specs.Classes.{is_expr_kind};
+ghost use Rattle.typst_node.specs.Children.{all_in, behind_first, first_child, first_of, last_child, last_of, second_of};
+ghost use Rattle.typst_atoms.specs.ExprKinds.{is_expr_kind};
 ghost use Rattle.typst_atoms.specs.Kinds.{is_kind};
 ghost use Rattle.typst_atoms.specs.Missing.{is_of_kind};
 ghost use Rattle.typst_base.specs.declared.kind.SyntaxKind.TheVariants as kinds;
 
 use crate::expr::Expr;
 use crate::views::Ident;
-use typst_atoms::casts::{cast_first, cast_last, first_in};
-use typst_atoms::classes::is_expr;
+use typst_atoms::casts::{cast_first, cast_last};
+use typst_atoms::expr_kinds::is_expr;
 use typst_base::SyntaxKind;
+use typst_node::casts::first_in;
 use typst_node::{AstNode, SyntaxNode};
 
-// Whether there is a node, and it is of the kind.
+/// Whether there is a node of the kind.
 pub(crate) fn is_of_kind(node: Option<&SyntaxNode>, kind: SyntaxKind) -> bool
     ensures { result ≡ is_of_kind kind (option_copied node.entry) }
 {
@@ -27,7 +28,7 @@ pub(crate) fn is_of_kind(node: Option<&SyntaxNode>, kind: SyntaxKind) -> bool
     }
 }
 
-// The second node.
+/// The second node.
 pub(crate) fn second(nodes: &[SyntaxNode]) -> Option<&SyntaxNode>
     ensures { option_copied result ≡ second_of nodes.now }
 {
@@ -37,7 +38,7 @@ pub(crate) fn second(nodes: &[SyntaxNode]) -> Option<&SyntaxNode>
     }
 }
 
-// The last node.
+/// The last node.
 #[tactic(auto, using(typst_atoms::proofs::Ends::last_of_append))]
 pub(crate) fn last(nodes: &[SyntaxNode]) -> Option<&SyntaxNode>
     ensures { option_copied result ≡ last_of nodes.now }
@@ -48,7 +49,7 @@ pub(crate) fn last(nodes: &[SyntaxNode]) -> Option<&SyntaxNode>
     }
 }
 
-// The nodes without the last one.
+/// The nodes without the last one.
 #[tactic(auto, using(crate::proofs::Ends::all_but_last_append))]
 pub(crate) fn all_but_last(nodes: &[SyntaxNode]) -> &[SyntaxNode]
     ensures { result.now ≡ all_but_last nodes.now }
@@ -59,7 +60,7 @@ pub(crate) fn all_but_last(nodes: &[SyntaxNode]) -> &[SyntaxNode]
     }
 }
 
-// The nodes after the first expression.
+/// The nodes after the first expression.
 pub(crate) fn behind_first_expr(nodes: &[SyntaxNode]) -> &[SyntaxNode]
     ensures { result.now ≡ behind_first is_expr_kind nodes.now }
 {
@@ -73,7 +74,7 @@ pub(crate) fn behind_first_expr(nodes: &[SyntaxNode]) -> &[SyntaxNode]
     rest
 }
 
-// The first node, if it is an identifier.
+/// The first node, if it is an identifier.
 pub(crate) fn first_ident<'a>(nodes: &'a [SyntaxNode]) -> Option<Ident<'a>>
     ensures { IsOptionalAtom kinds.Ident (of_class (is_kind kinds.Ident) (first_of nodes.now)) result }
 {
@@ -83,7 +84,7 @@ pub(crate) fn first_ident<'a>(nodes: &'a [SyntaxNode]) -> Option<Ident<'a>>
     }
 }
 
-// The nodes before the last one of the kind; none where there is no such node.
+/// The nodes before the last one of the kind. There are none if there is no such node.
 #[tactic(auto, using(crate::proofs::Ends::before_last_append))]
 pub(crate) fn before_last(nodes: &[SyntaxNode], kind: SyntaxKind) -> &[SyntaxNode]
     ensures { result.now ≡ before_last (is_kind kind) nodes.now }
@@ -98,7 +99,7 @@ pub(crate) fn before_last(nodes: &[SyntaxNode], kind: SyntaxKind) -> &[SyntaxNod
     &[]
 }
 
-// The last node that isn't trivia.
+/// The last node that isn't trivia.
 #[tactic(auto, using(crate::proofs::Ends::last_significant_append))]
 pub(crate) fn last_significant(nodes: &[SyntaxNode]) -> Option<&SyntaxNode>
     ensures { option_copied result ≡ last_significant nodes.now }
@@ -113,35 +114,35 @@ pub(crate) fn last_significant(nodes: &[SyntaxNode]) -> Option<&SyntaxNode>
     None
 }
 
-// The first child that is an expression, or the placeholder of expressions.
+/// The first child that is an expression, or the placeholder of expressions.
 pub(crate) fn first_expr<'a>(node: Option<&'a SyntaxNode>) -> Expr<'a>
     ensures { IsExprOf (first_child is_expr_kind (option_copied node.entry)) result }
 {
     cast_first(node)
 }
 
-// The last child that is an expression, or the placeholder of expressions.
+/// The last child that is an expression, or the placeholder of expressions.
 pub(crate) fn last_expr<'a>(node: Option<&'a SyntaxNode>) -> Expr<'a>
     ensures { IsExprOf (last_child is_expr_kind (option_copied node.entry)) result }
 {
     cast_last(node)
 }
 
-// The first of these nodes that is an expression.
+/// The first of these nodes that is an expression.
 pub(crate) fn first_expr_in<'a>(nodes: &'a [SyntaxNode]) -> Option<Expr<'a>>
     ensures { IsOptionalExprOf (first_of (all_in is_expr_kind nodes.now)) result }
 {
     first_in(nodes)
 }
 
-// The second node that is an expression.
+/// The second node that is an expression.
 pub(crate) fn second_expr<'a>(nodes: &'a [SyntaxNode]) -> Option<Expr<'a>>
     ensures { IsOptionalExprOf (second_of (all_in is_expr_kind nodes.now)) result }
 {
     first_expr_in(behind_first_expr(nodes))
 }
 
-// The third node that is an expression.
+/// The third node that is an expression.
 pub(crate) fn third_expr<'a>(nodes: &'a [SyntaxNode]) -> Option<Expr<'a>>
     ensures { IsOptionalExprOf (third_of (all_in is_expr_kind nodes.now)) result }
 {

@@ -3,8 +3,8 @@ ghost use Rattle.std.specs.Prelude.{◌≡◌};
 ghost use Rattle.typst_ast.specs.Expr.{IsExprOf};
 ghost use Rattle.typst_ast.specs.Operators.{binary_operator_in, unary_operator_in};
 ghost use Rattle.typst_ast.specs.View.{node_of};
-ghost use Rattle.typst_atoms.specs.Children.{children_in, first_child, last_child};
-ghost use Rattle.typst_atoms.specs.Classes.{is_expr_kind};
+ghost use Rattle.typst_node.specs.Children.{children_in, first_child, last_child};
+ghost use Rattle.typst_atoms.specs.ExprKinds.{is_expr_kind};
 ghost use Rattle.typst_atoms.specs.Kinds.{is_kind};
 ghost use Rattle.typst_atoms.specs.View.{node_of as atom_node};
 ghost use Rattle.typst_base.specs.declared.kind.SyntaxKind.TheVariants as kinds;
@@ -17,7 +17,7 @@ use typst_atoms::{BinOp, UnOp, cast_last};
 use typst_base::SyntaxKind;
 
 impl<'a> Unary<'a> {
-    /// The operator: that of the first child that is one, `+` where there is none.
+    /// The operator: that of the first child that is a unary operator, or `+` if there is none.
     pub fn op(self) -> UnOp
         ensures { result ≡ unary_operator_in (children_in (node_of self.entry)) }
     {
@@ -40,7 +40,8 @@ impl<'a> Unary<'a> {
 }
 
 impl<'a> Binary<'a> {
-    /// The operator: that of the first child that is one, `+` where there is none. An `in` after a `not` is `not in`.
+    /// The operator: that of the first child that is a binary operator, or `+` if there is none. An `in` after a `not`
+    /// is `not in`.
     #[tactic(auto, using(crate::proofs::OperatorBehind::behind_nothing_is_in))]
     pub fn op(self) -> BinOp
         ensures { result ≡ binary_operator_in (children_in (node_of self.entry)) }
@@ -77,7 +78,7 @@ impl<'a> Binary<'a> {
 }
 
 impl<'a> FieldAccess<'a> {
-    /// What the field is taken of.
+    /// The target whose field is accessed.
     pub fn target(self) -> Expr<'a>
         ensures { IsExprOf (first_child is_expr_kind (node_of self.entry)) result }
     {

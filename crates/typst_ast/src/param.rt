@@ -3,11 +3,12 @@ ghost use Rattle.typst_ast.specs.Kinds.{is_param_kind};
 
 use crate::pattern::Pattern;
 use crate::views::{Named, Spread};
+use std::hash::Hash;
 use typst_base::{Span, SyntaxKind};
 use typst_node::{AstNode, SyntaxNode, span_of};
 
 /// A parameter of a closure.
-#[derive(Clone, Copy, Debug, PartialEq, Eq, Hash)]
+#[derive(Clone, Copy, Debug, Hash)]
 pub enum Param<'a> {
     /// A positional parameter: `x`.
     Pos(Pattern<'a>),
@@ -15,6 +16,42 @@ pub enum Param<'a> {
     Named(Named<'a>),
     /// An argument sink: `..args` or `..`.
     Spread(Spread<'a>),
+}
+
+/// Two parameters are equal if they are of one variant, and of the same tree or both placeholders. Spans and bounds
+/// count. A comparison takes time at most in proportion to the smaller tree, and no memory.
+impl<'a> PartialEq for Param<'a> {
+    ghost use Rattle.std.specs.Prelude.{◌≡◌, ◌↔◌, IsTrue};
+    ghost use Rattle.typst_ast.specs.EqualViews.{AreSameParams, params_eq, params_laws};
+
+    ghost eq = { params_eq };
+
+    ghost laws = { params_laws };
+
+    fn eq(&self, other: &Self) -> bool
+        ensures is { result ≡ params_eq self.now other.now }
+        ensures same { IsTrue result ↔ AreSameParams self.now other.now }
+    {
+        match (self, other) {
+            (Param::Pos(view), Param::Pos(other)) => *view == *other,
+            (Param::Named(view), Param::Named(other)) => *view == *other,
+            (Param::Spread(view), Param::Spread(other)) => *view == *other,
+            _ => false,
+        }
+    }
+}
+
+impl<'a> Eq for Param<'a> {
+    ghost use Rattle.typst_ast.specs.EqualViews.{params_equivalence};
+
+    ghost laws = { params_equivalence };
+}
+
+#[derived]
+impl<'a> Hash for Param<'a> {
+    ghost use Rattle.typst_ast.specs.EqualHashes.{params_alike};
+
+    ghost respects_eq = { params_alike };
 }
 
 impl<'a> AstNode<'a> for Param<'a> {

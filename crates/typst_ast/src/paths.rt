@@ -3,7 +3,7 @@ ghost use Rattle.std.specs.Prelude.{◌≡◌, cond, Some};
 ghost use Rattle.std.specs.Option.{option_copied};
 ghost use Rattle.typst_ast.specs.Paths.{is_part, last_part, IsFileStemOf, IsStemOf};
 
-// The part, if it counts, else the one that counted before it.
+/// The part, if it counts, or else the part that counted before it.
 fn part_or<'a>(part: &'a str, earlier: Option<&'a str>) -> Option<&'a str>
     ensures { option_copied result ≡ cond (is_part part.now) (Some part.now) (option_copied earlier.entry) }
 {
@@ -14,7 +14,7 @@ fn part_or<'a>(part: &'a str, earlier: Option<&'a str>) -> Option<&'a str>
     }
 }
 
-// The last part of the path that counts.
+/// The last part of the path that counts.
 fn last_part(path: &str) -> Option<&str>
     ensures { option_copied result ≡ last_part path.now }
 {
@@ -27,7 +27,7 @@ fn last_part(path: &str) -> Option<&str>
     part_or(rest, last)
 }
 
-// The part without what its last dot begins.
+/// The part without its extension, which begins at its last dot.
 fn stem_of(part: &str) -> &str
     ensures { IsStemOf part.now result.now }
 {
@@ -38,9 +38,9 @@ fn stem_of(part: &str) -> &str
 }
 
 /// The file stem of a path whose parts are separated by slashes: `b` of `a/b.typ`.
-///
-/// Empty parts and parts `.` don't count. There is no stem where no part is left or the last one is `..`. Of several
-/// dots the last one ends the stem, as `a.tar` of `a.tar.gz`, but a dot at the front doesn't, as `.x` of `.x`.
+/// Empty parts and parts `.` don't count. There is no stem if no part counts or if the last one is `..`. If a part has
+/// several dots, the last dot ends the stem: `a.tar` of `a.tar.gz`. A dot at the beginning doesn't end it: `.x` of
+/// `.x`.
 pub fn file_stem(path: &str) -> Option<&str>
     ensures { IsFileStemOf path.now (option_copied result) }
 {

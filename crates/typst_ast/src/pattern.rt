@@ -1,13 +1,14 @@
-//! What a binding binds: a single name, or parts of a value.
+//! The target of a binding: a single name, or parts of a value.
 ghost use Rattle.typst_atoms.specs.Classes.{is_pattern_kind};
 
 use crate::expr::Expr;
 use crate::views as of;
+use std::hash::Hash;
 use typst_base::{Span, SyntaxKind};
 use typst_node::{AstNode, SyntaxNode, span_of};
 
-/// What a binding binds: a single name, or parts of a value.
-#[derive(Clone, Copy, Debug, PartialEq, Eq, Hash)]
+/// The target of a binding: a single name, or parts of a value.
+#[derive(Clone, Copy, Debug, Hash)]
 pub enum Pattern<'a> {
     /// A single expression: `x`.
     Normal(Expr<'a>),
@@ -17,6 +18,43 @@ pub enum Pattern<'a> {
     Parenthesized(of::Parenthesized<'a>),
     /// A destructuring pattern: `(x, _, ..y)`.
     Destructuring(of::Destructuring<'a>),
+}
+
+/// Two patterns are equal if they are of one variant, and of the same tree or both placeholders. Spans and bounds
+/// count. A comparison takes time at most in proportion to the smaller tree, and no memory.
+impl<'a> PartialEq for Pattern<'a> {
+    ghost use Rattle.std.specs.Prelude.{◌≡◌, ◌↔◌, IsTrue};
+    ghost use Rattle.typst_ast.specs.EqualViews.{AreSamePatterns, patterns_eq, patterns_laws};
+
+    ghost eq = { patterns_eq };
+
+    ghost laws = { patterns_laws };
+
+    fn eq(&self, other: &Self) -> bool
+        ensures is { result ≡ patterns_eq self.now other.now }
+        ensures same { IsTrue result ↔ AreSamePatterns self.now other.now }
+    {
+        match (self, other) {
+            (Pattern::Normal(view), Pattern::Normal(other)) => *view == *other,
+            (Pattern::Placeholder(view), Pattern::Placeholder(other)) => *view == *other,
+            (Pattern::Parenthesized(view), Pattern::Parenthesized(other)) => *view == *other,
+            (Pattern::Destructuring(view), Pattern::Destructuring(other)) => *view == *other,
+            _ => false,
+        }
+    }
+}
+
+impl<'a> Eq for Pattern<'a> {
+    ghost use Rattle.typst_ast.specs.EqualViews.{patterns_equivalence};
+
+    ghost laws = { patterns_equivalence };
+}
+
+#[derived]
+impl<'a> Hash for Pattern<'a> {
+    ghost use Rattle.typst_ast.specs.EqualHashes.{patterns_alike};
+
+    ghost respects_eq = { patterns_alike };
 }
 
 impl<'a> AstNode<'a> for Pattern<'a> {

@@ -1,10 +1,10 @@
-//! Rules for sets and shows.
+//! Set rules and show rules.
 ghost use Rattle.std.specs.Prelude.{◌≡◌};
 ghost use Rattle.typst_ast.specs.Expr.{IsExprOf, IsOptionalExprOf};
 ghost use Rattle.typst_ast.specs.Lists.{before_last};
 ghost use Rattle.typst_ast.specs.View.{node_of};
-ghost use Rattle.typst_atoms.specs.Children.{all_in, behind_first, children_in, first_child, first_of, last_child, last_of};
-ghost use Rattle.typst_atoms.specs.Classes.{is_expr_kind};
+ghost use Rattle.typst_node.specs.Children.{all_in, behind_first, children_in, first_child, first_of, last_child, last_of};
+ghost use Rattle.typst_atoms.specs.ExprKinds.{is_expr_kind};
 ghost use Rattle.typst_atoms.specs.Kinds.{is_kind};
 ghost use Rattle.typst_base.specs.declared.kind.SyntaxKind.TheVariants as kinds;
 
@@ -12,9 +12,9 @@ use crate::expr::Expr;
 use crate::nodes::{before_last, first_expr, first_expr_in, last_expr};
 use crate::views::{Args, SetRule, ShowRule};
 use typst_atoms::cast_last;
-use typst_atoms::casts::last_in;
 use typst_atoms::nodes::{behind, children};
 use typst_base::SyntaxKind;
+use typst_node::casts::last_in;
 
 impl<'a> SetRule<'a> {
     /// The function whose defaults are set.
@@ -43,7 +43,7 @@ impl<'a> SetRule<'a> {
 }
 
 impl<'a> ShowRule<'a> {
-    /// What the rule applies to: the last expression before the last colon.
+    /// The selector of the rule: the last expression before the last colon.
     pub fn selector(self) -> Option<Expr<'a>>
         ensures { IsOptionalExprOf
             (last_of (all_in is_expr_kind
@@ -53,7 +53,7 @@ impl<'a> ShowRule<'a> {
         last_in(before_last(children(self.node()), SyntaxKind::Colon))
     }
 
-    /// What is done to what is selected.
+    /// The transformation of what the rule selects.
     pub fn transform(self) -> Expr<'a>
         ensures { IsExprOf (last_child is_expr_kind (node_of self.entry)) result }
     {

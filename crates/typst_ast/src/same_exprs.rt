@@ -1,7 +1,7 @@
-//! Equality, hashes and `Debug` of expressions, which go by kind and node.
-ghost use Rattle.std.specs.Prelude.{◌≡◌};
+//! Equality, hashes and `Debug` of expressions by their kind and node.
+ghost use Rattle.std.specs.Prelude.{◌≡◌, ◌↔◌, IsTrue};
 ghost use Rattle.std.specs.Option.{option_copied};
-ghost use Rattle.typst_ast.specs.Expr.{expr_kind, expr_node};
+ghost use Rattle.typst_ast.specs.ExprTable.{expr_kind, expr_node};
 
 use crate::expr::Expr;
 use std::fmt;
@@ -10,7 +10,7 @@ use typst_atoms::same_views::Parts;
 use typst_node::AstNode;
 
 impl<'a> Expr<'a> {
-    // Its kind and its node, which tell all of it.
+    /// The kind and the node, which determine the expression.
     fn parts(self) -> Parts<'a>
         ensures kind { result.kind ≡ expr_kind self.entry }
         ensures node { option_copied result.node ≡ expr_node self.entry }
@@ -22,14 +22,20 @@ impl<'a> Expr<'a> {
     }
 }
 
+/// Two expressions are equal if they are of one kind, and of the same tree, spans and bounds included, or both
+/// placeholders. A comparison takes time at most in proportion to the smaller tree, and no memory.
 impl<'a> PartialEq for Expr<'a> {
+    ghost use Rattle.typst_ast.specs.EqualViews.{AreSameExprs};
     ghost use Rattle.typst_atoms.specs.SameViews.{same_views, same_views_laws};
 
     ghost eq = { same_views expr_kind expr_node };
 
     ghost laws = { same_views_laws expr_kind expr_node };
 
-    fn eq(&self, other: &Expr<'a>) -> bool {
+    fn eq(&self, other: &Expr<'a>) -> bool
+        ensures is { result ≡ same_views expr_kind expr_node self.now other.now }
+        ensures same { IsTrue result ↔ AreSameExprs self.now other.now }
+    {
         self.parts().are_same(other.parts())
     }
 }
@@ -53,7 +59,7 @@ impl<'a> Hash for Expr<'a> {
 }
 
 impl<'a> fmt::Debug for Expr<'a> {
-    /// Writes the name of the variant and the node, as `Int(Int: "1")`, or `Int(placeholder)`.
+    /// Writes the name of the variant and the node, as `Int(Int: "1")`. Without a node it writes `Int(placeholder)`.
     fn fmt<W: fmt::Write>(&self, f: &mut fmt::Formatter<W>) -> fmt::Result {
         self.parts().show(f)
     }

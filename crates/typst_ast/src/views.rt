@@ -1,6 +1,7 @@
-//! The views of one kind: those of this crate, and those that its views hand out.
+// Written by bench/kinds.py from crates/kinds.txt: change that and run it.
+//! The views of one kind: those of this crate, and those that its views answer.
 use crate::view::View;
-use typst_atoms::marker as kinds;
+use typst_atoms::markers as kinds;
 pub use typst_atoms::views::{
     Auto, BlockComment, Bool, Escape, Float, Ident, ImportItemPath, ImportItems, Int, Label,
     LineComment, Linebreak, Link, LoopBreak, LoopContinue, MathAlignPoint, MathFieldAccess,
@@ -8,134 +9,134 @@ pub use typst_atoms::views::{
     RawLang, RenamedImportItem, Shorthand, SmartQuote, Space, Str, Text, Underscore,
 };
 
-/// Markup: the contents of a file or of a content block.
+/// Markup, as in a file or between brackets: `A *bold* word`.
 pub type Markup<'a> = View<'a, kinds::MarkupKind>;
 
-/// Strong content: `*Strong*`.
+/// Content between stars: `*bold*`.
 pub type Strong<'a> = View<'a, kinds::StrongKind>;
 
-/// Emphasized content: `_Emphasized_`.
+/// Content between underscores: `_stressed_`.
 pub type Emph<'a> = View<'a, kinds::EmphKind>;
 
-/// A reference: `@target`, `@target[..]`.
+/// A reference to a label: `@intro`, `@intro[Chapter]`.
 pub type Ref<'a> = View<'a, kinds::RefKind>;
 
-/// A section heading: `= Introduction`.
+/// A heading: `= Introduction`.
 pub type Heading<'a> = View<'a, kinds::HeadingKind>;
 
-/// An item in a bullet list: `- ..`.
+/// An item of a list with bullets: `- milk`.
 pub type ListItem<'a> = View<'a, kinds::ListItemKind>;
 
-/// An item in a numbered list: `+ ..` or `1. ..`.
+/// An item of a numbered list: `+ boil`, `3. serve`.
 pub type EnumItem<'a> = View<'a, kinds::EnumItemKind>;
 
-/// An item in a term list: `/ Term: Details`.
+/// A term with its meaning: `/ Leaf: a node without children`.
 pub type TermItem<'a> = View<'a, kinds::TermItemKind>;
 
-/// An equation: `$x$`, `$ x^2 $`.
+/// An equation: `$a^2$` in a line, `$ a^2 $` as a block.
 pub type Equation<'a> = View<'a, kinds::EquationKind>;
 
-/// The contents of an equation: `x^2 + 1`.
+/// The content of an equation or of a part of one: the `a^2 + b` of `$a^2 + b$`.
 pub type Math<'a> = View<'a, kinds::MathKind>;
 
-/// A function call in math: `sin(x)`.
+/// A call in an equation: `vec(1, 2)`.
 pub type MathCall<'a> = View<'a, kinds::MathCallKind>;
 
-/// The arguments of a function call in math: `(x, y)`.
+/// The arguments of a call in an equation, with their parentheses: the `(1, 2)` of `vec(1, 2)`.
 pub type MathArgs<'a> = View<'a, kinds::MathArgsKind>;
 
-/// Math in delimiters: `[x + y]`.
+/// A part of an equation between two delimiters: `[a + b]`.
 pub type MathDelimited<'a> = View<'a, kinds::MathDelimitedKind>;
 
-/// A base with attachments in math: `a_1^2`.
+/// A base with what is above and below it: `x_1^2`.
 pub type MathAttach<'a> = View<'a, kinds::MathAttachKind>;
 
-/// A fraction in math: `x/2`.
+/// A fraction: `a/b`.
 pub type MathFrac<'a> = View<'a, kinds::MathFracKind>;
 
-/// A root in math: `√x`, `∛x` or `∜x`.
+/// A root by its sign: `√x`, `∛x`.
 pub type MathRoot<'a> = View<'a, kinds::MathRootKind>;
 
-/// The contents of a code block: a list of expressions.
+/// The expressions in a code block: the `f(); g()` of `{ f(); g() }`.
 pub type Code<'a> = View<'a, kinds::CodeKind>;
 
-/// A code block: `{ let x = 1; x + 2 }`.
+/// Code between braces: `{ let a = 1; a }`.
 pub type CodeBlock<'a> = View<'a, kinds::CodeBlockKind>;
 
-/// A content block: `[*Hi* there!]`.
+/// Markup between brackets: `[A *bold* word]`.
 pub type ContentBlock<'a> = View<'a, kinds::ContentBlockKind>;
 
-/// A grouped expression: `(1 + 2)`.
+/// An expression in parentheses: `(a + b)`.
 pub type Parenthesized<'a> = View<'a, kinds::ParenthesizedKind>;
 
-/// An array: `(1, "hi", 12cm)`.
+/// An array: `(1, 2, 3)`.
 pub type Array<'a> = View<'a, kinds::ArrayKind>;
 
-/// A dictionary: `(thickness: 3pt, dash: "solid")`.
+/// A dictionary: `(width: 2cm, "key": 1)`.
 pub type Dict<'a> = View<'a, kinds::DictKind>;
 
-/// A named pair: `thickness: 3pt`.
+/// A name with a value: the `width: 2cm` of `(width: 2cm)`.
 pub type Named<'a> = View<'a, kinds::NamedKind>;
 
-/// A keyed pair: `"spaced key": true`.
+/// A key that isn't a name, with a value: the `"key": 1` of `("key": 1)`.
 pub type Keyed<'a> = View<'a, kinds::KeyedKind>;
 
-/// A unary operation: `-x`.
+/// An operator before its operand: `-a`, `not a`.
 pub type Unary<'a> = View<'a, kinds::UnaryKind>;
 
-/// A binary operation: `a + b`.
+/// An operator between two operands: `a + b`, `a in b`.
 pub type Binary<'a> = View<'a, kinds::BinaryKind>;
 
-/// A field access: `properties.age`.
+/// A field of a value: `page.width`.
 pub type FieldAccess<'a> = View<'a, kinds::FieldAccessKind>;
 
-/// A function call: `f(x, y)`.
+/// A call: `calc.max(a, b)`, `list[A][B]`.
 pub type FuncCall<'a> = View<'a, kinds::FuncCallKind>;
 
-/// The arguments of a function call: `(12, x, y: 2)[..]`.
+/// The arguments of a call, with content after them: the `(a, size: 2cm)[B]` of `box(a, size: 2cm)[B]`.
 pub type Args<'a> = View<'a, kinds::ArgsKind>;
 
-/// A spread: `..x` or `..x.at(0)`.
+/// A value that is spread, or a sink that takes the rest: `..items`.
 pub type Spread<'a> = View<'a, kinds::SpreadKind>;
 
-/// A closure: `(x, y) => z`.
+/// A function without a name, or one that `let` binds: `(a, b) => a + b`.
 pub type Closure<'a> = View<'a, kinds::ClosureKind>;
 
-/// The parameters of a closure: `(x, y)`.
+/// The parameters of a closure: the `(a, b: 1)` of `(a, b: 1) => a`.
 pub type Params<'a> = View<'a, kinds::ParamsKind>;
 
-/// A let binding: `let x = 1`.
+/// A binding: `let a = 1`, `let f(x) = x`.
 pub type LetBinding<'a> = View<'a, kinds::LetBindingKind>;
 
-/// A set rule: `set text(..)`.
+/// A rule that sets parameters for what comes after it: `set text(size: 9pt)`.
 pub type SetRule<'a> = View<'a, kinds::SetRuleKind>;
 
-/// A show rule: `show heading: it => emph(it.body)`.
+/// A rule that says how elements are shown: `show heading: it => it.body`.
 pub type ShowRule<'a> = View<'a, kinds::ShowRuleKind>;
 
-/// A contextual expression: `context text.lang`.
+/// An expression that depends on its place in the document: `context text.size`.
 pub type Contextual<'a> = View<'a, kinds::ContextualKind>;
 
-/// An if-else conditional: `if x { y } else { z }`.
+/// A choice: `if a { b } else { c }`.
 pub type Conditional<'a> = View<'a, kinds::ConditionalKind>;
 
-/// A while loop: `while x { y }`.
+/// A loop while a condition holds: `while a < 3 { a += 1 }`.
 pub type WhileLoop<'a> = View<'a, kinds::WhileLoopKind>;
 
-/// A for loop: `for x in y { z }`.
+/// A loop over items: `for a in list { a }`.
 pub type ForLoop<'a> = View<'a, kinds::ForLoopKind>;
 
-/// A module import: `import "utils.typ": a, b, c`.
+/// An import of a module: `import "shapes.typ": circle as ring`.
 pub type ModuleImport<'a> = View<'a, kinds::ModuleImportKind>;
 
-/// A module include: `include "chapter1.typ"`.
+/// The content of another file: `include "chapter.typ"`.
 pub type ModuleInclude<'a> = View<'a, kinds::ModuleIncludeKind>;
 
-/// A return from a function: `return`, `return x + 1`.
+/// The end of a function, with a value or without: `return a`.
 pub type FuncReturn<'a> = View<'a, kinds::FuncReturnKind>;
 
-/// A destructuring pattern: `x`, `(x, _, ..y)`.
+/// A pattern with several parts: the `(a, .., b)` of `let (a, .., b) = list`.
 pub type Destructuring<'a> = View<'a, kinds::DestructuringKind>;
 
-/// A destructuring assignment: `(x, y) = (1, 2)`.
+/// An assignment to several places at once: `(a, b) = (b, a)`.
 pub type DestructAssignment<'a> = View<'a, kinds::DestructAssignmentKind>;

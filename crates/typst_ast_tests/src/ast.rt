@@ -1,4 +1,5 @@
-//! Tests of `typst_ast`. Most are tables: a drawn tree, what it is viewed as, and the words for what is read of the view.
+//! Tests of `typst_ast`. Most are tables: a drawn tree, what it is viewed as, and the words for what is read from the
+//! view.
 mod alike;
 mod bindings;
 mod imports;

@@ -1,4 +1,4 @@
-//! Tests of `typst_atoms`. Most are tables, whose rows are asserted one by one: what a row shows, and what comes of it.
+//! Tests of `typst_atoms`. Most are tables, whose rows are asserted one by one: what a row shows, and its result.
 mod accessors;
 mod children;
 mod comparing;

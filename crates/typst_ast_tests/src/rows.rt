@@ -1,4 +1,5 @@
-// Assertions of rows. A message that is made costs the proof of a test some seconds, so it is made here alone.
+//! Assertions of rows. Each place that makes a message costs the proof of a test some seconds, so messages are made
+//! only here.
 use std::process::Abort;
 
 /// Asserts that a row holds, and says what it shows.
@@ -25,7 +26,7 @@ pub(crate) fn assert_texts(rt: &impl Abort, rows: &[(&str, &str, &str)]) {
     }
 }
 
-/// Asserts that what is told of the kind with a number is what is wanted.
+/// Asserts that what is said about the kind with a number is what is wanted.
 pub(crate) fn assert_told(rt: &impl Abort, number: u8, told: (bool, bool), wanted: (bool, bool)) {
     assert_eq!(rt; told, wanted, "kind {number}");
 }

@@ -10,7 +10,7 @@ pub(crate) fn cast<'a, T: AstNode<'a>>(node: &'a SyntaxNode) -> Result<T, Fail> 
     Ok(node.cast::<T>().ok_or("no view")?)
 }
 
-/// The node's view; a placeholder for no node, or one of another kind.
+/// The node's view, or a placeholder if there is no node or it is of another kind.
 pub(crate) fn view<'a, T: AstNode<'a>>(node: Option<&'a SyntaxNode>) -> T {
     match node {
         Some(node) => match node.cast::<T>() {
@@ -21,7 +21,7 @@ pub(crate) fn view<'a, T: AstNode<'a>>(node: Option<&'a SyntaxNode>) -> T {
     }
 }
 
-/// The view's text; empty for a placeholder.
+/// The view's text, which is empty for a placeholder.
 pub(crate) fn text<'a, T: AstNode<'a>>(view: T) -> &'a str {
     match view.to_untyped() {
         Some(node) => node.leaf_text(),

@@ -4,7 +4,7 @@ use Rattle.std.proofs.lemmas.List.{map-append}
 use Rattle.std.specs.List.{flat_map, last_or}
 use Rattle.typst_atoms.specs.Bindings.{names_of_item, names_of_items, names_of_pattern, names_within, count_in, names_bound}
 use Rattle.typst_atoms.specs.Classes.{is_destructuring_item_kind, is_pattern_kind}
-use Rattle.typst_atoms.specs.Children.{all_in, all_children, children_in, first_child, first_of, last_child}
+use Rattle.typst_node.specs.Children.{all_in, all_children, children_in, first_child, first_of, last_child}
 use Rattle.typst_atoms.specs.Kinds.{is_kind}
 use Rattle.typst_base.specs.contracts.kind.SyntaxKind.{the_type}
 use Rattle.typst_base.specs.declared.kind.SyntaxKind.{SyntaxKind}

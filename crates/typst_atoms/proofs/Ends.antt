@@ -1,7 +1,7 @@
 -- A list of nodes with one more at its end.
 use Rattle.std.proofs.Common.{◌≡◌, Bool, true, false, cond, List, [], ◌∷◌, ◌++◌, Option, Some, refl, ap, ◌∙◌, append-nil}
 use Rattle.std.specs.List.{last_or}
-use Rattle.typst_atoms.specs.Children.{all_in, last_of}
+use Rattle.typst_node.specs.Children.{all_in, last_of}
 use Rattle.typst_node.specs.Tree.{Tree}
 use Rattle.typst_node.specs.Views.{Class, node_kind}
 

@@ -3,7 +3,7 @@ use Rattle.std.proofs.Common.{◌≡◌, ◌<◌, ℕ, ◌+◌, Bool, true, fals
 use Rattle.std.proofs.Math.Seq.{take-append_seam}
 use Rattle.std.specs.List.{enumerate_from, list_all}
 use Rattle.typst_atoms.proofs.Ends.{last_in_append}
-use Rattle.typst_atoms.specs.Children.{all_in, last_of}
+use Rattle.typst_node.specs.Children.{all_in, last_of}
 use Rattle.typst_atoms.specs.Classes.{is_arg_kind}
 use Rattle.typst_atoms.specs.HashEnds.{ends_behind_hash}
 use Rattle.typst_atoms.specs.Kinds.{is_kind}

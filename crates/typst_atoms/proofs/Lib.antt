@@ -4,7 +4,6 @@ pub mod Ends
 pub mod HexRuns
 pub mod ItemLists
 pub mod KeptLists
-pub mod Lasts
 pub mod Lengths
 pub mod NoMore
 pub mod Trims

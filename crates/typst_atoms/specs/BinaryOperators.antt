@@ -5,7 +5,7 @@ use Rattle.typst_atoms.specs.declared.operators.BinOp.TheVariants.{Mul, Div, Add
 use Rattle.typst_base.specs.declared.kind.SyntaxKind.{SyntaxKind}
 use Rattle.typst_base.specs.declared.kind.SyntaxKind.TheVariants.{Star, Slash, Plus, Minus, EqEq, ExclEq, Lt as LtKind, LtEq, Gt as GtKind, GtEq, In as InKind, And as AndKind, Or as OrKind, Eq as EqKind, PlusEq, HyphEq, StarEq, SlashEq}
 
--- the operator that a token of the kind stands for
+-- the operator of a token of the kind
 abbrev pub binary_operator_of : SyntaxKind → Option BinOp
 binary_operator_of Star = Some Mul
 binary_operator_of Slash = Some Div
@@ -27,7 +27,7 @@ binary_operator_of StarEq = Some MulAssign
 binary_operator_of SlashEq = Some DivAssign
 binary_operator_of _ = None
 
--- how tightly it binds
+-- the precedence of an operator
 abbrev pub binary_precedence : BinOp → ℕ
 binary_precedence Mul = 6
 binary_precedence Div = 6
@@ -49,7 +49,7 @@ binary_precedence SubAssign = 1
 binary_precedence MulAssign = 1
 binary_precedence DivAssign = 1
 
--- how it is written
+-- the text of an operator
 abbrev pub binary_text : BinOp → List ℕ
 binary_text Mul = codes "*"
 binary_text Div = codes "/"

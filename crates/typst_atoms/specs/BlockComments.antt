@@ -1,7 +1,7 @@
--- What a block comment says.
+-- The content of a block comment.
 use Rattle.std.specs.Prelude.{ℕ, List, ◌++◌, codes, ◌≡◌, ◌≢◌, ◌⊎◌}
 
--- a text with `/*` before and `*/` after a body says the body, and any other says all of itself
+-- the content of a text is the body between `/*` and `*/`; of any other text it is the whole text
 abbrev pub IsBlockCommentText : List ℕ → List ℕ → Type 0
 IsBlockCommentText bs said =
     (bs ≡ codes "/*" ++ (said ++ codes "*/"))

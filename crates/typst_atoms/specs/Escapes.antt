@@ -9,8 +9,8 @@ use Rattle.typst_atoms.specs.CodePoints.{hex_run, char_or_nul, first_or_nul}
 abbrev pub without_backslash : List ℕ → List ℕ
 without_backslash bs = drop (cond (starts_with eqb bs (92 ∷ [])) 1 0) bs
 
--- After the backslash, `u{` and hexadecimal digits name the character of that code, and U+0000 where there is none.
--- Anything else names its first character.
+-- After the backslash, `u{` and hexadecimal digits name the character of that code, or U+0000 if there is none. Any
+-- other text names its first character.
 abbrev pub named_char : List ℕ → ℕ
 named_char bs =
     cond (starts_with eqb bs (codes "u{"))

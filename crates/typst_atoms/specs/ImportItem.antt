@@ -1,6 +1,6 @@
--- What a clause sees of an `ImportItem`.
+-- An `ImportItem` in contracts.
 use Rattle.std.specs.Prelude.{Option, IfSome, ◌≡◌}
-use Rattle.typst_atoms.specs.Children.{first_child, last_child}
+use Rattle.typst_node.specs.Children.{first_child, last_child}
 use Rattle.typst_atoms.specs.Kinds.{is_kind}
 use Rattle.typst_atoms.specs.OfKind.{kind_from_test}
 use Rattle.typst_atoms.specs.View.{node_of}
@@ -11,12 +11,12 @@ use Rattle.typst_base.specs.declared.kind.SyntaxKind.TheVariants as kinds
 use Rattle.typst_node.specs.Tree.{Tree}
 use Rattle.typst_node.specs.Views.{node_kind}
 
--- the node that it views; none for a placeholder
+-- the node of the item; a placeholder has none
 abbrev pub import_item_node : ImportItem → Option Tree
 import_item_node (Simple v) = node_of v
 import_item_node (Renamed v) = node_of v
 
--- the kind that it has, also without a node
+-- the kind of the item, with or without a node
 abbrev pub import_item_kind : ImportItem → SyntaxKind
 import_item_kind (Simple v) = kinds.ImportItemPath
 import_item_kind (Renamed v) = kinds.RenamedImportItem
@@ -30,7 +30,7 @@ abbrev pub item_path : ImportItem → Option Tree
 item_path (Simple v) = node_of v
 item_path (Renamed v) = first_child (is_kind kinds.ImportItemPath) (node_of v)
 
--- the node of the name that the item has where it is imported: the path's last identifier, or a renamed item's
+-- the node of the item's name at the place of the import: the path's last identifier, or the new name of a renamed item
 abbrev pub item_bound_name : ImportItem → Option Tree
 item_bound_name (Simple v) = last_child (is_kind kinds.Ident) (node_of v)
 item_bound_name (Renamed v) = last_child (is_kind kinds.Ident) (node_of v)

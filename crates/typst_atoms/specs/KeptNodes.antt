@@ -1,4 +1,4 @@
--- The children that the expressions of markup are among: no space directly after a statement.
+-- The children in which markup looks for its expressions: all but spaces directly after a statement.
 use Rattle.std.specs.Prelude.{Bool, false, not, cond, map, filter, Option, Some, None, List, [], ◌∷◌, ◌++◌, ◌&&◌}
 use Rattle.std.specs.List.{zip}
 use Rattle.typst_atoms.specs.Kinds.{is_kind}
@@ -25,12 +25,12 @@ is_space_behind_stmt p = is_stmt p.0 && is_kind kinds.Space (node_kind p.1)
 abbrev pub markup_nodes : List Tree → List Tree
 markup_nodes ts = map (λ p. p.1) (filter (λ p. not (is_space_behind_stmt p)) (with_before ts))
 
--- the node alone, unless it is a space where a statement stands directly before it
+-- the node alone, unless it is a space directly after a statement
 abbrev pub kept : Bool → Tree → List Tree
 kept behind_stmt t = cond (behind_stmt && is_kind kinds.Space (node_kind t)) [] (t ∷ [])
 
--- What an iterator in that state has left of a list. Where `drops` says so, a space directly after a statement is left
--- out; `behind_stmt` says whether a statement stands directly before the list.
+-- The nodes of a list that an iterator in this state still has to give. If `drops` is true, a space directly after a
+-- statement is left out. `behind_stmt` says whether a statement is directly before the list.
 abbrev pub kept_in : Bool → Bool → List Tree → List Tree
 kept_in drops behind_stmt [] = []
 kept_in drops behind_stmt (t ∷ ts) = kept behind_stmt t ++ kept_in drops (drops && is_stmt_kind (node_kind t)) ts

@@ -1,16 +1,14 @@
 pub mod BinaryOperators
 pub mod Bindings
 pub mod BlockComments
-pub mod Children
 pub mod Classes
 pub mod CodePoints
-pub mod EqualViews
 pub mod Escapes
+pub mod ExprKinds
 pub mod HashEnds
 pub mod HexValues
 pub mod ImportItem
 pub mod Ints
-pub mod Items
 pub mod KeptNodes
 pub mod Kinds
 pub mod Labels

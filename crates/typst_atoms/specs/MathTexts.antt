@@ -16,7 +16,7 @@ is_number_category LetterNumber = true
 is_number_category OtherNumber = true
 is_number_category _ = false
 
--- the character's general category is one of numbers
+-- the character's general category is one of these
 abbrev pub is_numeric : ℕ → Bool
 is_numeric c = is_number_category (general_category c)
 
@@ -24,7 +24,7 @@ is_numeric c = is_number_category (general_category c)
 abbrev pub begins_numeric : List ℕ → Bool
 begins_numeric bs = option_map_or is_numeric (slice_get (chars bs) 0) false
 
--- a number where the text begins with one, else a grapheme, and the whole text in either case
+-- a number if the text begins with one, else a grapheme; in both cases it has the whole text
 abbrev pub IsMathTextOf : List ℕ → MathTextKind → Type 0
 IsMathTextOf bs (Number t) = (begins_numeric bs ≡ true) × (t.now ≡ bs)
 IsMathTextOf bs (Grapheme t) = (begins_numeric bs ≡ false) × (t.now ≡ bs)

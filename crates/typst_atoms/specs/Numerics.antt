@@ -16,7 +16,7 @@ unit_text bs = ending is_unit_byte bs
 abbrev pub number_text : List ℕ → List ℕ
 number_text bs = without_trailing is_unit_byte bs
 
--- the unit that is written so; any other text is `Percent`, as `%` is
+-- the unit with this text; it is `Percent` for `%` and for a text of no other unit
 abbrev pub IsUnitOf : List ℕ → Unit → Type 0
 IsUnitOf written Pt = written ≡ codes "pt"
 IsUnitOf written Mm = written ≡ codes "mm"

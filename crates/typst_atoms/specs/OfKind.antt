@@ -1,4 +1,4 @@
--- What a view of one kind keeps of its node.
+-- What a view of one kind knows about its node.
 use Rattle.std.specs.Prelude.{Option, Some, None, Bool, true, IsTrue, IfSome, ◌≡◌}
 use Rattle.std.specs.Option.{option_copied}
 use Rattle.std.proofs.Common.{sym}
@@ -15,7 +15,7 @@ abbrev pub is_missing_or_of_kind : SyntaxKind → Option (Bor Tree) → Bool
 is_missing_or_of_kind k (Some node) = is_kind k (node_kind node.now)
 is_missing_or_of_kind k None = true
 
--- so the node, if there is one, has that kind
+-- the node, if there is one, has that kind
 pub kind_from_test : (k : SyntaxKind) (node : Option (Bor Tree)) → IsTrue (is_missing_or_of_kind k node) → IfSome (option_copied node) (λ t. k ≡ node_kind t)
 kind_from_test k (Some node) h = sym (same_true the_type tt (node_kind node.now) k h)
 kind_from_test k None h = tt

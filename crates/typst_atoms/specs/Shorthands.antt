@@ -3,7 +3,7 @@ use Rattle.std.specs.Prelude.{ℕ, cond, ◌==◌, List, [], ◌∷◌, codes, m
 use Rattle.std.specs.Cmp.Lexicographic.{pointwise}
 use denote.Ref.{Bor}
 
--- the character beside the first text of the list that is this text, or U+0000 where there is none
+-- the character next to the first entry of the list with this text, or U+0000 if there is none
 abbrev pub char_for : List (List ℕ × ℕ) → List ℕ → ℕ
 char_for [] bs = 0
 char_for (p ∷ ps) bs = cond (pointwise ◌==◌ p.0 bs) p.1 (char_for ps bs)

@@ -3,7 +3,7 @@ ghost use Rattle.std.specs.Prelude.{◌≡◌, ◌++◌, map, option_to_list, If
 ghost use Rattle.std.specs.List.{flat_map};
 ghost use Rattle.std.specs.Option.{option_copied};
 ghost use Rattle.typst_atoms.specs.Bindings.{names_among, names_bound, names_of_item};
-ghost use Rattle.typst_atoms.specs.Children.{all_in, first_child, last_child};
+ghost use Rattle.typst_node.specs.Children.{all_in, first_child, last_child};
 ghost use Rattle.typst_atoms.specs.Classes.{is_destructuring_item_kind, is_pattern_kind};
 ghost use Rattle.typst_atoms.specs.View.{node_of};
 
@@ -29,7 +29,7 @@ pub fn first_pattern<'a>(node: Option<&'a SyntaxNode>) -> Option<&'a SyntaxNode>
     None
 }
 
-// The last child that is a pattern.
+/// The last child that is a pattern.
 #[tactic(auto, using(crate::proofs::Ends::last_in_append))]
 fn last_pattern<'a>(node: Option<&'a SyntaxNode>) -> Option<&'a SyntaxNode>
     ensures { option_copied result ≡ last_child is_pattern_kind (option_copied node.entry) }
@@ -55,8 +55,8 @@ pub fn push_name<'a>(names: &mut Vec<Ident<'a>>, name: Option<Ident<'a>>) -> Res
     Ok(())
 }
 
-/// Adds the names that a pattern binds, in order: an identifier is a name itself, a parenthesized pattern and a
-/// destructuring bind what they hold, and any other pattern binds nothing.
+/// Adds the names that a pattern binds, in order. An identifier binds itself. A parenthesized pattern and a
+/// destructuring bind the names of the patterns in them. Any other pattern binds nothing.
 ///
 /// It takes time in proportion to the nodes below, and memory for the names.
 #[cycle(bindings)]
@@ -78,7 +78,7 @@ pub fn push_pattern<'a>(
     }
 }
 
-// Adds the names that an item of a destructuring binds. A node that is no item binds none.
+/// Adds the names that an item of a destructuring binds. A node that is not an item binds none.
 #[cycle(bindings)]
 fn push_item<'a>(names: &mut Vec<Ident<'a>>, item: &'a SyntaxNode) -> Result<(), AllocError>
     ensures { IfOk result (λ _. map node_of names.new.items
@@ -91,8 +91,8 @@ fn push_item<'a>(names: &mut Vec<Ident<'a>>, item: &'a SyntaxNode) -> Result<(),
     }
 }
 
-/// Adds the names that the items of a destructuring among these nodes bind, in order: named pairs what their patterns
-/// bind, spreads the names of their sinks, and patterns what they bind.
+/// Adds the names that the items of a destructuring among these nodes bind, in order. A named pair binds the names of
+/// its pattern, a spread binds the name of its sink, and a pattern binds its names.
 ///
 /// It takes time in proportion to the nodes below, and memory for the names.
 #[cycle(bindings)]

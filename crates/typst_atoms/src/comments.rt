@@ -1,4 +1,4 @@
-//! What comments say.
+//! The content of comments.
 ghost use Rattle.typst_atoms.specs.BlockComments.{IsBlockCommentText};
 ghost use Rattle.typst_atoms.specs.LineComments.{IsLineCommentText};
 ghost use Rattle.typst_atoms.specs.Texts.{text_in};
@@ -7,7 +7,7 @@ ghost use Rattle.typst_atoms.specs.View.{node_of};
 use crate::views::{BlockComment, LineComment};
 
 impl<'a> LineComment<'a> {
-    /// What the comment says: its text without a leading `//`.
+    /// The content of the comment: its text without a leading `//`.
     pub fn text(self) -> &'a str
         ensures { IsLineCommentText (text_in (node_of self.entry)) result.now }
     {
@@ -20,7 +20,7 @@ impl<'a> LineComment<'a> {
 }
 
 impl<'a> BlockComment<'a> {
-    /// What the comment says: what stands between `/*` and `*/`, or the whole text where one of them is missing.
+    /// The content of the comment: the text between `/*` and `*/`, or the whole text if one of them is missing.
     pub fn text(self) -> &'a str
         ensures { IsBlockCommentText (text_in (node_of self.entry)) result.now }
     {

@@ -1,44 +1,132 @@
-//! Equality of views by a contract: what `==` tells of their nodes.
+//! Equality and hashes of views by their kind and node.
 ghost use Rattle.std.specs.Prelude.{◌≡◌, ◌↔◌, IsTrue};
+ghost use Rattle.std.specs.Option.{option_copied};
 ghost use Rattle.typst_atoms.specs.ImportItem.{import_item_kind, import_item_node};
 ghost use Rattle.typst_atoms.specs.MathAccess.{math_access_kind, math_access_node};
+ghost use Rattle.typst_atoms.specs.SameViews.{by_node_input, same_by_node, same_by_node_alike, same_by_node_equivalence, same_by_node_laws, same_views, same_views_alike, same_views_equivalence, same_views_laws, view_input};
 ghost use Rattle.typst_atoms.specs.View.{node_of};
 
 use crate::import_items::ImportItem;
 use crate::marker::Kind;
 use crate::math_access::MathAccess;
+use crate::same_views::{Parts, are_same_nodes, feed_node};
 use crate::view::View;
+use std::hash::{Hash, Hasher};
+use typst_node::AstNode;
 
-impl<'a, M: Kind> View<'a, M> {
-    /// Whether two views of one kind are equal, as `==` says: they are of the same tree, spans and bounds included, or both
-    /// are placeholders. It takes time in proportion to the smaller tree at most, and no memory.
-    pub fn is_equal(self, other: Self) -> bool
-        ensures { IsTrue result ↔ (node_of self.entry ≡ node_of other.entry) }
+/// Two views of one kind are equal if they are of the same tree, spans and bounds included, or if both are
+/// placeholders. A comparison takes time at most in proportion to the smaller tree, and no memory.
+impl<'a, M: Kind> PartialEq for View<'a, M> {
+    ghost eq = { same_by_node node_of };
+
+    ghost laws = { same_by_node_laws node_of };
+
+    fn eq(&self, other: &Self) -> bool
+        ensures is { result ≡ same_by_node node_of self.now other.now }
+        ensures same { IsTrue result ↔ (node_of self.now ≡ node_of other.now) }
     {
-        self == other
+        are_same_nodes(self.node(), other.node())
+    }
+}
+
+impl<'a, M: Kind> Eq for View<'a, M> {
+    ghost laws = { same_by_node_equivalence node_of };
+}
+
+impl<'a, M: Kind> Hash for View<'a, M> {
+    ghost hash_input = { by_node_input node_of };
+
+    ghost respects_eq = { same_by_node_alike node_of };
+
+    fn hash<H: Hasher>(&self, state: &mut H) {
+        feed_node(self.node(), state);
     }
 }
 
 impl<'a> MathAccess<'a> {
-    /// Whether two are equal, as `==` says: they are of one kind, and of the same tree or both placeholders. It takes time
-    /// in proportion to the smaller tree at most, and no memory.
-    pub fn is_equal(self, access: Self) -> bool
-        ensures { IsTrue result
-            ↔ (math_access_kind self.entry ≡ math_access_kind access.entry
-            × math_access_node self.entry ≡ math_access_node access.entry) }
+    /// The kind and the node, which determine the view.
+    fn parts(self) -> Parts<'a>
+        ensures kind { result.kind ≡ math_access_kind self.entry }
+        ensures node { option_copied result.node ≡ math_access_node self.entry }
     {
-        self == access
+        Parts {
+            kind: self.kind(),
+            node: self.to_untyped(),
+        }
+    }
+}
+
+/// Two accesses are equal if they are of one kind, and of the same tree, spans and bounds included, or both
+/// placeholders. A comparison takes time at most in proportion to the smaller tree, and no memory.
+impl<'a> PartialEq for MathAccess<'a> {
+    ghost eq = { same_views math_access_kind math_access_node };
+
+    ghost laws = { same_views_laws math_access_kind math_access_node };
+
+    fn eq(&self, other: &Self) -> bool
+        ensures is { result ≡ same_views math_access_kind math_access_node self.now other.now }
+        ensures same { IsTrue result
+            ↔ (math_access_kind self.now ≡ math_access_kind other.now
+            × math_access_node self.now ≡ math_access_node other.now) }
+    {
+        self.parts().are_same(other.parts())
+    }
+}
+
+impl<'a> Eq for MathAccess<'a> {
+    ghost laws = { same_views_equivalence math_access_kind math_access_node };
+}
+
+impl<'a> Hash for MathAccess<'a> {
+    ghost hash_input = { view_input math_access_kind math_access_node };
+
+    ghost respects_eq = { same_views_alike math_access_kind math_access_node };
+
+    fn hash<H: Hasher>(&self, state: &mut H) {
+        self.parts().feed(state);
     }
 }
 
 impl<'a> ImportItem<'a> {
-    /// Whether two are equal, as `==` says: they are of one kind, and of the same tree or both placeholders. It takes time
-    /// in proportion to the smaller tree at most, and no memory.
-    pub fn is_equal(self, item: Self) -> bool
-        ensures { IsTrue result
-            ↔ (import_item_kind self.entry ≡ import_item_kind item.entry
-            × import_item_node self.entry ≡ import_item_node item.entry) }
+    /// The kind and the node, which determine the view.
+    fn parts(self) -> Parts<'a>
+        ensures kind { result.kind ≡ import_item_kind self.entry }
+        ensures node { option_copied result.node ≡ import_item_node self.entry }
     {
-        self == item
+        Parts {
+            kind: self.kind(),
+            node: self.to_untyped(),
+        }
+    }
+}
+
+/// Two items are equal if they are of one kind, and of the same tree, spans and bounds included, or both placeholders.
+/// A comparison takes time at most in proportion to the smaller tree, and no memory.
+impl<'a> PartialEq for ImportItem<'a> {
+    ghost eq = { same_views import_item_kind import_item_node };
+
+    ghost laws = { same_views_laws import_item_kind import_item_node };
+
+    fn eq(&self, other: &Self) -> bool
+        ensures is { result ≡ same_views import_item_kind import_item_node self.now other.now }
+        ensures same { IsTrue result
+            ↔ (import_item_kind self.now ≡ import_item_kind other.now
+            × import_item_node self.now ≡ import_item_node other.now) }
+    {
+        self.parts().are_same(other.parts())
+    }
+}
+
+impl<'a> Eq for ImportItem<'a> {
+    ghost laws = { same_views_equivalence import_item_kind import_item_node };
+}
+
+impl<'a> Hash for ImportItem<'a> {
+    ghost hash_input = { view_input import_item_kind import_item_node };
+
+    ghost respects_eq = { same_views_alike import_item_kind import_item_node };
+
+    fn hash<H: Hasher>(&self, state: &mut H) {
+        self.parts().feed(state);
     }
 }

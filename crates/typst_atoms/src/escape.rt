@@ -9,14 +9,14 @@ ghost use Rattle.typst_atoms.specs.View.{node_of};
 use crate::hex::hex_value;
 use crate::views::Escape;
 
-// The first character, or U+0000.
+/// The first character, or U+0000.
 fn first_char(text: &str) -> char
     ensures { result ≡ first_or_nul (chars text.now) }
 {
     text.chars().next().unwrap_or('\0')
 }
 
-// The text after one leading backslash.
+/// The text after one leading backslash.
 fn behind_backslash(text: &str) -> &str
     ensures { result.now ≡ without_backslash text.now }
 {
@@ -24,7 +24,7 @@ fn behind_backslash(text: &str) -> &str
 }
 
 impl<'a> Escape<'a> {
-    /// The escaped character. It is U+0000 where the text names no character.
+    /// The escaped character. It is U+0000 if the text names no character.
     pub fn get(self) -> char
         ensures { result ≡ escaped_char (text_in (node_of self.entry)) }
     {

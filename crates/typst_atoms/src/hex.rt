@@ -1,11 +1,12 @@
-// Runs of hexadecimal digits.
+//! Runs of hexadecimal digits.
 ghost use Rattle.std.specs.Prelude.{◌≡◌, ◌≤◌, length, min};
 ghost use Rattle.std.specs.Str.Parse.{digits_value};
 ghost use Rattle.typst_atoms.specs.CodePoints.{hex_run};
 ghost use Rattle.typst_atoms.specs.HexValues.{capped_value};
 ghost use Rattle.typst_atoms.specs.Strings.{hex_len};
 
-// The value of the run at the front, cut at 0x11_0000 at each digit, so that a run of any length can be read.
+/// The value of the digits at the beginning. It is cut at 0x11_0000 at each digit, so that any number of digits can be
+/// read.
 fn capped_value(bytes: &[u8]) -> u32
     ensures { result ≡ capped_value 0 bytes.now }
 {
@@ -23,7 +24,7 @@ fn capped_value(bytes: &[u8]) -> u32
     code
 }
 
-// The value of the run at the front, or 0x11_0000, which is past all characters, if that is smaller.
+/// The value of the digits at the beginning, or 0x11_0000, which is past all characters, if that is smaller.
 #[tactic(auto, using(crate::proofs::HexRuns::capped_is))]
 pub(crate) fn hex_value(bytes: &[u8]) -> u32
     ensures { result ≡ min 0x11_0000 (digits_value 16 (hex_run bytes.now)) }
@@ -31,7 +32,7 @@ pub(crate) fn hex_value(bytes: &[u8]) -> u32
     capped_value(bytes)
 }
 
-// The same of characters.
+/// The same as `capped_value`, for characters.
 fn capped_value_of(chars: &[char]) -> u32
     ensures { result ≡ capped_value 0 chars.now }
 {
@@ -49,6 +50,7 @@ fn capped_value_of(chars: &[char]) -> u32
     code
 }
 
+/// The value of the digits at the beginning, for characters, or 0x11_0000, if that is smaller.
 #[tactic(auto, using(crate::proofs::HexRuns::capped_is))]
 pub(crate) fn hex_value_of(chars: &[char]) -> u32
     ensures { result ≡ min 0x11_0000 (digits_value 16 (hex_run chars.now)) }
@@ -56,7 +58,7 @@ pub(crate) fn hex_value_of(chars: &[char]) -> u32
     capped_value_of(chars)
 }
 
-// How many hexadecimal digits stand at the front.
+/// The number of hexadecimal digits at the beginning.
 pub(crate) fn hex_len(chars: &[char]) -> usize
     ensures value { result ≡ hex_len chars.now }
     ensures within { result ≤ length chars.now }

@@ -1,20 +1,19 @@
 //! The items of an import.
 ghost use Rattle.std.specs.Prelude.{◌≡◌, refl};
-ghost use Rattle.typst_atoms.specs.Children.{all_children, children_in, last_child};
+ghost use Rattle.typst_node.specs.Children.{all_children, children_in, last_child};
 ghost use Rattle.typst_atoms.specs.ImportItem.{item_path, item_bound_name};
-ghost use Rattle.typst_atoms.specs.Items.{nodes_ahead, nodes_left};
+ghost use Rattle.typst_node.specs.Items.{nodes_ahead, nodes_left};
 ghost use Rattle.typst_atoms.specs.Kinds.{is_kind, is_import_item_kind};
 ghost use Rattle.typst_atoms.specs.View.{node_of};
 ghost use Rattle.typst_base.specs.declared.kind.SyntaxKind.TheVariants as kinds;
 
 use crate::casts::cast_all;
-use crate::items::Items;
 use crate::views::{Ident, ImportItemPath, ImportItems, RenamedImportItem};
 use typst_base::{Span, SyntaxKind};
-use typst_node::{AstNode, SyntaxNode};
+use typst_node::{AstNode, Items, SyntaxNode};
 
 impl<'a> ImportItems<'a> {
-    /// The items in order, from both ends.
+    /// The items in order. They can be read from both ends.
     pub fn iter(self) -> Items<'a, ImportItem<'a>>
         ensures left { nodes_left is_import_item_kind result
             ≡ all_children is_import_item_kind (node_of self.entry) }
@@ -25,7 +24,7 @@ impl<'a> ImportItems<'a> {
 }
 
 /// An item of an import: `a.b`, or `a.b as c`.
-#[derive(Clone, Copy, Debug, PartialEq, Eq, Hash)]
+#[derive(Clone, Copy, Debug)]
 pub enum ImportItem<'a> {
     /// An item under its own name.
     Simple(ImportItemPath<'a>),
@@ -44,14 +43,14 @@ impl<'a> ImportItem<'a> {
         }
     }
 
-    /// The item's own name: the path's.
+    /// The item's own name, which is the name in its path.
     pub fn original_name(self) -> Ident<'a>
         ensures { node_of result ≡ last_child (is_kind kinds.Ident) (item_path self.entry) }
     {
         self.path().name()
     }
 
-    /// The name that the item has where it is imported: a renamed item's new name, else its own.
+    /// The name of the item at the place of the import: a renamed item's new name, or else its own name.
     pub fn bound_name(self) -> Ident<'a>
         ensures { node_of result ≡ item_bound_name self.entry }
     {

@@ -6,7 +6,7 @@ ghost use Rattle.typst_atoms.specs.View.{node_of};
 
 use crate::views::Int;
 
-// The digits of a number, and their base: what stands after `0x`, `0o` or `0b`, or all of the text.
+/// The digits of a number, and their base. The digits are the text after `0x`, `0o` or `0b`, or the whole text.
 fn digits_and_base(text: &str) -> (&str, u32)
     ensures digits { result.0.now ≡ digits_of text.now }
     ensures base { result.1 ≡ base_of text.now }
@@ -23,8 +23,8 @@ fn digits_and_base(text: &str) -> (&str, u32)
 }
 
 impl<'a> Int<'a> {
-    /// The integer's value: an optional sign and digits, in base 16 after `0x`, 8 after `0o`, 2 after `0b`, else 10.
-    /// It is 0 where the text is no such number, and where an `i64` doesn't hold the value.
+    /// The integer's value, or 0 if the text is no integer that an `i64` holds. The text is an optional sign and
+    /// digits, in base 16 after `0x`, 8 after `0o`, 2 after `0b`, and 10 otherwise.
     pub fn get(self) -> i64
         ensures { IsIntReading (text_in (node_of self.entry)) result }
     {

@@ -1,9 +1,9 @@
-//! The children that the expressions of markup and of math are among, from both ends.
+//! The children in which markup and math look for their expressions. They can be read from both ends.
 ghost use Rattle.std.specs.Prelude.{◌≡◌, ◌&&◌, IfSome, Some, length};
 ghost use Rattle.std.specs.Iterator.{UpTo, YieldsFirstRef, YieldsLastRef, at_most, item_count};
 ghost use Rattle.std.specs.Iterator.SizeHint.{IsWithinCount};
 ghost use Rattle.std.specs.Option.{option_copied};
-ghost use Rattle.typst_atoms.specs.Children.{children_in};
+ghost use Rattle.typst_node.specs.Children.{children_in};
 ghost use Rattle.typst_atoms.specs.KeptNodes.{kept_left, markup_nodes, nodes_ahead};
 ghost use Rattle.typst_atoms.specs.Kinds.{is_kind};
 ghost use Rattle.typst_atoms.specs.StmtEnds.{ends_in_stmt};
@@ -15,27 +15,27 @@ use std::iter::FusedIterator;
 use typst_base::SyntaxKind;
 use typst_node::SyntaxNode;
 
-/// The children of a node in order, from both ends: all of them, or those of markup, which leave out each space that
-/// stands directly after a statement.
+/// The children of a node in order. They can be read from both ends. They are either all children, or the children of
+/// markup without each space directly after a statement.
 ///
-/// Each step passes over the nodes that are left out, so all steps together go over the children once.
+/// Each step skips the nodes that are left out, so all steps together read the children once.
 #[derive(Clone, Debug, Drop)]
 pub struct KeptNodes<'a> {
     rest: &'a [SyntaxNode],
-    // Whether spaces directly after statements are left out.
+    /// Whether spaces directly after statements are left out.
     drops: bool,
-    // Whether they are, and a statement stands directly before the rest.
+    /// Whether spaces are left out and the node directly before the rest is a statement.
     behind_stmt: bool,
 }
 
-// Whether the node is a space, where a statement stands directly before it.
+/// Whether the node is a space that is left out. `behind_stmt` says whether a statement is directly before it.
 fn is_dropped(behind_stmt: bool, node: &SyntaxNode) -> bool
     ensures { result ≡ (behind_stmt && is_kind kinds.Space (node_kind node.now)) }
 {
     behind_stmt && node.kind() == SyntaxKind::Space
 }
 
-// Whether spaces after statements are left out, and a statement stands directly after these nodes.
+/// Whether spaces after statements are left out and the last of these nodes is a statement.
 #[tactic(auto, using(crate::proofs::KeptLists::ends_in_stmt_append))]
 fn is_behind_stmt(drops: bool, behind_stmt: bool, nodes: &[SyntaxNode]) -> bool
     ensures { result ≡ ends_in_stmt drops behind_stmt nodes.now }
@@ -47,7 +47,7 @@ fn is_behind_stmt(drops: bool, behind_stmt: bool, nodes: &[SyntaxNode]) -> bool
 }
 
 impl<'a> KeptNodes<'a> {
-    /// All children of the node; none where there is no node.
+    /// All children of the node. There are none if there is no node.
     #[tactic(auto, using(crate::proofs::KeptLists::all_are_kept))]
     pub fn of_all(node: Option<&'a SyntaxNode>) -> Self
         ensures left { kept_left result ≡ children_in (option_copied node.entry) }
@@ -60,7 +60,7 @@ impl<'a> KeptNodes<'a> {
         }
     }
 
-    /// The children of the node without each space that stands directly after a statement; none where there is no node.
+    /// The children of the node without each space directly after a statement. There are none if there is no node.
     #[tactic(auto, using(crate::proofs::KeptLists::kept_in_markup))]
     pub fn of_markup(node: Option<&'a SyntaxNode>) -> Self
         ensures left { kept_left result ≡ markup_nodes (children_in (option_copied node.entry)) }
@@ -93,7 +93,7 @@ impl<'a> Iterator for KeptNodes<'a> {
         None
     }
 
-    /// From none up to all of the nodes that it hasn't passed yet.
+    /// At least 0, and at most the number of nodes that it hasn't passed yet.
     #[tactic(auto, using(crate::proofs::NoMore::no_more_kept))]
     fn size_hint(&self) -> (usize, Option<usize>)
         ensures lower { IsWithinCount result.0 (at_most (length (kept_left self.now))) }

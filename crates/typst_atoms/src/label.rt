@@ -7,7 +7,7 @@ ghost use Rattle.typst_atoms.specs.View.{node_of};
 use crate::views::Label;
 
 impl<'a> Label<'a> {
-    /// The label's name: the text without all `<` at its front and all `>` at its end.
+    /// The label's name: the text without all `<` at its beginning and all `>` at its end.
     pub fn get(self) -> &'a str
         ensures { result.now ≡ label_name (text_in (node_of self.entry)) }
     {

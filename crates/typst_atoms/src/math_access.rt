@@ -1,6 +1,6 @@
 //! Identifiers and field accesses in math.
 ghost use Rattle.std.specs.Prelude.{◌≡◌, refl};
-ghost use Rattle.typst_atoms.specs.Children.{first_child, last_child};
+ghost use Rattle.typst_node.specs.Children.{first_child, last_child};
 ghost use Rattle.typst_atoms.specs.Kinds.{is_kind, is_math_access_kind};
 ghost use Rattle.typst_atoms.specs.MathAccess.{IsMathAccessOf};
 ghost use Rattle.typst_atoms.specs.Texts.{text_in};
@@ -12,8 +12,8 @@ use crate::views as of;
 use typst_base::{Span, SyntaxKind};
 use typst_node::{AstNode, SyntaxNode};
 
-/// What may be accessed in math: an identifier, or a field of what may be accessed.
-#[derive(Clone, Copy, Debug, PartialEq, Eq, Hash)]
+/// Something in math that can be accessed: an identifier, or a field of something that can be accessed.
+#[derive(Clone, Copy, Debug)]
 pub enum MathAccess<'a> {
     /// An identifier: `arrow`.
     MathIdent(of::MathIdent<'a>),
@@ -89,7 +89,7 @@ impl<'a> of::MathIdent<'a> {
 }
 
 impl<'a> of::MathFieldAccess<'a> {
-    /// What the field is taken of.
+    /// The target whose field is accessed.
     pub fn target(self) -> MathAccess<'a>
         ensures { IsMathAccessOf (first_child is_math_access_kind (node_of self.entry)) result }
     {

@@ -1,9 +1,9 @@
-//! The children that are items of arguments in math, from both ends.
+//! The children that are items of arguments in math. They can be read from both ends.
 ghost use Rattle.std.specs.Prelude.{◌≡◌, ◌&&◌, not, IfSome, Some, length};
 ghost use Rattle.std.specs.Iterator.{UpTo, YieldsFirstRef, YieldsLastRef, at_most, item_count};
 ghost use Rattle.std.specs.Iterator.SizeHint.{IsWithinCount};
 ghost use Rattle.std.specs.Option.{option_copied};
-ghost use Rattle.typst_atoms.specs.Children.{children_in};
+ghost use Rattle.typst_node.specs.Children.{children_in};
 ghost use Rattle.typst_atoms.specs.Classes.{is_arg_kind};
 ghost use Rattle.typst_atoms.specs.HashEnds.{ends_behind_hash};
 ghost use Rattle.typst_atoms.specs.Kinds.{is_kind};
@@ -17,43 +17,42 @@ use std::iter::FusedIterator;
 use typst_base::SyntaxKind;
 use typst_node::SyntaxNode;
 
-/// The children of a call's arguments in math that are items, in order, from both ends: arguments, spaces, commas, parens
-/// and semicolons. A semicolon that only ends what a hash began is none.
+/// The children of a call's arguments in math that are items, in order. They can be read from both ends. The items are
+/// arguments, spaces, commas, parens and semicolons, except a semicolon that only ends an expression after a hash.
 ///
-/// All steps together go over the children at most twice.
+/// All steps together read the children at most twice.
 #[derive(Clone, Debug, Drop)]
 pub struct MathItems<'a> {
     rest: &'a [SyntaxNode],
-    // Whether the nearest node before the rest that is no argument is a hash.
+    /// Whether the nearest node before the rest that is not an argument is a hash.
     behind_hash: bool,
 }
 
-// Whether the node is an argument.
+/// Whether the node is an argument.
 fn is_arg_node(node: &SyntaxNode) -> bool
     ensures { result ≡ is_arg_kind (node_kind node.now) }
 {
     is_arg(node.kind())
 }
 
-// Whether the node is a hash.
+/// Whether the node is a hash.
 fn is_hash(node: &SyntaxNode) -> bool
     ensures { result ≡ is_kind kinds.Hash (node_kind node.now) }
 {
     node.kind() == SyntaxKind::Hash
 }
 
-// Whether the nearest node that is no argument is a hash, this node being the last; the flag tells of those before it.
-fn is_behind_hash(behind_hash: bool, node: &SyntaxNode) -> bool
+/// Whether the last of the nodes up to `node` that is not an argument is a hash. `behind_hash` says this for the nodes
+/// before `node`, and `is_arg` says whether `node` is an argument.
+fn is_behind_hash(behind_hash: bool, is_arg: bool, node: &SyntaxNode) -> bool
+    requires { is_arg ≡ is_arg_kind (node_kind node.now) }
     ensures { result ≡ is_behind_hash behind_hash node.now }
 {
-    if is_arg_node(node) {
-        behind_hash
-    } else {
-        is_hash(node)
-    }
+    if is_arg { behind_hash } else { is_hash(node) }
 }
 
-// Whether a hash is the last of these nodes that is no argument; the flag tells of what stands before them.
+/// Whether the last of these nodes that is not an argument is a hash. `behind_hash` says this for the nodes before
+/// them.
 #[tactic(auto, using(crate::proofs::ItemLists::ends_behind_hash_append))]
 fn ends_behind_hash(behind_hash: bool, nodes: &[SyntaxNode]) -> bool
     ensures { result ≡ ends_behind_hash behind_hash nodes.now }
@@ -68,7 +67,8 @@ fn ends_behind_hash(behind_hash: bool, nodes: &[SyntaxNode]) -> bool
     behind_hash
 }
 
-// Whether the node is an item. Before it stand these nodes, and the flag tells of what stands before them.
+/// Whether the node is an item after the nodes `before`. `behind_hash` says whether the nearest node before these that
+/// is not an argument is a hash.
 fn is_item(behind_hash: bool, before: &[SyntaxNode], node: &SyntaxNode) -> bool
     ensures { result ≡ is_item (ends_behind_hash behind_hash before.now) (node_kind node.now) }
 {
@@ -81,15 +81,29 @@ fn is_item(behind_hash: bool, before: &[SyntaxNode], node: &SyntaxNode) -> bool
     }
 }
 
-// Whether the node is a semicolon that is an item.
+/// The same as `is_item` for the first node that is left. `is_arg` says whether it is an argument.
+fn is_first_item(behind_hash: bool, is_arg: bool, node: &SyntaxNode) -> bool
+    requires { is_arg ≡ is_arg_kind (node_kind node.now) }
+    ensures { result ≡ is_item behind_hash (node_kind node.now) }
+{
+    match node.kind() {
+        SyntaxKind::Semicolon => !behind_hash,
+        SyntaxKind::Space | SyntaxKind::Comma | SyntaxKind::LeftParen | SyntaxKind::RightParen => {
+            true
+        }
+        _ => is_arg,
+    }
+}
+
+/// Whether the node is a semicolon that is an item.
 fn is_item_semicolon(behind_hash: bool, node: &SyntaxNode) -> bool
     ensures { result ≡ (is_kind kinds.Semicolon (node_kind node.now) && not behind_hash) }
 {
     node.kind() == SyntaxKind::Semicolon && !behind_hash
 }
 
-// Whether a semicolon that is an item stands in these nodes before the next argument. The flag says whether the nearest
-// node before them that is no argument is a hash.
+/// Whether one of these nodes before the next argument is a semicolon that is an item. `behind_hash` says whether the
+/// nearest node before them that is not an argument is a hash.
 fn ends_in_semicolon(mut behind_hash: bool, nodes: &[SyntaxNode]) -> bool
     ensures { result ≡ ends_in_semicolon (items_in behind_hash nodes.now) }
 {
@@ -108,7 +122,7 @@ fn ends_in_semicolon(mut behind_hash: bool, nodes: &[SyntaxNode]) -> bool
 }
 
 impl<'a> MathItems<'a> {
-    /// The items among the children; none where there is no node.
+    /// The items among the children. There are none if there is no node.
     #[tactic(auto, using(crate::proofs::ItemLists::items_in_content))]
     pub fn new(node: Option<&'a SyntaxNode>) -> Self
         ensures left { items_left result ≡ content_items (children_in (option_copied node.entry)) }
@@ -120,8 +134,8 @@ impl<'a> MathItems<'a> {
         }
     }
 
-    /// Whether a semicolon stands among the items that are left before the next argument. It goes over the children up to
-    /// there.
+    /// Whether one of the items that are left before the next argument is a semicolon. It reads the children up to that
+    /// argument.
     pub fn ends_in_semicolon(&self) -> bool
         ensures { result ≡ ends_in_semicolon (items_left self.now) }
     {
@@ -139,16 +153,17 @@ impl<'a> Iterator for MathItems<'a> {
     fn next(&mut self) -> Option<&'a SyntaxNode> {
         while let [first, rest @ ..] = self.rest {
             let behind_hash = self.behind_hash;
+            let is_arg = is_arg_node(first);
             self.rest = rest;
-            self.behind_hash = is_behind_hash(behind_hash, first);
-            if is_item(behind_hash, &[], first) {
+            self.behind_hash = is_behind_hash(behind_hash, is_arg, first);
+            if is_first_item(behind_hash, is_arg, first) {
                 return Some(first);
             }
         }
         None
     }
 
-    /// From none up to all of the nodes that it hasn't passed yet.
+    /// At least 0, and at most the number of nodes that it hasn't passed yet.
     #[tactic(auto, using(crate::proofs::NoMore::no_more_items))]
     fn size_hint(&self) -> (usize, Option<usize>)
         ensures lower { IsWithinCount result.0 (at_most (length (items_left self.now))) }

@@ -5,9 +5,9 @@ ghost use Rattle.typst_atoms.specs.Texts.{text_in};
 ghost use Rattle.typst_atoms.specs.View.{node_of};
 
 use crate::views::MathText;
-use unicode::properties::GeneralCategory;
+use ucd_category::GeneralCategory;
 
-/// A text in math, by what it is.
+/// A text in math: a character or a number.
 #[derive(Clone, Copy, Debug, PartialEq, Eq, Hash)]
 pub enum MathTextKind<'a> {
     /// A single character, with its marks.
@@ -16,7 +16,7 @@ pub enum MathTextKind<'a> {
     Number(&'a str),
 }
 
-// Whether the character is a number by its general category: a decimal digit, a letter or another number.
+/// Whether the character is a number by its general category: a decimal digit, a letter number or another number.
 fn is_numeric(c: char) -> bool
     ensures { result ≡ is_numeric c }
 {
@@ -29,7 +29,7 @@ fn is_numeric(c: char) -> bool
 }
 
 impl<'a> MathText<'a> {
-    /// The text: a number if its first character is one by Unicode's general categories, else a grapheme.
+    /// The text as a number, if its first character is one by Unicode's general categories, or else as a grapheme.
     pub fn get(self) -> MathTextKind<'a>
         ensures { IsMathTextOf (text_in (node_of self.entry)) result }
     {

@@ -1,4 +1,4 @@
-//! Numbers that are kept as texts: floating-point numbers, and numbers with a unit.
+//! Numbers in the form of their text: floating-point numbers, and numbers with a unit.
 ghost use Rattle.std.specs.Prelude.{◌≡◌};
 ghost use Rattle.typst_atoms.specs.Numerics.{is_unit_byte, unit_text, number_text, IsUnitOf};
 ghost use Rattle.typst_atoms.specs.Texts.{text_in};
@@ -25,25 +25,25 @@ pub enum Unit {
     Em,
     /// Fractions: `fr`.
     Fr,
-    /// Percent: `%`, and any unit that isn't known.
+    /// Percent: `%`, and any unknown unit.
     Percent,
 }
 
-// Whether a unit may have the character.
+/// Whether a unit may have the character.
 fn is_unit_char(c: char) -> bool
     ensures { result ≡ is_unit_byte c }
 {
     c.is_ascii_lowercase() || c == '%'
 }
 
-// The text before the longest ending of characters that a unit may have.
+/// The text before its longest ending of characters that a unit may have.
 fn number_text(text: &str) -> &str
     ensures { result.now ≡ number_text text.now }
 {
     text.trim_end_matches(is_unit_char)
 }
 
-// The unit that is written so.
+/// The unit with this text.
 fn unit_of(text: &str) -> Unit
     ensures { IsUnitOf text.now result }
 {

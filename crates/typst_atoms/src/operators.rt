@@ -7,7 +7,7 @@ ghost use Rattle.typst_base.specs.NamedSets.{binary_op_set, unary_op_set};
 
 use typst_base::SyntaxKind;
 
-/// How operators of one precedence group.
+/// The order in which operators of one precedence group.
 #[derive(Clone, Copy, Debug, PartialEq, Eq, Hash)]
 pub enum Assoc {
     /// From the left: `a + b + c` is `(a + b) + c`.
@@ -28,7 +28,7 @@ pub enum UnOp {
 }
 
 impl UnOp {
-    /// The operator that a token of this kind stands for. There is one exactly for the kinds of `typst_base::named_sets::unary_op`.
+    /// The operator of a token of this kind. The kinds of `typst_base::named_sets::unary_op` have one, and no others.
     pub fn from_kind(kind: SyntaxKind) -> Option<Self>
         ensures operator { result ≡ unary_operator_of kind }
         ensures named { unary_op_set kind ≡ is_some result }
@@ -41,8 +41,8 @@ impl UnOp {
         }
     }
 
-    /// How tightly it binds, from 4 to 7: a larger number binds tighter.
-    pub fn precedence(self) -> usize
+    /// The precedence of the operator, from 4 to 7. An operator with a larger number binds tighter.
+    pub fn precedence(self) -> u8
         ensures { result ≡ unary_precedence self }
     {
         match self {
@@ -51,7 +51,7 @@ impl UnOp {
         }
     }
 
-    /// How it is written.
+    /// The text of the operator.
     pub fn as_str(self) -> &'static str
         ensures { result.now ≡ unary_text self }
     {
@@ -94,7 +94,7 @@ pub enum BinOp {
     Assign,
     /// The containment operator: `in`.
     In,
-    /// The inverse containment operator: `not in`, which no single token stands for.
+    /// The inverse containment operator: `not in`, which is no single token.
     NotIn,
     /// The add-assign operator: `+=`.
     AddAssign,
@@ -107,7 +107,7 @@ pub enum BinOp {
 }
 
 impl BinOp {
-    /// The operator that a token of this kind stands for. There is one exactly for the kinds of `typst_base::named_sets::binary_op`.
+    /// The operator of a token of this kind. The kinds of `typst_base::named_sets::binary_op` have one, and no others.
     pub fn from_kind(kind: SyntaxKind) -> Option<Self>
         ensures operator { result ≡ binary_operator_of kind }
         ensures named { binary_op_set kind ≡ is_some result }
@@ -135,8 +135,8 @@ impl BinOp {
         })
     }
 
-    /// How tightly it binds, from 1 to 6: a larger number binds tighter.
-    pub fn precedence(self) -> usize
+    /// The precedence of the operator, from 1 to 6. An operator with a larger number binds tighter.
+    pub fn precedence(self) -> u8
         ensures { result ≡ binary_precedence self }
     {
         match self {
@@ -151,7 +151,7 @@ impl BinOp {
         }
     }
 
-    /// How it groups: assignments from the right, all others from the left.
+    /// How the operator groups: assignments from the right, all others from the left.
     pub fn assoc(self) -> Assoc
         ensures { (result ≡ Right) ↔ (binary_precedence self ≡ 1) }
     {
@@ -162,7 +162,7 @@ impl BinOp {
         }
     }
 
-    /// How it is written.
+    /// The text of the operator.
     pub fn as_str(self) -> &'static str
         ensures { result.now ≡ binary_text self }
     {

@@ -15,7 +15,7 @@ impl<'a> SmartQuote<'a> {
 }
 
 impl<'a> MathPrimes<'a> {
-    /// How many primes there are: the bytes of the text.
+    /// The number of primes, which is the number of bytes of the text.
     pub fn count(self) -> usize
         ensures { result ≡ length (text_in (node_of self.entry)) }
     {

@@ -2,8 +2,8 @@
 ghost use Rattle.std.specs.Prelude.{◌≡◌, ◌<◌, ◌⊎◌, [], ◌∷◌, ◌++◌, length, true, false, MatchBool, MatchOption, IfSome};
 ghost use Rattle.std.specs.List.{AllByRecursion};
 ghost use Rattle.std.specs.Str.{chars};
-ghost use Rattle.typst_atoms.specs.Children.{all_children, children_in};
-ghost use Rattle.typst_atoms.specs.Items.{nodes_ahead, nodes_left};
+ghost use Rattle.typst_node.specs.Children.{all_children, children_in};
+ghost use Rattle.typst_node.specs.Items.{nodes_ahead, nodes_left};
 ghost use Rattle.typst_atoms.specs.Kinds.{is_kind};
 ghost use Rattle.typst_atoms.specs.Raws.{is_fenced, lang_node, trimmed_chars, trimmed_in, AnyByRecursion, IsBlock, IsInline};
 ghost use Rattle.typst_atoms.specs.Texts.{text_in};
@@ -11,13 +11,12 @@ ghost use Rattle.typst_atoms.specs.View.{node_of, IsOptionalView};
 ghost use Rattle.typst_base.specs.declared.kind.SyntaxKind.TheVariants as kinds;
 
 use crate::casts::{cast_all, try_cast_first};
-use crate::items::Items;
 use crate::nodes::{children, first_of_kind};
 use crate::views::{Raw, RawLang, Text};
 use typst_base::SyntaxKind;
-use typst_node::SyntaxNode;
+use typst_node::{Items, SyntaxNode};
 
-// The first character, and the text after it.
+/// The first character, and the text after it.
 fn split_first_char(text: &str) -> Option<(char, &str)>
     ensures chars { MatchOption result (chars text.now ≡ [])
         (λ parts. chars text.now ≡ parts.0 ∷ chars parts.1.now) }
@@ -28,7 +27,7 @@ fn split_first_char(text: &str) -> Option<(char, &str)>
     Some((first, chars.as_str()))
 }
 
-// Whether the text has a character for which the test answers true.
+/// Whether the test answers true for some character of the text.
 fn any_char<F: Fn(char) -> bool>(text: &str, test: &F) -> bool
     requires { F.IsAlwaysCallable test.now }
     ensures { MatchBool result
@@ -45,7 +44,7 @@ fn any_char<F: Fn(char) -> bool>(text: &str, test: &F) -> bool
     false
 }
 
-// The text of the first node of these that was trimmed off a raw text, and the nodes after it.
+/// The text of the first of these nodes that was trimmed off a raw text, and the nodes after it.
 fn split_first_trimmed(nodes: &[SyntaxNode]) -> Option<(&str, &[SyntaxNode])>
     ensures chars { MatchOption result (trimmed_in nodes.now ≡ [])
         (λ parts. trimmed_in nodes.now ≡ chars parts.0.now ++ trimmed_in parts.1.now) }
@@ -61,7 +60,7 @@ fn split_first_trimmed(nodes: &[SyntaxNode]) -> Option<(&str, &[SyntaxNode])>
     None
 }
 
-// Whether what was trimmed off a raw text among these nodes has a character for which the test answers true.
+/// Whether the test answers true for some character that was trimmed off a raw text, in one of these nodes.
 fn any_trimmed_char<F: Fn(char) -> bool>(nodes: &[SyntaxNode], test: &F) -> bool
     requires { F.IsAlwaysCallable test.now }
     ensures { MatchBool result
@@ -79,7 +78,7 @@ fn any_trimmed_char<F: Fn(char) -> bool>(nodes: &[SyntaxNode], test: &F) -> bool
 }
 
 impl<'a> Raw<'a> {
-    /// The lines of the text, from both ends.
+    /// The lines of the text. They can be read from both ends.
     pub fn lines(self) -> Items<'a, Text<'a>>
         ensures left { nodes_left (is_kind kinds.Text) result
             ≡ all_children (is_kind kinds.Text) (node_of self.entry) }
@@ -88,7 +87,7 @@ impl<'a> Raw<'a> {
         cast_all(self.node())
     }
 
-    // Whether the delimiter has at least three bytes.
+    /// Whether the delimiter has at least three bytes.
     fn is_fenced(self) -> bool
         ensures { result ≡ is_fenced (node_of self.entry) }
     {
@@ -98,7 +97,7 @@ impl<'a> Raw<'a> {
         }
     }
 
-    /// The language tag, which only a text between delimiters of at least three backticks has.
+    /// The language tag, which only a text between delimiters of at least three backticks can have.
     pub fn lang(self) -> Option<RawLang<'a>>
         ensures { IsOptionalView (lang_node (node_of self.entry)) result }
     {
@@ -109,8 +108,8 @@ impl<'a> Raw<'a> {
         }
     }
 
-    /// Whether it stands as a block: between delimiters of at least three backticks, with a newline trimmed off.
-    /// The caller tells which characters are newlines.
+    /// Whether the text is a block: its delimiters have at least three backticks, and a newline was trimmed off.
+    /// `is_newline` tells which characters are newlines.
     pub fn block<F: Fn(char) -> bool>(self, is_newline: F) -> bool
         requires { F.IsAlwaysCallable is_newline }
         ensures { MatchBool result (IsBlock (λ c b. F.post is_newline c b) (node_of self.entry))

@@ -1,6 +1,6 @@
 //! Imported items under another name.
 ghost use Rattle.std.specs.Prelude.{◌≡◌};
-ghost use Rattle.typst_atoms.specs.Children.{first_child, last_child};
+ghost use Rattle.typst_node.specs.Children.{first_child, last_child};
 ghost use Rattle.typst_atoms.specs.Kinds.{is_kind};
 ghost use Rattle.typst_atoms.specs.View.{node_of};
 ghost use Rattle.typst_base.specs.declared.kind.SyntaxKind.TheVariants as kinds;
@@ -16,7 +16,7 @@ impl<'a> RenamedImportItem<'a> {
         cast_first(self.node())
     }
 
-    /// The item's own name: the path's.
+    /// The item's own name, which is the name in its path.
     pub fn original_name(self) -> Ident<'a>
         ensures { node_of result
             ≡ last_child (is_kind kinds.Ident)

@@ -6,9 +6,10 @@ ghost use Rattle.typst_atoms.specs.View.{node_of};
 
 use crate::views::{MathShorthand, Shorthand};
 
-// The character that stands beside the text in `Shorthand::LIST`, or U+0000.
-//
-// A match tells by the length and a byte or two which row it can be, where a search of the list reads all rows before it.
+/// The character next to the text in `Shorthand::LIST`, or U+0000.
+///
+/// A match decides by the length and one or two bytes which row it can be. A search of the list would read all rows
+/// before that row.
 fn markup_char(text: &[u8]) -> char
     ensures { result ≡ char_for markup_shorthands text.now }
 {
@@ -23,7 +24,7 @@ fn markup_char(text: &[u8]) -> char
     }
 }
 
-// The character that stands beside the text of this byte in `MathShorthand::LIST`, or U+0000.
+/// The character next to the text of this byte in `MathShorthand::LIST`, or U+0000.
 fn math_char_of_one(first: u8) -> char
     ensures { result ≡ char_for math_shorthands (first ∷ []) }
 {
@@ -35,7 +36,7 @@ fn math_char_of_one(first: u8) -> char
     }
 }
 
-// The same of two bytes.
+/// The same for a text of two bytes.
 fn math_char_of_two(first: u8, second: u8) -> char
     ensures { result ≡ char_for math_shorthands (first ∷ second ∷ []) }
 {
@@ -59,7 +60,7 @@ fn math_char_of_two(first: u8, second: u8) -> char
     }
 }
 
-// The same of three bytes.
+/// The same for a text of three bytes.
 fn math_char_of_three(first: u8, second: u8, third: u8) -> char
     ensures { result ≡ char_for math_shorthands (first ∷ second ∷ third ∷ []) }
 {
@@ -86,7 +87,7 @@ fn math_char_of_three(first: u8, second: u8, third: u8) -> char
     }
 }
 
-// The same of four bytes.
+/// The same for a text of four bytes.
 fn math_char_of_four(first: u8, second: u8, third: u8, fourth: u8) -> char
     ensures { result ≡ char_for math_shorthands (first ∷ second ∷ third ∷ fourth ∷ []) }
 {
@@ -97,7 +98,7 @@ fn math_char_of_four(first: u8, second: u8, third: u8, fourth: u8) -> char
     }
 }
 
-// The character that stands beside the text in `MathShorthand::LIST`, or U+0000.
+/// The character next to the text in `MathShorthand::LIST`, or U+0000.
 #[tactic(auto, using(crate::proofs::Lengths::and_false))]
 fn math_char(text: &[u8]) -> char
     ensures { result ≡ char_for math_shorthands text.now }
@@ -107,7 +108,7 @@ fn math_char(text: &[u8]) -> char
         [first, second] => math_char_of_two(*first, *second),
         [first, second, third] => math_char_of_three(*first, *second, *third),
         [first, second, third, fourth] => math_char_of_four(*first, *second, *third, *fourth),
-        // Apart from the longer texts, so that each of the two is proved by itself.
+        // Separate from the longer texts, so that each of the two is proved by itself.
         [] => '\0',
         _ => '\0',
     }
@@ -131,7 +132,7 @@ impl<'a> Shorthand<'a> {
         Self::LIST
     }
 
-    /// The character that it stands for. It is U+0000 where the text is no shorthand.
+    /// The character that the shorthand stands for. It is U+0000 if the text is no shorthand.
     pub fn get(self) -> char
         ensures { result ≡ char_for markup_shorthands (text_in (node_of self.entry)) }
     {
@@ -189,7 +190,7 @@ impl<'a> MathShorthand<'a> {
         Self::LIST
     }
 
-    /// The character that it stands for. It is U+0000 where the text is no shorthand.
+    /// The character that the shorthand stands for. It is U+0000 if the text is no shorthand.
     pub fn get(self) -> char
         ensures { result ≡ char_for math_shorthands (text_in (node_of self.entry)) }
     {

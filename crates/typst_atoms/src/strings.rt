@@ -10,7 +10,7 @@ use crate::hex::{hex_len, hex_value_of};
 use crate::views::Str;
 use std::alloc::{AllocError, Global};
 
-// What a backslash and this character stand for.
+/// The character that a backslash and this character stand for.
 fn simple_escape(c: char) -> Option<char>
     ensures { result ≡ simple_escape c }
 {
@@ -24,7 +24,7 @@ fn simple_escape(c: char) -> Option<char>
     }
 }
 
-// How many characters after a backslash belong to it.
+/// The number of characters after a backslash that belong to its escape sequence.
 fn escape_len(chars: &[char]) -> usize
     ensures value { result ≡ escape_len chars.now }
     ensures within { result ≤ length chars.now }
@@ -42,7 +42,7 @@ fn escape_len(chars: &[char]) -> usize
     }
 }
 
-// The character that a backslash and these stand for, unless they stand for themselves.
+/// The character that a backslash and these characters stand for. It is `None` if they stand for themselves.
 fn escape_char(chars: &[char]) -> Option<char>
     ensures { result ≡ escape_char chars.now }
 {
@@ -56,6 +56,7 @@ fn escape_char(chars: &[char]) -> Option<char>
     }
 }
 
+/// Adds the characters at the end of the text.
 fn push_all(text: &mut String, chars: &[char]) -> Result<(), AllocError>
     ensures { IfOk result (λ _. string_bytes text.new ≡ string_bytes text.old ++ encodes chars.now) }
 {
@@ -67,7 +68,7 @@ fn push_all(text: &mut String, chars: &[char]) -> Result<(), AllocError>
     Ok(())
 }
 
-// Writes the character that was read, or a backslash and the characters after it.
+/// Adds the character that was read, or else a backslash and the characters after it.
 fn push_escape(out: &mut String, escape: &[char], read: Option<char>) -> Result<(), AllocError>
     ensures { IfOk result (λ _. string_bytes out.new
         ≡ string_bytes out.old ++ encodes (char_or (92 ∷ escape.now) read)) }
@@ -81,7 +82,8 @@ fn push_escape(out: &mut String, escape: &[char], read: Option<char>) -> Result<
     }
 }
 
-// Writes what the first character, with those that belong to it, stands for, and answers what is left to read.
+/// Adds what the first character stands for, with the characters that belong to it. It answers the characters after
+/// these.
 fn push_front<'a>(out: &mut String, first: char, more: &'a [char]) -> Result<&'a [char], AllocError>
     ensures reads { IfOk result (λ rest. string_bytes out.new ++ encodes (unescaped 0 rest.now)
         ≡ string_bytes out.old ++ encodes (unescaped 0 (first ∷ more.now))) }
@@ -96,7 +98,7 @@ fn push_front<'a>(out: &mut String, first: char, more: &'a [char]) -> Result<&'a
     Ok(behind)
 }
 
-// Writes what the characters stand for.
+/// Adds what the characters stand for.
 fn push_unescaped(out: &mut String, chars: &[char]) -> Result<(), AllocError>
     ensures { IfOk result (λ _. string_bytes out.new
         ≡ string_bytes out.old ++ encodes (unescaped 0 chars.now)) }
@@ -108,14 +110,14 @@ fn push_unescaped(out: &mut String, chars: &[char]) -> Result<(), AllocError>
     Ok(())
 }
 
-// The characters of a text.
+/// The characters of a text.
 fn char_list(alloc: Global, text: &str) -> Result<Vec<char>, AllocError>
     ensures { IfOk result (λ list. list.items ≡ chars text.now) }
 {
     text.chars().collect(alloc)
 }
 
-// The text without the quotes around it, or all of it where there are none.
+/// The text without the quotes around it, or the whole text if there are none.
 fn string_body(text: &str) -> &str
     ensures { IsStringBody text.now result.now }
 {
@@ -129,10 +131,10 @@ fn string_body(text: &str) -> &str
 }
 
 impl<'a> Str<'a> {
-    /// The string's value: its text without the quotes around it, and each escape sequence read.
+    /// The string's value: its text without the quotes around it, with each escape sequence read.
     ///
-    /// `\\`, `\"`, `\n`, `\r`, `\t` and `\u{..}` of a Unicode scalar value stand for one character, all else for itself.
-    /// It takes memory in proportion to the text.
+    /// The sequences `\\`, `\"`, `\n`, `\r`, `\t`, and `\u{..}` with a Unicode scalar value stand for one character.
+    /// Everything else stands for itself. It takes memory in proportion to the text.
     pub fn get(self, alloc: Global) -> Result<String, AllocError>
         ensures { IfOk result
             (λ value. IsStringValue (text_in (node_of self.entry)) (string_bytes value)) }

@@ -18,11 +18,9 @@ use typst_node::{AstNode, SyntaxNode, span_of};
 
 /// A view of a node of the marker's kind, or the kind's placeholder.
 ///
-/// Views are equal where their nodes are, spans and bounds included; placeholders of one type are equal.
-#[derive_where(PartialEq, Eq, Hash)]
+/// Two views are equal if their nodes are equal, spans and bounds included. Placeholders of one type are equal.
 pub struct View<'a, M: Kind> {
     node: Option<&'a SyntaxNode>,
-    #[derive_where(skip)]
     kind: PhantomData<M>,
     ghost of_kind: { IsTrue (is_missing_or_of_kind M.KIND node) },
 }
@@ -40,7 +38,8 @@ impl<'a, M: Kind> Clone for View<'a, M> {
 impl<'a, M: Kind> Copy for View<'a, M> {}
 
 impl<'a, M: Kind> fmt::Debug for View<'a, M> {
-    /// Writes the name of the kind and the node, as `Heading(Heading: 3 [..])`, or `Heading(placeholder)`.
+    /// Writes the name of the kind and the node, as `Heading(Heading: 3 [..])`. Without a node it writes
+    /// `Heading(placeholder)`.
     fn fmt<W: fmt::Write>(&self, f: &mut fmt::Formatter<W>) -> fmt::Result {
         let parts = Parts {
             kind: M::KIND,
@@ -98,7 +97,7 @@ impl<'a, M: Kind> View<'a, M> {
     ghost use Rattle.typst_atoms.specs.Texts.{text_in};
     ghost use Rattle.typst_atoms.specs.View.{node_of};
 
-    /// The view of a node whose kind is known to be the view's, as `SyntaxNode::is` tells.
+    /// The view of a node, if `SyntaxNode::is` has told that the node is of the view's kind.
     pub fn of_kind(node: &'a SyntaxNode) -> Self
         requires { node_kind node.now ≡ M.KIND }
         ensures { node_of result ≡ Some node.now }
@@ -109,14 +108,14 @@ impl<'a, M: Kind> View<'a, M> {
         }
     }
 
-    // The node, or none for a placeholder.
+    /// The node, or `None` for a placeholder.
     pub(crate) fn node(self) -> Option<&'a SyntaxNode>
         ensures { option_copied result ≡ node_of self.entry }
     {
         self.node
     }
 
-    // The node's leaf text; empty for a placeholder.
+    /// The node's leaf text. It is empty for a placeholder.
     pub(crate) fn leaf_text(self) -> &'a str
         ensures { result.now ≡ text_in (node_of self.entry) }
     {

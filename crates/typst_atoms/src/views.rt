@@ -1,131 +1,106 @@
+// Written by bench/kinds.py from crates/kinds.txt: change that and run it.
 //! The views of one kind.
-ghost use Rattle.std.specs.Prelude.{◌≡◌};
-ghost use Rattle.typst_base.specs.declared.kind.SyntaxKind.TheVariants as named;
-
-use crate::marker as kinds;
+use crate::markers as kinds;
 use crate::view::View;
-use typst_base::SyntaxKind;
-use typst_node::AstNode;
 
-/// A line comment: `// ..`.
+/// A comment to the end of its line: `// to do`.
 pub type LineComment<'a> = View<'a, kinds::LineCommentKind>;
 
-/// A block comment: `/* .. */`.
+/// A comment between two marks: `/* to do */`.
 pub type BlockComment<'a> = View<'a, kinds::BlockCommentKind>;
 
-/// Plain text without markup.
+/// Plain text: `Hello`.
 pub type Text<'a> = View<'a, kinds::TextKind>;
 
-/// Whitespace with at most one newline.
+/// White space. In markup it has at most one line break.
 pub type Space<'a> = View<'a, kinds::SpaceKind>;
 
-/// A forced line break: `\`.
+/// A line break within a paragraph: `one \ two`.
 pub type Linebreak<'a> = View<'a, kinds::LinebreakKind>;
 
-/// A paragraph break: a blank line or more.
+/// White space with an empty line, which ends a paragraph.
 pub type Parbreak<'a> = View<'a, kinds::ParbreakKind>;
 
-/// An escape sequence: `\#`, `\u{1F5FA}`.
+/// A character that stands for itself, or that is given by its number: `\*`, `\u{2603}`.
 pub type Escape<'a> = View<'a, kinds::EscapeKind>;
 
-/// A shorthand in markup: `~` or `...`.
+/// Signs in markup that stand for one character: `--`, `~`.
 pub type Shorthand<'a> = View<'a, kinds::ShorthandKind>;
 
-/// A smart quote: `'` or `"`.
+/// A quote, which is set by the rules of the language: `"` or `'`.
 pub type SmartQuote<'a> = View<'a, kinds::SmartQuoteKind>;
 
-/// Raw text with optional syntax highlighting: `` `..` ``.
+/// Text that is kept as it is written: `` `let x` ``.
 pub type Raw<'a> = View<'a, kinds::RawKind>;
 
-/// The language tag of raw text.
+/// The language at the start of a raw text: the `rust` of ```` ```rust fn main``` ````.
 pub type RawLang<'a> = View<'a, kinds::RawLangKind>;
 
-/// The backticks at one end of raw text.
+/// The backticks at either end of a raw text: the two `` ` `` of `` `let x` ``.
 pub type RawDelim<'a> = View<'a, kinds::RawDelimKind>;
 
-/// A hyperlink: `https://typst.org`.
+/// An address that is written out: `https://example.org`.
 pub type Link<'a> = View<'a, kinds::LinkKind>;
 
-/// A label: `<intro>`.
+/// A name by which references find what comes before it: `<intro>`.
 pub type Label<'a> = View<'a, kinds::LabelKind>;
 
-/// A single character or a number in math: `x`, `25`.
+/// A character or a number that stands for itself in an equation: `a`, `2.5`, `=`.
 pub type MathText<'a> = View<'a, kinds::MathTextKind>;
 
-/// An identifier in math: `pi`.
+/// A name of two letters or more in an equation: `alpha`.
 pub type MathIdent<'a> = View<'a, kinds::MathIdentKind>;
 
-/// A field access in math: `arrow.r`.
+/// A field of a name in an equation: `arrow.l`.
 pub type MathFieldAccess<'a> = View<'a, kinds::MathFieldAccessKind>;
 
-/// A shorthand in math: `a <= b`.
+/// Signs in an equation that stand for one character: `->`, `<=`.
 pub type MathShorthand<'a> = View<'a, kinds::MathShorthandKind>;
 
-/// An alignment point in math: `&`.
+/// A point at which the lines of an equation are aligned: `&`.
 pub type MathAlignPoint<'a> = View<'a, kinds::MathAlignPointKind>;
 
-/// Primes in math: `a'''`.
+/// Primes after a base: the `''` of `f''`.
 pub type MathPrimes<'a> = View<'a, kinds::MathPrimesKind>;
 
-/// An underscore: `_`.
+/// An underscore, around emphasized content or for a part that a pattern skips: `_`.
 pub type Underscore<'a> = View<'a, kinds::UnderscoreKind>;
 
-/// The `none` literal.
+/// The value `none`.
 pub type None<'a> = View<'a, kinds::NoneKind>;
 
-/// The `auto` literal.
+/// The value `auto`.
 pub type Auto<'a> = View<'a, kinds::AutoKind>;
 
-/// An identifier: `it`.
+/// A name in code: `width`.
 pub type Ident<'a> = View<'a, kinds::IdentKind>;
 
-/// A boolean: `true`, `false`.
+/// A truth value: `true`, `false`.
 pub type Bool<'a> = View<'a, kinds::BoolKind>;
 
-/// An integer: `120`, `0x1F`.
+/// A whole number: `42`, `0x2a`.
 pub type Int<'a> = View<'a, kinds::IntKind>;
 
-/// A floating-point number: `1.2`, `10e-4`.
+/// A number with a point or an exponent: `0.5`, `1e3`.
 pub type Float<'a> = View<'a, kinds::FloatKind>;
 
-/// A number with a unit: `12pt`, `50%`.
+/// A number with a unit: `2cm`, `30%`.
 pub type Numeric<'a> = View<'a, kinds::NumericKind>;
 
-/// A quoted string: `".."`.
+/// A text between quotes: `"two\nlines"`.
 pub type Str<'a> = View<'a, kinds::StrKind>;
 
-/// The items that an import brings in.
+/// The items that an import names: the `circle, square` of `import "shapes.typ": circle, square`.
 pub type ImportItems<'a> = View<'a, kinds::ImportItemsKind>;
 
-/// A path to an imported item: `a.b.c`.
+/// The path of an item that an import names: the `round.circle` of `import "shapes.typ": round.circle`.
 pub type ImportItemPath<'a> = View<'a, kinds::ImportItemPathKind>;
 
-/// An imported item under another name: `a as b`.
+/// An item that an import brings in under another name: the `circle as ring` of `import "shapes.typ": circle as ring`.
 pub type RenamedImportItem<'a> = View<'a, kinds::RenamedImportItemKind>;
 
-/// A break from a loop: `break`.
+/// The end of a loop: `break`.
 pub type LoopBreak<'a> = View<'a, kinds::LoopBreakKind>;
 
-/// A continue in a loop: `continue`.
+/// The next round of a loop: `continue`.
 pub type LoopContinue<'a> = View<'a, kinds::LoopContinueKind>;
-
-/// The kind of [`LineComment`].
-pub fn line_comment_kind() -> SyntaxKind
-    ensures { result ≡ named.LineComment }
-{
-    LineComment::placeholder().kind()
-}
-
-/// The kind of [`BlockComment`].
-pub fn block_comment_kind() -> SyntaxKind
-    ensures { result ≡ named.BlockComment }
-{
-    BlockComment::placeholder().kind()
-}
-
-/// The kind of [`RawDelim`].
-pub fn raw_delim_kind() -> SyntaxKind
-    ensures { result ≡ named.RawDelim }
-{
-    RawDelim::placeholder().kind()
-}

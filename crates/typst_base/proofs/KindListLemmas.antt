@@ -8,7 +8,8 @@ use Rattle.std.proofs.lemmas.Bool.Decides.{nat_tests, eqb_tells, leb_tells}
 use Rattle.std.proofs.lemmas.List.Filters.{length-filter_both}
 use Rattle.std.proofs.lemmas.Nat.Bits.{bit_at_lowest, bit_at-suc, bit_at-trailing_zeros, bit_at-zero}
 use Rattle.typst_base.specs.Flags.{flags}
-use Rattle.typst_base.specs.KindList.{all_kinds, all_kinds-at, kinds_in, numbers-all_kinds}
+use Rattle.typst_base.specs.AllKinds.{all_kinds}
+use Rattle.typst_base.specs.KindList.{all_kinds-at, kinds_in, numbers-all_kinds}
 use Rattle.typst_base.specs.KindNumber.{number_of}
 use Rattle.typst_base.specs.KindSet.{holds, is_kind}
 use Rattle.typst_base.specs.declared.kind.SyntaxKind.{SyntaxKind}

@@ -7,8 +7,8 @@ use Rattle.std.proofs.lemmas.List.FromFn.{length-range_with_len, get_or-range_wi
 use Rattle.std.proofs.lemmas.Option.{get_or_from_slice_get, slice_get_within}
 use Rattle.std.specs.List.{flat_map, slice_get}
 use Rattle.std.specs.declared.ops.Range.{Range}
-use Rattle.typst_base.specs.Mapping.{positions_of, first_invalid}
-use Rattle.typst_base.specs.Segments.{ranges, running}
+use Rattle.typst_base.specs.Mapping.{positions_of}
+use Rattle.typst_base.specs.Segments.{first_invalid, ranges, running}
 use Rattle.typst_base.specs.declared.mapper.Segment.{Segment}
 
 -- ---- segments and their ranges

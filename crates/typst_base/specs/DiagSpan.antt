@@ -1,4 +1,4 @@
--- What a diagnostic span is seen as.
+-- How contracts see a diagnostic span.
 use Rattle.std.specs.Prelude.{ℕ, ◌≡◌, ◌+◌, ◌-◌, ◌*◌, ◌^◌, ◌==◌, ◌&&◌, Bool, not, min, nat_lt, if◌then◌else◌, refl, Option, Some, None}
 use Rattle.std.specs.Coded.{Coded, code_by, coded×, coded⊎, coded_ℕ, coded_option}
 use Rattle.std.specs.declared.ops.Range.{Range as Interval}
@@ -6,35 +6,38 @@ use Rattle.std.proofs.Common.{◌⊎◌, inl, inr}
 use Rattle.typst_base.specs.Span.{SpanParts, parts_code, range_base}
 use Rattle.typst_base.specs.SubRange.{interval}
 
--- a diagnostic span: a span with an optional part of it, or a range of a file that isn't a source file, an external range
+-- A diagnostic span is a span with an optional part of it, or an external range. An external range is a range of a file
+-- that isn't a source file.
 pub data DiagPlace : Type 0 where
   OfSpan : SpanParts → Option (Interval ℕ) → DiagPlace
   External : ℕ → Interval ℕ → DiagPlace
 
--- the span that is kept: of an external range that of its file, with its start above 2 ^ 47
+-- The span that a diagnostic span stores. For an external range, it has the range's file, and its low value is 2 ^ 47
+-- plus the range's start.
 abbrev pub span_of : DiagPlace → SpanParts
 span_of (OfSpan span part) = span
 span_of (External id range) = record { file = id; low = 2 ^ 47 + range.start }
 
--- whether a span of a file has a low value that stands for the start of an external range
+-- whether a span has a file, and a low value that encodes the start of an external range
 abbrev pub is_external : SpanParts → Bool
 is_external s = not (s.file == 0) && (not (nat_lt s.low (2 ^ 47)) && nat_lt s.low range_base)
 
--- the word of a part: both ends, 32 bits each; 0 for no part
+-- the word that encodes a part: the start times 2 ^ 32 plus the end, or 0 without a part
 abbrev pub sub_range_word : Option (Interval ℕ) → ℕ
 sub_range_word None = 0
 sub_range_word (Some part) = part.start * 2 ^ 32 + part.end
 
--- a span with an optional part of it; one with the low value of an external range is that range, up to the word of the part
+-- The diagnostic span of a span and an optional part of it. A span that encodes an external range gives that range,
+-- which ends at the word of the part.
 abbrev pub of_span : SpanParts → Option (Interval ℕ) → DiagPlace
 of_span span part =
     if is_external span then External span.file (interval (span.low - 2 ^ 47) (sub_range_word part)) else OfSpan span part
 
--- an end of an external range as it is kept: at most 2 ^ 46 - 1
+-- an end of an external range as it is stored: at most 2 ^ 46 - 1
 abbrev pub cut_external_end : ℕ → ℕ
 cut_external_end e = min e (2 ^ 46 - 1)
 
--- an external range of this file, both ends cut
+-- an external range of this file, with both ends cut
 abbrev pub external : ℕ → ℕ → ℕ → DiagPlace
 external id start end = External id (interval (cut_external_end start) (cut_external_end end))
 
@@ -53,7 +56,7 @@ pub of_parts_back : (d : DiagPlace) → of_parts (place_parts d) ≡ d
 of_parts_back (OfSpan span part) = refl
 of_parts_back (External id range) = refl
 
--- a diagnostic span is stored by its case
+-- a diagnostic span is stored as one of its two cases
 abbrev pub diag_code : Coded DiagPlace
 diag_code =
     code_by ((SpanParts × Option (Interval ℕ)) ⊎ (ℕ × Interval ℕ))

@@ -19,7 +19,7 @@ digit w = grind (arith, nat_tests)
 half : (n w : ℕ) → w < 2 ^ suc n → w / 2 < 2 ^ n
 half n w below = omega arith
 
--- a number is that of its digits
+-- the digits of a number give back the number
 pub flags_number-flags : (n w : ℕ) → w < 2 ^ n → flags_number (flags n w) ≡ w
 unfolding flags flags_number
 flags_number-flags zero w below = omega arith

@@ -1,3 +1,4 @@
+-- Written by bench/kinds.py from crates/kinds.txt: change that and run it.
 -- The classes of kinds. Each definition lists its kinds, in the order of the kinds' numbers.
 use Rattle.std.specs.Prelude.{Bool, true, false}
 use Rattle.typst_base.specs.declared.kind.SyntaxKind.{SyntaxKind}
@@ -13,7 +14,7 @@ is_grouping_kind LeftParen = true
 is_grouping_kind RightParen = true
 is_grouping_kind _ = false
 
--- what ends an expression: the end, a semicolon or a closing bracket
+-- what ends an expression: the end of the tokens, a semicolon or a closing bracket
 abbrev pub is_terminator_kind : SyntaxKind → Bool
 is_terminator_kind End = true
 is_terminator_kind RightBrace = true
@@ -61,7 +62,7 @@ is_keyword_kind Include = true
 is_keyword_kind As = true
 is_keyword_kind _ = false
 
--- what a parser passes over: blanks and comments
+-- what a parser passes over: white space, comments and paragraph breaks
 abbrev pub is_trivia_kind : SyntaxKind → Bool
 is_trivia_kind Shebang = true
 is_trivia_kind LineComment = true

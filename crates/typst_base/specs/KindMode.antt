@@ -1,3 +1,4 @@
+-- Written by bench/kinds.py from crates/kinds.txt: change that and run it.
 -- The mode rule of each kind.
 use Rattle.typst_base.specs.declared.mode.ModeAfter.{ModeAfter}
 use Rattle.typst_base.specs.declared.mode.ModeAfter.TheVariants.{Known, Parent, None as NoMode, Text as TextMode, RawDelim as RawDelimMode, Dollar as DollarMode, Space as SpaceMode, Embeddable}

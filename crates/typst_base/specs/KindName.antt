@@ -1,3 +1,4 @@
+-- Written by bench/kinds.py from crates/kinds.txt: change that and run it.
 -- The kinds' names, as messages to a user write them.
 use Rattle.std.specs.Prelude.{ℕ, List, codes}
 use Rattle.typst_base.specs.declared.kind.SyntaxKind.{SyntaxKind}

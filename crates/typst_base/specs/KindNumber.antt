@@ -1,3 +1,4 @@
+-- Written by bench/kinds.py from crates/kinds.txt: change that and run it.
 -- The kinds' numbers.
 use Rattle.std.specs.Prelude.{ℕ}
 use Rattle.typst_base.specs.declared.kind.SyntaxKind.{SyntaxKind}

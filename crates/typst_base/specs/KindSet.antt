@@ -1,9 +1,9 @@
--- Sets of kinds, seen as a flag for each kind.
+-- Sets of kinds, as one flag for each kind.
 use Rattle.std.specs.Prelude.{◌==◌, Bool, false, List, slice_index_or}
 use Rattle.typst_base.specs.KindNumber.{number_of}
 use Rattle.typst_base.specs.declared.kind.SyntaxKind.{SyntaxKind}
 
--- whether the flags, in the order of the kinds' numbers, hold the kind
+-- Whether a set holds a kind. The set's flags are in the order of the kinds' numbers.
 abbrev pub holds : List Bool → SyntaxKind → Bool
 holds flags kind = slice_index_or flags (number_of kind) false
 

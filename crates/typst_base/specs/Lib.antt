@@ -1,7 +1,10 @@
+pub mod AllKinds
 pub mod DiagSpan
 pub mod DiagSpanKind
 pub mod DiagWord
+pub mod Equal
 pub mod Flags
+pub mod Hashed
 pub mod KindClasses
 pub mod KindList
 pub mod KindMode

@@ -1,4 +1,4 @@
--- The named sets of kinds. Each is listed in the order of the kinds' numbers, or put together from others.
+-- The named sets of kinds. Each lists its kinds in the order of the kinds' numbers, or combines other sets.
 use Rattle.std.specs.Prelude.{Bool, true, false, ◌||◌}
 use Rattle.typst_base.specs.KindSet.{is_kind}
 use Rattle.typst_base.specs.declared.kind.SyntaxKind.{SyntaxKind}

@@ -13,7 +13,8 @@ to_number id n = Number id (record { 0 = n })
 abbrev pub to_range : ℕ → Interval ℕ → SpanKind
 to_range id range = Range id range
 
--- nothing without a file, else a range from the lowest low value of ranges on, else a node's number
+-- What a span points to. A span without a file points to nothing. A span with a low value below `range_base` points to
+-- a node, and any other span to a range of its file.
 abbrev pub span_kind_of : SpanParts → SpanKind
 span_kind_of s =
     if s.file == 0 then Detached

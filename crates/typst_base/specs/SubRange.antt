@@ -6,7 +6,7 @@ use Rattle.std.specs.declared.ops.Range.{Range}
 abbrev pub interval : ℕ → ℕ → Range ℕ
 interval start end = record { start = start; end = end }
 
--- an end of a sub-range as it is kept: at most 2 ^ 32 - 1
+-- an end of a sub-range as it is stored: at most 2 ^ 32 - 1
 abbrev pub cut_sub_end : ℕ → ℕ
 cut_sub_end e = min e (2 ^ 32 - 1)
 
@@ -14,7 +14,7 @@ cut_sub_end e = min e (2 ^ 32 - 1)
 abbrev pub moved : Range ℕ → ℕ → Range ℕ
 moved range offset = interval (range.start + offset) (range.end + offset)
 
--- the answer is the part between the two ends, the upper one cut, exactly where that isn't empty
+-- the answer is the part between the two ends, with the upper one cut, exactly if that part isn't empty
 abbrev pub MakesSubRange : Option (Range ℕ) → ℕ → ℕ → Type 0
 MakesSubRange answer start end =
     SomeIff answer ((start < end) × (start < 2 ^ 32 - 1)) (interval start (cut_sub_end end))

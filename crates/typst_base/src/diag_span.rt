@@ -1,22 +1,24 @@
-// Spans of diagnostics.
-ghost use Rattle.std.specs.Prelude.{◌≡◌, ◌≢◌, ◌<◌, ◌↔◌, IsTrue, None, SomeIff};
-ghost use Rattle.typst_base.specs.DiagSpan.{cut_external_end, external, of_span, span_of};
-ghost use Rattle.typst_base.specs.DiagSpanKind.{diag_kind_of, to_bytes};
+//! Spans of diagnostics.
+ghost use Rattle.std.specs.Prelude.{◌≡◌, ◌≢◌, ◌<◌, ◌↔◌, IsTrue, None, SomeIff, false};
+ghost use Rattle.typst_base.specs.DiagSpan.{cut_external_end, external, is_external, of_span, span_of};
+ghost use Rattle.typst_base.specs.DiagSpanKind.{diag_kind_of, to_bytes, with_part};
 ghost use Rattle.typst_base.specs.DiagWord.{sub_range_of, word_of};
 ghost use Rattle.typst_base.specs.Span.{detached};
+ghost use Rattle.typst_base.specs.SpanKind.{span_kind_of};
 ghost use Rattle.typst_base.specs.SubRange.{interval};
 
 use crate::span::{FileId, Span, SpanNumber};
 use crate::sub_range::SubRange;
+use std::hash::{Hash, Hasher};
 use std::marker::Model;
 use std::ops::Range;
 
-/// The place that a diagnostic is about: a span with an optional part of it, or a range of a file
-/// that isn't a source file (an external range), whose ends may be larger than a span's.
-#[derive(Clone, Copy, Debug, PartialEq, Eq, Hash)]
+/// The place that a diagnostic is about. It is a span, or a part of a span's bytes, or an external range: bytes of a
+/// file that isn't a source file. The ends of an external range may be larger than a span's.
+#[derive(Clone, Copy, Debug)]
 pub struct DiagSpan {
     span: Span,
-    // The end of an external range, or both ends of a part of any other span, 32 bits each, or 0 for no part.
+    /// The end of an external range, or both ends of a part of any other span, 32 bits each, or 0 for no part.
     word: u64,
 }
 
@@ -38,6 +40,43 @@ impl Model for DiagSpan {
     ghost inverse_ok = { λ a h. Prim.rw (place_keeps_span a.span a.word, place_keeps_word a.span a.word h) };
 }
 
+/// Diagnostic spans are equal if they are the same span with the same part, or the same bytes of a file.
+impl PartialEq for DiagSpan {
+    ghost use Rattle.std.specs.Prelude.{◌≡◌, ◌↔◌, IsTrue};
+    ghost use Rattle.typst_base.specs.Equal.{place_eq, place_eq_laws};
+
+    ghost eq = { place_eq };
+
+    ghost laws = { place_eq_laws };
+
+    fn eq(&self, other: &DiagSpan) -> bool
+        ensures is { result ≡ place_eq self.now other.now }
+        ensures same { IsTrue result ↔ (self.now ≡ other.now) }
+    {
+        self.span == other.span && self.word == other.word
+    }
+}
+
+impl Eq for DiagSpan {
+    ghost use Rattle.typst_base.specs.Equal.{place_eq_equivalence};
+
+    ghost laws = { place_eq_equivalence };
+}
+
+/// A hash of the span and of its other word.
+impl Hash for DiagSpan {
+    ghost use Rattle.typst_base.specs.Hashed.{place_input, places_alike};
+
+    ghost hash_input = { place_input };
+
+    ghost respects_eq = { places_alike };
+
+    fn hash<H: Hasher>(&self, state: &mut H) {
+        self.span.hash(state);
+        state.write_u64(self.word);
+    }
+}
+
 /// What a diagnostic span points to.
 #[derive(Clone, Debug, PartialEq, Eq, Hash, Drop)]
 pub enum DiagSpanKind {
@@ -56,7 +95,7 @@ pub enum DiagSpanKind {
     Range {
         /// The file.
         id: FileId,
-        /// The bytes, from the start up to, not including, the end.
+        /// The bytes from the start up to the end, which isn't included.
         range: Range<usize>,
     },
 }
@@ -97,10 +136,12 @@ impl DiagSpan {
         }
     }
 
-    /// This span, or the given part of it.
+    /// The diagnostic span of a span, or of the given part of it.
+    ///
+    /// A span with the start of an external range means that range. Only `Span::from_raw` can give such a span.
     pub fn from_span(span: Span, sub_range: Option<SubRange>) -> DiagSpan
         ensures is { result ≡ of_span span sub_range }
-        ensures part_comes_back { sub_range_of (word_of result) ≡ sub_range }
+        ensures comes_back { is_external span ≡ false → diag_kind_of result ≡ with_part (span_kind_of span) sub_range }
     {
         let word = match sub_range {
             Some(part) => {
@@ -131,7 +172,7 @@ impl DiagSpan {
 
     /// What the diagnostic span points to.
     ///
-    /// The part of a span that is a range is answered as a range, counted as the range is.
+    /// A part of a span that is a range is answered as a range of the file's bytes.
     pub fn get(self) -> DiagSpanKind
         ensures { result ≡ diag_kind_of self }
     {
@@ -160,7 +201,7 @@ impl DiagSpan {
         DiagSpanKind::Range { id, range }
     }
 
-    /// The part that the word stands for.
+    /// The part that the word means.
     fn sub_range(self) -> Option<SubRange>
         ensures { result ≡ sub_range_of (word_of self) }
     {

@@ -1,166 +1,162 @@
-// The kinds of nodes, their numbers and their classes.
-ghost use Rattle.std.specs.Prelude.{◌≡◌, ◌↔◌, ◌<◌, ◌≤◌, IsNone, IsTrue, Some};
-ghost use Rattle.typst_base.specs.KindClasses.{is_block_kind, is_grouping_kind, is_keyword_kind, is_stmt_kind, is_terminator_kind, is_trivia_kind};
-ghost use Rattle.typst_base.specs.KindNumber.{number_of};
-ghost use Rattle.typst_base.specs.declared.kind.SyntaxKind.{SyntaxKind};
-ghost use Rattle.typst_base.specs.declared.kind.SyntaxKind.TheVariants.{Error};
+// Written by bench/kinds.py from crates/kinds.txt: change that and run it.
+//! The kinds of nodes.
 
 /// What a node of the syntax tree is: a token, an expression, a piece of markup and so on.
 ///
 /// The order of the variants is the order of the kinds' numbers, from 0 on.
 #[derive(Clone, Copy, Debug, PartialEq, Eq, Hash)]
 pub enum SyntaxKind {
-    /// The end of the tokens.
+    /// The end of the tokens: no more of the text is left.
     End,
-    /// Text that is no valid syntax.
+    /// Text that isn't valid Typst, such as a `)` that nothing opened.
     Error,
-    /// A shebang: `#! ...`.
+    /// A script's first line, for the system that runs it: `#!/usr/bin/env typst`.
     Shebang,
-    /// A comment up to the end of its line: `// ...`.
+    /// A comment to the end of its line: `// to do`.
     LineComment,
-    /// A comment in marks: `/* ... */`.
+    /// A comment between two marks: `/* to do */`.
     BlockComment,
-    /// The contents of a file or of a content block.
+    /// Markup, as in a file or between brackets: `A *bold* word`.
     Markup,
-    /// Plain text.
+    /// Plain text: `Hello`.
     Text,
-    /// Blanks, with one line break at most in markup.
+    /// White space. In markup it has at most one line break.
     Space,
-    /// A forced line break: `\`.
+    /// A line break within a paragraph: `one \ two`.
     Linebreak,
-    /// A paragraph break: one or more blank lines.
+    /// White space with an empty line, which ends a paragraph.
     Parbreak,
-    /// An escape sequence: `\#`, `\u{1F5FA}`.
+    /// A character that stands for itself, or that is given by its number: `\*`, `\u{2603}`.
     Escape,
-    /// A short form of a character: `~`, `...`.
+    /// Signs in markup that stand for one character: `--`, `~`.
     Shorthand,
-    /// A quote that is set by the language's rules: `'` or `"`.
+    /// A quote, which is set by the rules of the language: `"` or `'`.
     SmartQuote,
-    /// Strong content: `*Strong*`.
+    /// Content between stars: `*bold*`.
     Strong,
-    /// Emphasized content: `_Emphasized_`.
+    /// Content between underscores: `_stressed_`.
     Emph,
-    /// Raw text: `` `...` ``.
+    /// Text that is kept as it is written: `` `let x` ``.
     Raw,
-    /// The language tag of raw text.
+    /// The language at the start of a raw text: the `rust` of ```` ```rust fn main``` ````.
     RawLang,
-    /// The backticks of raw text.
+    /// The backticks at either end of a raw text: the two `` ` `` of `` `let x` ``.
     RawDelim,
-    /// What is trimmed of raw text.
+    /// White space that isn't a part of a raw text: line breaks at its ends, and the indentation of its lines.
     RawTrimmed,
-    /// A link: `https://typst.org`.
+    /// An address that is written out: `https://example.org`.
     Link,
-    /// A label: `<intro>`.
+    /// A name by which references find what comes before it: `<intro>`.
     Label,
-    /// A reference: `@target`.
+    /// A reference to a label: `@intro`, `@intro[Chapter]`.
     Ref,
-    /// The marker of a reference: `@target`, without its supplement.
+    /// The sign and the label of a reference: the `@intro` of `@intro[Chapter]`.
     RefMarker,
     /// A heading: `= Introduction`.
     Heading,
-    /// The marker of a heading: `=`, `==`.
+    /// The signs before a heading, one for each level: the `==` of `== Results`.
     HeadingMarker,
-    /// An item of a bullet list: `- ...`.
+    /// An item of a list with bullets: `- milk`.
     ListItem,
-    /// The marker of a list item: `-`.
+    /// The sign before an item of a list with bullets: the `-` of `- milk`.
     ListMarker,
-    /// An item of a numbered list: `+ ...` or `1. ...`.
+    /// An item of a numbered list: `+ boil`, `3. serve`.
     EnumItem,
-    /// The marker of a numbered item: `+` or `1.`.
+    /// The sign or the number before an item of a numbered list: `+`, `3.`.
     EnumMarker,
-    /// An item of a term list: `/ Term: Details`.
+    /// A term with its meaning: `/ Leaf: a node without children`.
     TermItem,
-    /// The marker of a term item: `/`.
+    /// The sign before a term: the `/` of `/ Leaf: a node without children`.
     TermMarker,
-    /// An equation: `$x$`, `$ x^2 $`.
+    /// An equation: `$a^2$` in a line, `$ a^2 $` as a block.
     Equation,
-    /// The contents of an equation.
+    /// The content of an equation or of a part of one: the `a^2 + b` of `$a^2 + b$`.
     Math,
-    /// A text in an equation: `x`, `25`, `=`.
+    /// A character or a number that stands for itself in an equation: `a`, `2.5`, `=`.
     MathText,
-    /// An identifier in an equation: `pi`.
+    /// A name of two letters or more in an equation: `alpha`.
     MathIdent,
-    /// A field of an identifier in an equation: `arrow.r`.
+    /// A field of a name in an equation: `arrow.l`.
     MathFieldAccess,
-    /// A short form of a character in an equation: `=>`.
+    /// Signs in an equation that stand for one character: `->`, `<=`.
     MathShorthand,
-    /// An alignment point in an equation: `&`.
+    /// A point at which the lines of an equation are aligned: `&`.
     MathAlignPoint,
-    /// A call in an equation: `mat(a, b)`.
+    /// A call in an equation: `vec(1, 2)`.
     MathCall,
-    /// The arguments of a call in an equation: `(a, b)`.
+    /// The arguments of a call in an equation, with their parentheses: the `(1, 2)` of `vec(1, 2)`.
     MathArgs,
-    /// A part of an equation in brackets: `(x + y)`.
+    /// A part of an equation between two delimiters: `[a + b]`.
     MathDelimited,
-    /// A base with attachments: `a_1^2`.
+    /// A base with what is above and below it: `x_1^2`.
     MathAttach,
-    /// Primes: `a'''`.
+    /// Primes after a base: the `''` of `f''`.
     MathPrimes,
-    /// A fraction: `x/2`.
+    /// A fraction: `a/b`.
     MathFrac,
-    /// A root: `√x`, `∛x`.
+    /// A root by its sign: `√x`, `∛x`.
     MathRoot,
-    /// The hash that begins code: `#`.
+    /// The sign that leads from markup into code: `#`.
     Hash,
-    /// The opening brace: `{`.
+    /// An opening brace: `{`.
     LeftBrace,
-    /// The closing brace: `}`.
+    /// A closing brace: `}`.
     RightBrace,
-    /// The opening bracket: `[`.
+    /// An opening bracket: `[`.
     LeftBracket,
-    /// The closing bracket: `]`.
+    /// A closing bracket: `]`.
     RightBracket,
-    /// The opening parenthesis: `(`.
+    /// An opening parenthesis: `(`.
     LeftParen,
-    /// The closing parenthesis: `)`.
+    /// A closing parenthesis: `)`.
     RightParen,
-    /// The comma: `,`.
+    /// A comma: `,`.
     Comma,
-    /// The semicolon: `;`.
+    /// A semicolon: `;`.
     Semicolon,
-    /// The colon: `:`.
+    /// A colon: `:`.
     Colon,
-    /// The star: `*`.
+    /// A star, around strong content or between factors: `*`.
     Star,
-    /// The underscore: `_`.
+    /// An underscore, around emphasized content or for a part that a pattern skips: `_`.
     Underscore,
-    /// The dollar sign around an equation: `$`.
+    /// The sign at either end of an equation: `$`.
     Dollar,
-    /// The plus: `+`.
+    /// A plus sign: `+`.
     Plus,
-    /// The minus: `-`.
+    /// A minus sign: `-`.
     Minus,
-    /// The slash: `/`.
+    /// A slash, between the two parts of a quotient: `/`.
     Slash,
-    /// The hat that raises in an equation: `^`.
+    /// The sign before the part above a base: `^`.
     Hat,
-    /// The dot: `.`.
+    /// The dot before a field: `.`.
     Dot,
-    /// The equals sign: `=`.
+    /// The sign of a binding or an assignment: `=`.
     Eq,
-    /// The equality operator: `==`.
+    /// The operator that asks whether two values are equal: `==`.
     EqEq,
-    /// The inequality operator: `!=`.
+    /// The operator that asks whether two values differ: `!=`.
     ExclEq,
-    /// The less-than operator: `<`.
+    /// The operator for less: `<`.
     Lt,
-    /// The less-than or equal operator: `<=`.
+    /// The operator for less or equal: `<=`.
     LtEq,
-    /// The greater-than operator: `>`.
+    /// The operator for greater: `>`.
     Gt,
-    /// The greater-than or equal operator: `>=`.
+    /// The operator for greater or equal: `>=`.
     GtEq,
-    /// The add-assign operator: `+=`.
+    /// The assignment that adds: `+=`.
     PlusEq,
-    /// The subtract-assign operator: `-=`.
+    /// The assignment that subtracts: `-=`.
     HyphEq,
-    /// The multiply-assign operator: `*=`.
+    /// The assignment that multiplies: `*=`.
     StarEq,
-    /// The divide-assign operator: `/=`.
+    /// The assignment that divides: `/=`.
     SlashEq,
     /// The dots of a spread: `..`.
     Dots,
-    /// The arrow of a closure: `=>`.
+    /// The arrow between a closure's parameters and its body: `=>`.
     Arrow,
     /// The sign of a root: `√`, `∛`, `∜`.
     Root,
@@ -206,88 +202,88 @@ pub enum SyntaxKind {
     Include,
     /// The keyword `as`.
     As,
-    /// The contents of a code block.
+    /// The expressions in a code block: the `f(); g()` of `{ f(); g() }`.
     Code,
-    /// An identifier: `it`.
+    /// A name in code: `width`.
     Ident,
-    /// A boolean: `true`, `false`.
+    /// A truth value: `true`, `false`.
     Bool,
-    /// An integer: `120`.
+    /// A whole number: `42`, `0x2a`.
     Int,
-    /// A number with a fraction or an exponent: `1.2`, `10e-4`.
+    /// A number with a point or an exponent: `0.5`, `1e3`.
     Float,
-    /// A number with a unit: `12pt`, `50%`.
+    /// A number with a unit: `2cm`, `30%`.
     Numeric,
-    /// A string: `"..."`.
+    /// A text between quotes: `"two\nlines"`.
     Str,
-    /// A block of code: `{ let x = 1; x + 2 }`.
+    /// Code between braces: `{ let a = 1; a }`.
     CodeBlock,
-    /// A block of content: `[*Hi* there!]`.
+    /// Markup between brackets: `[A *bold* word]`.
     ContentBlock,
-    /// An expression in parentheses: `(1 + 2)`.
+    /// An expression in parentheses: `(a + b)`.
     Parenthesized,
-    /// An array: `(1, "hi", 12cm)`.
+    /// An array: `(1, 2, 3)`.
     Array,
-    /// A dictionary: `(thickness: 3pt)`.
+    /// A dictionary: `(width: 2cm, "key": 1)`.
     Dict,
-    /// A pair with a name: `thickness: 3pt`.
+    /// A name with a value: the `width: 2cm` of `(width: 2cm)`.
     Named,
-    /// A pair with a key: `"spacy key": true`.
+    /// A key that isn't a name, with a value: the `"key": 1` of `("key": 1)`.
     Keyed,
-    /// An operator before its operand: `-x`.
+    /// An operator before its operand: `-a`, `not a`.
     Unary,
-    /// An operator between its operands: `a + b`.
+    /// An operator between two operands: `a + b`, `a in b`.
     Binary,
-    /// A field of a value: `properties.age`.
+    /// A field of a value: `page.width`.
     FieldAccess,
-    /// A call of a function or a method: `f(x, y)`.
+    /// A call: `calc.max(a, b)`, `list[A][B]`.
     FuncCall,
-    /// The arguments of a call: `(x, y)`.
+    /// The arguments of a call, with content after them: the `(a, size: 2cm)[B]` of `box(a, size: 2cm)[B]`.
     Args,
-    /// Spread items: `..x`.
+    /// A value that is spread, or a sink that takes the rest: `..items`.
     Spread,
-    /// A closure: `(x, y) => z`.
+    /// A function without a name, or one that `let` binds: `(a, b) => a + b`.
     Closure,
-    /// The parameters of a closure: `(x, y)`.
+    /// The parameters of a closure: the `(a, b: 1)` of `(a, b: 1) => a`.
     Params,
-    /// A binding: `let x = 1`.
+    /// A binding: `let a = 1`, `let f(x) = x`.
     LetBinding,
-    /// A set rule: `set text(...)`.
+    /// A rule that sets parameters for what comes after it: `set text(size: 9pt)`.
     SetRule,
-    /// A show rule: `show heading: it => ...`.
+    /// A rule that says how elements are shown: `show heading: it => it.body`.
     ShowRule,
-    /// A context expression: `context text.lang`.
+    /// An expression that depends on its place in the document: `context text.size`.
     Contextual,
-    /// A choice: `if x { y } else { z }`.
+    /// A choice: `if a { b } else { c }`.
     Conditional,
-    /// A loop on a condition: `while x { y }`.
+    /// A loop while a condition holds: `while a < 3 { a += 1 }`.
     WhileLoop,
-    /// A loop over items: `for x in y { z }`.
+    /// A loop over items: `for a in list { a }`.
     ForLoop,
-    /// An import: `import "utils.typ": a, b`.
+    /// An import of a module: `import "shapes.typ": circle as ring`.
     ModuleImport,
-    /// The items of an import: `a, b`.
+    /// The items that an import names: the `circle, square` of `import "shapes.typ": circle, square`.
     ImportItems,
-    /// The path of an imported item: `a.b`.
+    /// The path of an item that an import names: the `round.circle` of `import "shapes.typ": round.circle`.
     ImportItemPath,
-    /// An imported item with a new name: `a as d`.
+    /// An item that an import brings in under another name: the `circle as ring` of `import "shapes.typ": circle as ring`.
     RenamedImportItem,
-    /// An include: `include "chapter1.typ"`.
+    /// The content of another file: `include "chapter.typ"`.
     ModuleInclude,
     /// The end of a loop: `break`.
     LoopBreak,
-    /// The next turn of a loop: `continue`.
+    /// The next round of a loop: `continue`.
     LoopContinue,
-    /// A return from a function: `return x + 1`.
+    /// The end of a function, with a value or without: `return a`.
     FuncReturn,
-    /// A pattern with parts: `(x, _, ..y)`.
+    /// A pattern with several parts: the `(a, .., b)` of `let (a, .., b) = list`.
     Destructuring,
-    /// An assignment to a pattern: `(x, y) = (1, 2)`.
+    /// An assignment to several places at once: `(a, b) = (b, a)`.
     DestructAssignment,
 }
 
 /// All kinds, in the order of their numbers.
-const KINDS: [SyntaxKind; 137] = [
+pub(crate) const KINDS: [SyntaxKind; 137] = [
     SyntaxKind::End,
     SyntaxKind::Error,
     SyntaxKind::Shebang,
@@ -426,130 +422,3 @@ const KINDS: [SyntaxKind; 137] = [
     SyntaxKind::Destructuring,
     SyntaxKind::DestructAssignment,
 ];
-
-/// # Numbers
-impl SyntaxKind {
-    /// The kind's number, from 0 to 136, in the order of the variants.
-    pub fn to_u8(self) -> u8
-        ensures is { result ≡ number_of self }
-        ensures small { result < 137 }
-    {
-        self as u8
-    }
-
-    /// The kind with this number, or `None` from 137 on.
-    pub fn from_u8(raw: u8) -> Option<SyntaxKind>
-        ensures of_its_number { (kind : SyntaxKind) → number_of kind ≡ raw → result ≡ Some kind }
-        ensures none { IsNone result ↔ (137 ≤ raw) }
-    {
-        let index = usize::from(raw);
-        if index < KINDS.len() {
-            Some(KINDS[index])
-        } else {
-            None
-        }
-    }
-}
-
-/// # Classes
-impl SyntaxKind {
-    /// The kind of errors.
-    pub fn is_error(self) -> bool
-        ensures { IsTrue result ↔ (self ≡ Error) }
-    {
-        self == SyntaxKind::Error
-    }
-
-    /// A bracket of any shape, opening or closing.
-    pub fn is_grouping(self) -> bool
-        ensures { result ≡ is_grouping_kind self }
-    {
-        matches!(
-            self,
-            SyntaxKind::LeftBrace
-                | SyntaxKind::RightBrace
-                | SyntaxKind::LeftBracket
-                | SyntaxKind::RightBracket
-                | SyntaxKind::LeftParen
-                | SyntaxKind::RightParen
-        )
-    }
-
-    /// What ends an expression: the end of tokens, a semicolon or a closing bracket.
-    pub fn is_terminator(self) -> bool
-        ensures { result ≡ is_terminator_kind self }
-    {
-        matches!(
-            self,
-            SyntaxKind::End
-                | SyntaxKind::RightBrace
-                | SyntaxKind::RightBracket
-                | SyntaxKind::RightParen
-                | SyntaxKind::Semicolon
-        )
-    }
-
-    /// A block of code or of content.
-    pub fn is_block(self) -> bool
-        ensures { result ≡ is_block_kind self }
-    {
-        matches!(self, SyntaxKind::CodeBlock | SyntaxKind::ContentBlock)
-    }
-
-    /// A statement, which a semicolon or a line break ends.
-    pub fn is_stmt(self) -> bool
-        ensures { result ≡ is_stmt_kind self }
-    {
-        matches!(
-            self,
-            SyntaxKind::LetBinding
-                | SyntaxKind::SetRule
-                | SyntaxKind::ShowRule
-                | SyntaxKind::ModuleImport
-                | SyntaxKind::ModuleInclude
-        )
-    }
-
-    /// A keyword.
-    pub fn is_keyword(self) -> bool
-        ensures { result ≡ is_keyword_kind self }
-    {
-        matches!(
-            self,
-            SyntaxKind::Not
-                | SyntaxKind::And
-                | SyntaxKind::Or
-                | SyntaxKind::None
-                | SyntaxKind::Auto
-                | SyntaxKind::Let
-                | SyntaxKind::Set
-                | SyntaxKind::Show
-                | SyntaxKind::Context
-                | SyntaxKind::If
-                | SyntaxKind::Else
-                | SyntaxKind::For
-                | SyntaxKind::In
-                | SyntaxKind::While
-                | SyntaxKind::Break
-                | SyntaxKind::Continue
-                | SyntaxKind::Return
-                | SyntaxKind::Import
-                | SyntaxKind::Include
-                | SyntaxKind::As
-        )
-    }
-
-    /// What a parser passes over: blanks, comments and paragraph breaks.
-    pub fn is_trivia(self) -> bool
-        ensures { result ≡ is_trivia_kind self }
-    {
-        matches!(
-            self,
-            SyntaxKind::Shebang
-                | SyntaxKind::LineComment
-                | SyntaxKind::BlockComment
-                | SyntaxKind::Space
-                | SyntaxKind::Parbreak
-        )
-    }
-}

@@ -1,4 +1,4 @@
-// The kinds of a set, one after another.
+//! The kinds of a set, one after the other.
 ghost use Rattle.std.specs.Prelude.{◌≡◌, ◌≤◌, IfSome, Some, length};
 ghost use Rattle.std.specs.Iterator.{UpTo, YieldsFirst, at_most, item_count};
 ghost use Rattle.std.specs.Iterator.SizeHint.{IsWithinCount};
@@ -11,7 +11,7 @@ use std::marker::Model;
 
 /// The kinds of a set, in the order of their numbers.
 ///
-/// It takes no memory, and each step takes constant time.
+/// The iterator takes no memory, and each step takes constant time.
 #[derive(Clone, Debug, Drop)]
 pub struct SyntaxKinds {
     left: SyntaxSet,

@@ -1,10 +1,9 @@
-// Mapping of byte positions between a text that was put together from segments of another and
-// that other text.
+//! Maps byte positions of a text that was put together from segments of another text to positions in that other text.
 ghost use Rattle.std.specs.List.{flat_map};
 ghost use Rattle.std.specs.Option.{option_copied};
 ghost use Rattle.std.specs.Prelude.{ℕ, ◌≡◌, ◌+◌, ◌-◌, ◌^◌, ◌<◌, ◌≤◌, ◌↔◌, IfOk, IsErrOf, None, Some, length, slice_index};
-ghost use Rattle.typst_base.specs.Mapping.{end_within, first_invalid, mapped, mapping_of, positions_of, start_within};
-ghost use Rattle.typst_base.specs.Segments.{HasByte, ranges, running};
+ghost use Rattle.typst_base.specs.Mapping.{AreSound, IsFirstUnsound, end_within, mapped, mapping_of, positions_of, start_within};
+ghost use Rattle.typst_base.specs.Segments.{HasByte, first_invalid, ranges, running};
 ghost use Rattle.typst_base.specs.SubRange.{MakesSubRange, interval};
 
 use crate::sub_range::SubRange;
@@ -29,7 +28,7 @@ pub enum MapperError {
     Memory,
 }
 
-/// A segment, and how many bytes all segments up to it have, itself included.
+/// A segment, and how many bytes it and all segments before it have.
 #[derive(Clone, Copy, Debug)]
 struct Segment {
     start: usize,
@@ -39,8 +38,8 @@ struct Segment {
 
 /// A map from the bytes of a text to the bytes of the original that it was put together from.
 ///
-/// It is made of segments of the original, which are ranges of bytes in rising order. The text is
-/// the segments' bytes, one after another, so each byte of the text has an original position.
+/// It is made of segments of the original: ranges of bytes in rising order. The text is the bytes of the segments, one
+/// after the other, so each byte of the text has an original position.
 #[derive(Debug, Drop)]
 pub struct RangeMapper {
     segments: Vec<Segment>,
@@ -62,17 +61,17 @@ impl Model for RangeMapper {
 }
 
 impl RangeMapper {
-    /// The mapper of these segments. Takes time and memory in proportion to their number.
+    /// The mapper of these segments. It takes time and memory in proportion to their number.
     ///
-    /// A segment that starts above its end, or below the end of the segment before it, is invalid:
-    /// the first such segment is told.
+    /// A segment is invalid if it starts above its end, or below the end of the segment before it. `InvalidSegment`
+    /// tells the first such segment.
     #[tactic(auto, using(crate::proofs::MapperLemmas::first_invalid_next))]
     pub fn new(alloc: Global, segments: &[Range<usize>]) -> Result<RangeMapper, MapperError>
         ensures mapping { IfOk result (λ mapper. mapper ≡ mapping_of segments.now) }
         ensures invalid { (start end : ℕ)
             → IsErrOf result (MapperError.InvalidSegment start end)
-            ↔ (first_invalid 0 segments.now ≡ Some (interval start end)) }
-        ensures valid { IfOk result (λ _. first_invalid 0 segments.now ≡ None) }
+            ↔ IsFirstUnsound segments.now (interval start end) }
+        ensures valid { IfOk result (λ _. AreSound segments.now) }
     {
         if let Some(bad) = find_invalid(segments) {
             return Err(MapperError::InvalidSegment {
@@ -109,10 +108,11 @@ impl RangeMapper {
 
     /// The original range of these bytes of the text.
     ///
-    /// It goes from the first byte's position to after the last byte's, across the gaps between
-    /// segments. An empty range maps to the place after the byte before it, also at the border of
-    /// two segments; at the start of the text, to the start of the first segment.
-    /// Takes time in proportion to the logarithm of the number of segments.
+    /// The range goes from the position of the first byte to after that of the last byte, across the gaps between
+    /// segments. An empty range maps to the place after the byte before it, also at the border of two segments. At the
+    /// start of the text it maps to the start of the first segment. The test of the conditions is
+    /// `range.start <= range.end && range.end <= mapper.total_len()`. It takes time in proportion to the logarithm of
+    /// the number of segments.
     pub fn map(&self, range: Range<usize>) -> Range<usize>
         requires ordered { range.start ≤ range.end }
         requires inside { range.end ≤ length self.now.positions }
@@ -130,11 +130,12 @@ impl RangeMapper {
         }
     }
 
-    /// The original part of a node's original range for this part of a node of the text that begins
-    /// at this offset, or `None` where its start is 2^32 - 1 or more.
+    /// Maps a part of a node of the text, which begins at the offset, to the part of the node's original range. It is
+    /// `None` if the start of that part is 2^32 - 1 or more.
     pub fn map_sub_range(&self, offset: usize, sub_range: SubRange) -> Option<SubRange>
         requires { offset + sub_range.end ≤ length self.now.positions }
-        ensures { MakesSubRange result (start_within self.now offset sub_range.start) (end_within self.now offset sub_range.end) }
+        ensures { MakesSubRange result (start_within self.now offset sub_range.start)
+            (end_within self.now offset sub_range.end) }
     {
         // The part lies within the text, so the sums below fit.
         let _text_len = self.total_len();
@@ -146,7 +147,7 @@ impl RangeMapper {
         SubRange::new(start.saturating_sub(origin), end.saturating_sub(origin))
     }
 
-    /// Where the first segment starts, or 0 without segments.
+    /// Where the first segment starts, or 0 if there are none.
     fn first(&self) -> usize
         ensures { result ≡ self.now.first }
     {

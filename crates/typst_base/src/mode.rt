@@ -1,8 +1,4 @@
-// The mode of the parser at a place.
-ghost use Rattle.std.specs.Prelude.{◌≡◌};
-ghost use Rattle.typst_base.specs.KindMode.{mode_after_of};
-
-use crate::kind::SyntaxKind;
+//! The modes in which a parser reads, and the rules for the mode after a node.
 
 /// How a piece of source text is read.
 #[derive(Clone, Copy, Debug, PartialEq, Eq, Hash)]
@@ -17,172 +13,23 @@ pub enum SyntaxMode {
 
 /// How the mode directly after a node follows from the node's kind.
 ///
-/// "Its parent's" is the mode after the node's parent; there is none without a parent.
+/// "Its parent's" is the mode after the node's parent. Without a parent there is no mode.
 #[derive(Clone, Copy, Debug, PartialEq, Eq)]
 pub enum ModeAfter {
-    /// This mode, wherever the node stands.
+    /// This mode, wherever the node is.
     Known(SyntaxMode),
-    /// Its parent's.
+    /// The parent's mode.
     Parent,
     /// No mode: nothing is read after the node.
     None,
-    /// None below a `Raw`, else markup.
+    /// No mode below a `Raw`, and otherwise markup.
     Text,
-    /// None for the first child, else its parent's.
+    /// No mode for the first child, and otherwise its parent's.
     RawDelim,
-    /// Math for the first child, else its parent's.
+    /// Math for the first child, and otherwise its parent's.
     Dollar,
-    /// Math below an `Equation`, else its parent's.
+    /// Math below an `Equation`, and otherwise its parent's.
     Space,
-    /// Code directly after a `Hash`, else its parent's.
+    /// Code directly after a `Hash`, and otherwise its parent's.
     Embeddable,
-}
-
-/// # Modes
-impl SyntaxKind {
-    /// How the mode after a node of this kind is found.
-    #[tactic(auto, unfolding(crate::specs::KindMode::mode_after_of))]
-    pub fn mode_after(self) -> ModeAfter
-        ensures { result ≡ mode_after_of self }
-    {
-        match self {
-            SyntaxKind::Markup
-            | SyntaxKind::Parbreak
-            | SyntaxKind::Shorthand
-            | SyntaxKind::SmartQuote
-            | SyntaxKind::Strong
-            | SyntaxKind::Emph
-            | SyntaxKind::Link
-            | SyntaxKind::Ref
-            | SyntaxKind::RefMarker
-            | SyntaxKind::Heading
-            | SyntaxKind::HeadingMarker
-            | SyntaxKind::ListItem
-            | SyntaxKind::ListMarker
-            | SyntaxKind::EnumItem
-            | SyntaxKind::EnumMarker
-            | SyntaxKind::TermItem
-            | SyntaxKind::TermMarker
-            | SyntaxKind::LeftBracket => ModeAfter::Known(SyntaxMode::Markup),
-            SyntaxKind::Math
-            | SyntaxKind::MathText
-            | SyntaxKind::MathIdent
-            | SyntaxKind::MathFieldAccess
-            | SyntaxKind::MathShorthand
-            | SyntaxKind::MathAlignPoint
-            | SyntaxKind::MathCall
-            | SyntaxKind::MathArgs
-            | SyntaxKind::MathDelimited
-            | SyntaxKind::MathAttach
-            | SyntaxKind::MathPrimes
-            | SyntaxKind::MathFrac
-            | SyntaxKind::MathRoot
-            | SyntaxKind::Hat
-            | SyntaxKind::Root
-            | SyntaxKind::Bang => ModeAfter::Known(SyntaxMode::Math),
-            SyntaxKind::Hash
-            | SyntaxKind::LeftBrace
-            | SyntaxKind::RightBrace
-            | SyntaxKind::Plus
-            | SyntaxKind::Minus
-            | SyntaxKind::Eq
-            | SyntaxKind::EqEq
-            | SyntaxKind::ExclEq
-            | SyntaxKind::Lt
-            | SyntaxKind::LtEq
-            | SyntaxKind::Gt
-            | SyntaxKind::GtEq
-            | SyntaxKind::PlusEq
-            | SyntaxKind::HyphEq
-            | SyntaxKind::StarEq
-            | SyntaxKind::SlashEq
-            | SyntaxKind::Arrow
-            | SyntaxKind::Not
-            | SyntaxKind::And
-            | SyntaxKind::Or
-            | SyntaxKind::None
-            | SyntaxKind::Auto
-            | SyntaxKind::Let
-            | SyntaxKind::Set
-            | SyntaxKind::Show
-            | SyntaxKind::Context
-            | SyntaxKind::If
-            | SyntaxKind::Else
-            | SyntaxKind::For
-            | SyntaxKind::In
-            | SyntaxKind::While
-            | SyntaxKind::Break
-            | SyntaxKind::Continue
-            | SyntaxKind::Return
-            | SyntaxKind::Import
-            | SyntaxKind::Include
-            | SyntaxKind::As
-            | SyntaxKind::Code
-            | SyntaxKind::Bool
-            | SyntaxKind::Int
-            | SyntaxKind::Float
-            | SyntaxKind::Numeric
-            | SyntaxKind::CodeBlock
-            | SyntaxKind::Parenthesized
-            | SyntaxKind::Array
-            | SyntaxKind::Dict
-            | SyntaxKind::Keyed
-            | SyntaxKind::Unary
-            | SyntaxKind::Binary
-            | SyntaxKind::FieldAccess
-            | SyntaxKind::FuncCall
-            | SyntaxKind::Args
-            | SyntaxKind::Closure
-            | SyntaxKind::Params
-            | SyntaxKind::LetBinding
-            | SyntaxKind::SetRule
-            | SyntaxKind::ShowRule
-            | SyntaxKind::Contextual
-            | SyntaxKind::Conditional
-            | SyntaxKind::WhileLoop
-            | SyntaxKind::ForLoop
-            | SyntaxKind::ModuleImport
-            | SyntaxKind::ImportItems
-            | SyntaxKind::ImportItemPath
-            | SyntaxKind::RenamedImportItem
-            | SyntaxKind::ModuleInclude
-            | SyntaxKind::LoopBreak
-            | SyntaxKind::LoopContinue
-            | SyntaxKind::FuncReturn
-            | SyntaxKind::Destructuring
-            | SyntaxKind::DestructAssignment => ModeAfter::Known(SyntaxMode::Code),
-            SyntaxKind::End
-            | SyntaxKind::Shebang
-            | SyntaxKind::LineComment
-            | SyntaxKind::BlockComment
-            | SyntaxKind::RawLang
-            | SyntaxKind::RawTrimmed => ModeAfter::None,
-            SyntaxKind::Error
-            | SyntaxKind::Linebreak
-            | SyntaxKind::Escape
-            | SyntaxKind::RightBracket
-            | SyntaxKind::LeftParen
-            | SyntaxKind::RightParen
-            | SyntaxKind::Comma
-            | SyntaxKind::Semicolon
-            | SyntaxKind::Colon
-            | SyntaxKind::Star
-            | SyntaxKind::Underscore
-            | SyntaxKind::Slash
-            | SyntaxKind::Dot
-            | SyntaxKind::Dots
-            | SyntaxKind::Named
-            | SyntaxKind::Spread => ModeAfter::Parent,
-            SyntaxKind::Text => ModeAfter::Text,
-            SyntaxKind::RawDelim => ModeAfter::RawDelim,
-            SyntaxKind::Dollar => ModeAfter::Dollar,
-            SyntaxKind::Space => ModeAfter::Space,
-            SyntaxKind::Raw
-            | SyntaxKind::Label
-            | SyntaxKind::Equation
-            | SyntaxKind::Ident
-            | SyntaxKind::Str
-            | SyntaxKind::ContentBlock => ModeAfter::Embeddable,
-        }
-    }
 }

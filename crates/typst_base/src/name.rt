@@ -1,4 +1,5 @@
-// The kinds' names.
+// Written by bench/kinds.py from crates/kinds.txt: change that and run it.
+//! The kinds' names.
 ghost use Rattle.std.specs.Prelude.{◌≡◌};
 ghost use Rattle.typst_base.specs.KindName.{name_of};
 

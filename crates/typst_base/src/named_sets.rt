@@ -1,4 +1,4 @@
-// The named sets of kinds: what an expression, a statement, a pattern and the like may begin with.
+//! The named sets of kinds: what an expression, a statement, a pattern and the like may begin with.
 ghost use Rattle.std.specs.Prelude.{◌≡◌};
 ghost use Rattle.typst_base.specs.KindSet.{holds};
 ghost use Rattle.typst_base.specs.NamedSets.{arg_set, array_or_dict_item_set, atomic_code_expr_set, binary_op_set, code_expr_set, destructuring_item_set, math_expr_set, param_set, pattern_leaf_set, pattern_set, stmt_set, unary_op_set};

@@ -1,4 +1,4 @@
-// Sets of kinds.
+//! Sets of kinds.
 ghost use Rattle.std.specs.Prelude.{◌≡◌, ◌<◌, ◌||◌, ◌&&◌, IfNone, IfSome, IsTrue, false, length, not};
 ghost use Rattle.typst_base.specs.Flags.{flags};
 ghost use Rattle.typst_base.specs.KindList.{kinds_in};
@@ -12,8 +12,8 @@ use std::marker::Model;
 
 /// A set of kinds, in two words.
 ///
-/// It takes no memory, and each call takes constant time.
-#[derive(Clone, Copy, PartialEq, Eq)]
+/// A set takes no memory, and each call takes constant time.
+#[derive(Clone, Copy)]
 pub struct SyntaxSet {
     low: u128,
     high: u16,
@@ -53,7 +53,7 @@ impl SyntaxSet {
         SyntaxSet { low, high: 0 }
     }
 
-    /// The set with this kind alone.
+    /// The set of only this kind.
     fn only(kind: SyntaxKind) -> SyntaxSet
         ensures { (k : SyntaxKind) → holds result k ≡ is_kind kind k }
     {
@@ -71,7 +71,7 @@ impl SyntaxSet {
         }
     }
 
-    /// The set with this kind too.
+    /// The set with this kind added.
     pub fn add(self, kind: SyntaxKind) -> SyntaxSet
         ensures { (k : SyntaxKind) → holds result k ≡ (holds self k || is_kind kind k) }
     {
@@ -89,7 +89,7 @@ impl SyntaxSet {
         }
     }
 
-    /// The set of the kinds that are in one of the two sets or in both.
+    /// The set of the kinds that are in at least one of the two sets.
     pub fn union(self, other: SyntaxSet) -> SyntaxSet
         ensures { (k : SyntaxKind) → holds result k ≡ (holds self k || holds other k) }
     {
@@ -118,7 +118,8 @@ impl SyntaxSet {
     pub(crate) fn first(self) -> Option<SyntaxKind>
         ensures none { IfNone result ((k : SyntaxKind) → holds self k ≡ false) }
         ensures held { IfSome result (λ first. IsTrue (holds self first)) }
-        ensures lowest { IfSome result (λ first. (k : SyntaxKind) → number_of k < number_of first → holds self k ≡ false) }
+        ensures lowest { IfSome result (λ first. (k : SyntaxKind) → number_of k < number_of first
+            → holds self k ≡ false) }
     {
         let number = if self.low != 0 {
             self.low.trailing_zeros()
@@ -135,12 +136,35 @@ impl SyntaxSet {
         (self.low.count_ones() + self.high.count_ones()) as usize
     }
 
-    /// Whether a set can hold this kind: it can hold each.
+    /// Whether a set can hold this kind. It can hold every kind.
     pub fn fits(_kind: SyntaxKind) -> bool
         ensures { IsTrue result }
     {
         true
     }
+}
+
+/// Sets are equal if they hold the same kinds.
+impl PartialEq for SyntaxSet {
+    ghost use Rattle.std.specs.Prelude.{◌≡◌, ◌↔◌, IsTrue};
+    ghost use Rattle.typst_base.specs.Equal.{set_eq, set_eq_laws};
+
+    ghost eq = { set_eq };
+
+    ghost laws = { set_eq_laws };
+
+    fn eq(&self, other: &SyntaxSet) -> bool
+        ensures is { result ≡ set_eq self.now other.now }
+        ensures same { IsTrue result ↔ (self.now ≡ other.now) }
+    {
+        self.low == other.low && self.high == other.high
+    }
+}
+
+impl Eq for SyntaxSet {
+    ghost use Rattle.typst_base.specs.Equal.{set_eq_equivalence};
+
+    ghost laws = { set_eq_equivalence };
 }
 
 impl Default for SyntaxSet {
@@ -156,7 +180,7 @@ impl Default for SyntaxSet {
 }
 
 impl fmt::Debug for SyntaxSet {
-    /// Writes the kinds of the set in the order of their numbers, as `{Text, Space}`.
+    /// Writes the kinds of the set in the order of their numbers: `{Text, Space}`.
     fn fmt<W: fmt::Write>(&self, f: &mut fmt::Formatter<W>) -> fmt::Result {
         f.debug_set().entries(self.kinds()).finish()
     }

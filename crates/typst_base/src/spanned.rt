@@ -1,4 +1,4 @@
-// Values with spans.
+//! Values with spans.
 ghost use Rattle.std.specs.Prelude.{◌≡◌};
 
 use crate::diag_span::DiagSpan;
@@ -60,7 +60,7 @@ impl<T, S: Copy + SpanDetached> Spanned<T, S> {
         }
     }
 
-    /// The value after a reference, with its span.
+    /// A reference to the value, with its span.
     pub fn as_ref(&self) -> Spanned<&T, S>
         ensures value { result.v.now ≡ self.now.v }
         ensures place { result.span ≡ self.now.span }
@@ -71,7 +71,7 @@ impl<T, S: Copy + SpanDetached> Spanned<T, S> {
         }
     }
 
-    /// What the function makes of the value, with the value's span.
+    /// Applies a function to the value, and keeps the span.
     pub fn map<R, F: FnOnce(T) -> R>(self, f: F) -> Spanned<R, S>
         requires { F.pre f self.v }
         ensures value { F.post f self.v result.v }
@@ -83,7 +83,7 @@ impl<T, S: Copy + SpanDetached> Spanned<T, S> {
 }
 
 impl<T: fmt::Debug, S: Copy + SpanDetached> fmt::Debug for Spanned<T, S> {
-    /// Writes the value alone.
+    /// Writes only the value.
     fn fmt<W: fmt::Write>(&self, f: &mut fmt::Formatter<W>) -> fmt::Result {
         self.v.fmt(f)
     }

@@ -1,11 +1,11 @@
-// Parts of a node's bytes.
+//! Parts of a node's bytes.
 ghost use Rattle.std.specs.Prelude.{◌≡◌, ◌+◌, ◌^◌, ◌<◌, ◌↔◌, IsTrue};
 ghost use Rattle.typst_base.specs.SubRange.{MakesSubRange, moved};
 
 use std::marker::Model;
 use std::ops::Range;
 
-/// A part of a node's bytes that isn't empty, counted from the node's first byte.
+/// A part of a node's bytes, counted from the node's first byte. It is never empty.
 ///
 /// Both ends are at most 2^32 - 1.
 #[derive(Clone, Copy, Debug, PartialEq, Eq, Hash)]
@@ -31,9 +31,9 @@ impl SubRange {
     /// The largest end, 2^32 - 1.
     const END_MAX: usize = u32::MAX as usize;
 
-    /// The part from `start` up to, not including, `end`. The end is cut to 2^32 - 1.
+    /// The part from `start` up to `end`, which isn't included. The end is cut to 2^32 - 1.
     ///
-    /// `None` where nothing is left: unless `start < end` and `start` is below 2^32 - 1.
+    /// It is `None` if nothing is left: unless `start < end` and `start` is below 2^32 - 1.
     pub fn new(start: usize, end: usize) -> Option<SubRange>
         ensures { MakesSubRange result start end }
     {
@@ -63,7 +63,8 @@ impl SubRange {
         self.end as usize <= usize::MAX - offset
     }
 
-    /// The part of a node that begins at this offset, counted as the offset is.
+    /// The part as a range in the text, for a node that begins at this offset. The test of the condition is
+    /// [`SubRange::fits_at`].
     pub fn to_absolute(self, offset: usize) -> Range<usize>
         requires { self.end + offset < 2 ^ 64 }
         ensures { result ≡ moved self offset }

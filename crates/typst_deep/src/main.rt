@@ -1,7 +1,8 @@
-//! Makes one call on a chain of nodes, one in another: for bench/depth.py, which looks for the depths that a stack holds.
+//! Makes one call on a chain of nodes, each inside the one before. bench/depth.py runs it to find the depths that a
+//! stack holds.
 //!
-//! Standard input is a call's name and a depth, as `clone 1000`. The program prints them once the call has returned. What was
-//! built is forgotten then, so that no call but `drop` takes what dropping takes.
+//! Standard input is a call's name and a depth, as `clone 1000`. The program prints both after the call has returned.
+//! Then it forgets what it built, so that only the call `drop` uses the stack for dropping.
 #![tactic(auto)]
 
 use anyhow::Result;
@@ -20,7 +21,8 @@ fn main(rt: HostRuntime) -> ExitCode {
     }
 }
 
-/// Makes each call that a line asks for. Answers whether all lines ask for one, and each gave what it should.
+/// Makes each call that a line asks for. Answers whether each line asks for a call, and each call gave the right
+/// answer.
 fn answer(rt: &(impl Input + Print + AllocGlobal)) -> Result<bool> {
     for line in rt.lines(rt.alloc()) {
         let line = line?;
@@ -38,7 +40,7 @@ fn answer(rt: &(impl Input + Print + AllocGlobal)) -> Result<bool> {
     Ok(true)
 }
 
-/// Makes a call, and answers whether there is one of this name and it gave what it should.
+/// Makes a call, and answers whether there is a call of this name and it gave the right answer.
 fn made(alloc: Global, name: &str, depth: usize) -> Result<bool> {
     let root = chain(alloc, depth)?;
     match name {
@@ -98,7 +100,7 @@ fn read(alloc: Global, name: &str, root: &SyntaxNode, depth: usize) -> Result<bo
     }
 }
 
-/// So many nodes, one in another, and a leaf in the last.
+/// A chain of `depth` nodes, with a leaf in the last.
 fn chain(alloc: Global, depth: usize) -> Result<SyntaxNode> {
     chain_over(
         alloc,
@@ -107,7 +109,7 @@ fn chain(alloc: Global, depth: usize) -> Result<SyntaxNode> {
     )
 }
 
-/// So many nodes, one in another, and this one in the last.
+/// A chain of `depth` nodes, with this node in the last.
 fn chain_over(alloc: Global, last: SyntaxNode, depth: usize) -> Result<SyntaxNode> {
     let mut node = last;
     for _ in 0..depth {
@@ -116,10 +118,9 @@ fn chain_over(alloc: Global, last: SyntaxNode, depth: usize) -> Result<SyntaxNod
     Ok(node)
 }
 
-/// The tree with all numbers of a file; nothing where they don't suffice, which they do.
+/// The tree with all numbers of a file, or nothing if the numbers don't suffice. They do.
 fn numbered(root: SyntaxNode) -> Option<NumberedTree> {
-    let file = FileId::new(1)?;
-    match NumberedTree::number(root, file, 2..1 << 47) {
+    match NumberedTree::number(root, FileId::FIRST, Span::FULL) {
         Ok(tree) => Some(tree),
         Err(root) => {
             mem::forget(root);
@@ -128,8 +129,8 @@ fn numbered(root: SyntaxNode) -> Option<NumberedTree> {
     }
 }
 
-/// Whether the leaf at the end of the chain was taken out. Other leaves would find no room: a deep chain has as many numbers
-/// there as nodes.
+/// Whether the leaf at the end of the chain was taken out. Other leaves would find no room, because a deep chain has as
+/// many numbers there as nodes.
 fn replaced(alloc: Global, root: SyntaxNode, depth: usize) -> Result<bool> {
     let Some(mut tree) = numbered(root) else {
         return Ok(false);

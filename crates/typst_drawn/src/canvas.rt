@@ -1,4 +1,4 @@
-//! A drawing under way.
+//! A drawing that isn't finished yet.
 ghost use Rattle.std.specs.Prelude.{◌≢◌, IfOk};
 ghost use Rattle.typst_base.specs.declared.kind.SyntaxKind.TheVariants.{Error};
 
@@ -9,7 +9,7 @@ use std::ops::Range;
 use typst_base::SyntaxKind;
 use typst_node::SyntaxNode;
 
-/// What was drawn so far.
+/// What has been drawn so far.
 #[derive(Drop)]
 pub struct Canvas<'a> {
     /// The nodes after the innermost open bracket.
@@ -26,6 +26,7 @@ struct Bracket<'a> {
 }
 
 impl<'a> Canvas<'a> {
+    /// An empty canvas.
     pub fn new(alloc: Global) -> Canvas<'a> {
         Canvas {
             nodes: Vec::new(alloc),
@@ -61,6 +62,7 @@ impl<'a> Canvas<'a> {
         }
     }
 
+    /// Draws a leaf.
     fn draw_leaf(&mut self, alloc: Global, name: &str, text: &str) -> Result<(), DrawingError> {
         let kind = kind_named(alloc, name)?;
         let text = spaced(alloc, text)?;
@@ -69,6 +71,7 @@ impl<'a> Canvas<'a> {
         Ok(())
     }
 
+    /// Draws an error: its message, a colon and its text.
     fn draw_error(&mut self, alloc: Global, word: &str) -> Result<(), DrawingError> {
         let (message, text) = word.split_once(':').ok_or(DrawingError::Word)?;
         let message = spaced(alloc, message)?;
@@ -78,6 +81,7 @@ impl<'a> Canvas<'a> {
         Ok(())
     }
 
+    /// Wraps the newest node in a warning, which is about a part of the node if a range comes before an `@`.
     fn draw_warning(&mut self, alloc: Global, word: &str) -> Result<(), DrawingError> {
         let node = self.nodes.last_mut().ok_or(DrawingError::Misplaced)?;
         match word.split_once('@') {
@@ -93,6 +97,7 @@ impl<'a> Canvas<'a> {
         Ok(())
     }
 
+    /// Gives the newest node a hint, which is about a part of the node if a range comes before an `@`.
     fn draw_hint(&mut self, alloc: Global, word: &str) -> Result<(), DrawingError> {
         let node = self.nodes.last_mut().ok_or(DrawingError::Misplaced)?;
         if !node.can_hint() {
@@ -111,12 +116,14 @@ impl<'a> Canvas<'a> {
         Ok(())
     }
 
+    /// Opens the bracket of an inner node.
     fn open(&mut self, alloc: Global, name: &'a str) -> Result<(), DrawingError> {
         let before = mem::replace(&mut self.nodes, Vec::new(alloc));
         self.open.push(Bracket { name, before })?;
         Ok(())
     }
 
+    /// Closes the innermost bracket.
     fn close(&mut self, alloc: Global) -> Result<(), DrawingError> {
         let bracket = self.open.pop().ok_or(DrawingError::Bracket)?;
         let kind = kind_named(alloc, bracket.name)?;
@@ -126,7 +133,7 @@ impl<'a> Canvas<'a> {
     }
 }
 
-/// The kind with this name. There are no errors among leaves and inner nodes.
+/// The kind with this name. No leaf and no inner node has the kind of errors.
 fn kind_named(alloc: Global, name: &str) -> Result<SyntaxKind, DrawingError>
     ensures { IfOk result (λ kind. kind ≢ Error) }
 {

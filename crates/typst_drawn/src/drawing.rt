@@ -20,8 +20,8 @@ use typst_node::{InnerError, SyntaxNode};
 /// | `Text:ab` | a leaf of the kind with this name and text; `~` stands for a blank |
 /// | `!m:#` | an error with a message and a text |
 /// | `Markup[` children `]` | an inner node of the kind with this name |
-/// | `^m`, `^0..1@m` | a warning round the newest node, also about a part of its bytes |
-/// | `+h`, `+0..1@h` | a hint for the newest node, also about a part of its bytes |
+/// | `^m`, `^0..1@m` | a warning around the newest node, about the whole node or a part of its bytes |
+/// | `+h`, `+0..1@h` | a hint for the newest node, about the whole node or a part of its bytes |
 pub fn drawn(alloc: Global, drawing: &str) -> Result<SyntaxNode, DrawingError> {
     let mut nodes = drawn_all(alloc, drawing)?;
     match nodes.pop() {
@@ -48,11 +48,10 @@ pub fn numbered(
     ensures { IfOk result IsNumbered }
 {
     let mut tree = drawn(alloc, drawing)?;
-    let id = FileId::new(1).ok_or(DrawingError::Numbers)?;
     if within.start < 2 || within.end > 1 << 47 {
         return Err(DrawingError::Numbers);
     }
-    tree.numberize(id, within)?;
+    tree.numberize(FileId::FIRST, within)?;
     Ok(tree)
 }
 

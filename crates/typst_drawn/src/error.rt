@@ -6,20 +6,20 @@ use typst_node::{InnerError, Unnumberable};
 /// Why a drawing shows no tree.
 #[derive(Clone, Copy, Debug, PartialEq, Eq, Error)]
 pub enum DrawingError {
-    /// A word that is no leaf, error, warning, hint or bracket.
+    /// A word that isn't a leaf, an error, a warning, a hint or a bracket.
     #[error("a word without a meaning")]
     Word,
-    /// No kind that leaves and inner nodes may have is called so.
+    /// No kind of leaves or inner nodes has this name.
     #[error("no kind of this name")]
     Kind,
-    /// A bracket that nothing opened, or that nothing closes.
+    /// A bracket that nothing opened or that nothing closes.
     #[error("a bracket without its other one")]
     Bracket,
     /// A warning or a hint before the first node, one whose range isn't a part of the node's text, or a hint for a
     /// node that takes none.
     #[error("a warning or a hint that no node takes")]
     Misplaced,
-    /// None or several nodes, where one is asked for.
+    /// No node or several nodes, where one is asked for.
     #[error("none or several nodes")]
     Nodes,
     /// The numbers don't suffice, or no node may have them.

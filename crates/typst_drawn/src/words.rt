@@ -2,7 +2,7 @@
 use std::alloc::{AllocError, Global};
 use typst_node::SyntaxNode;
 
-/// What is said of each node.
+/// What the words say about each node.
 #[derive(Clone, Copy)]
 enum Words {
     Labels,
@@ -24,6 +24,7 @@ pub fn sizes(alloc: Global, node: &SyntaxNode) -> Result<String, AllocError> {
     Ok(said)
 }
 
+/// Writes the words for a tree.
 fn push_tree(
     alloc: Global,
     words: Words,
@@ -46,12 +47,14 @@ fn push_tree(
     Ok(())
 }
 
+/// Writes the number and the bound of a node.
 fn push_label(alloc: Global, node: &SyntaxNode, said: &mut String) -> Result<(), AllocError> {
     let number = node.span().number();
     let upper = node.upper();
     said.push_str(format!(in alloc; "{number}..{upper}")?.as_str())
 }
 
+/// Writes the length and the number of nodes, and where the children end.
 fn push_size(alloc: Global, node: &SyntaxNode, said: &mut String) -> Result<(), AllocError> {
     let len = node.len();
     let nodes = node.descendants();

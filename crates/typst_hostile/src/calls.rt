@@ -1,11 +1,13 @@
 //! The calls, by name.
 use crate::changing::{self, Change, Replacing};
 use crate::end::{End, Stop};
+use crate::lines::{self, Following};
 use crate::making::{self, Making};
 use crate::reading::Reading;
 use crate::requests::Requests;
 use crate::runs::Queue;
 use crate::scripts;
+use crate::sources::{self, Editing, Finding};
 use crate::trees::Ground;
 use crate::views::Viewing;
 use crate::walks::{self, Walk};
@@ -26,9 +28,44 @@ pub enum Call {
     FindAmongThousand,
     Run(Queue),
     RunScript,
+    MakeSource,
+    Edit(Editing),
+    RunEdits,
+    FindInSource(Finding),
+    MakeLines,
+    Follow(Following),
 }
 
-/// Each call with its name.
+/// The walks, whose calls are named `children, nested` and so on.
+const WALKS: &[(&str, Walk)] = &[
+    ("children", Walk::Children),
+    ("children back", Walk::ChildrenBack),
+    ("prev_sibling", Walk::PrevSibling),
+    ("next_sibling", Walk::NextSibling),
+    ("prev_sibling_with_trivia", Walk::PrevSiblingWithTrivia),
+    ("next_sibling_with_trivia", Walk::NextSiblingWithTrivia),
+    ("leftmost_leaf", Walk::LeftmostLeaf),
+    ("rightmost_leaf", Walk::RightmostLeaf),
+    ("prev_leaf", Walk::PrevLeaf),
+    ("next_leaf", Walk::NextLeaf),
+    ("leaf_at", Walk::LeafAt),
+    ("leaf_at_counted", Walk::LeafAtCounted),
+    ("find", Walk::Find),
+    ("find_counted", Walk::FindCounted),
+    ("find_range", Walk::FindRange),
+    ("preorder", Walk::Preorder),
+    ("path", Walk::Path),
+];
+
+/// The trees that walks are made on.
+const GROUNDS: &[(&str, Ground)] = &[
+    ("nested", Ground::Nested),
+    ("wide", Ground::Wide),
+    ("ab c", Ground::Text),
+    ("let", Ground::Let),
+];
+
+/// All other calls with their names.
 const CALLS: &[(&str, Call)] = &[
     ("RangeMapper::new", Call::MakeMapper),
     ("leaf", Call::Make(Making::Leaf)),
@@ -57,7 +94,12 @@ const CALLS: &[(&str, Call)] = &[
         "replace_children of 11 leaves",
         Call::Replace(Replacing::ChildrenOfEleven),
     ),
+    (
+        "replace_children, a text between two",
+        Call::Replace(Replacing::Between),
+    ),
     ("replace_at", Call::Replace(Replacing::Below)),
+    ("replace_at, one by one", Call::Replace(Replacing::OneByOne)),
     ("full_text", Call::Read(Reading::FullText)),
     (
         "errors_and_warnings",
@@ -74,116 +116,25 @@ const CALLS: &[(&str, Call)] = &[
         "Destructuring::bindings",
         Call::View(Viewing::DestructuringBindings),
     ),
-    (
-        "children, nested",
-        Call::Walk(Walk::Children, Ground::Nested),
-    ),
-    ("children, wide", Call::Walk(Walk::Children, Ground::Wide)),
-    (
-        "children back, nested",
-        Call::Walk(Walk::ChildrenBack, Ground::Nested),
-    ),
-    (
-        "children back, wide",
-        Call::Walk(Walk::ChildrenBack, Ground::Wide),
-    ),
-    (
-        "prev_sibling, nested",
-        Call::Walk(Walk::PrevSibling, Ground::Nested),
-    ),
-    (
-        "prev_sibling, wide",
-        Call::Walk(Walk::PrevSibling, Ground::Wide),
-    ),
-    (
-        "next_sibling, nested",
-        Call::Walk(Walk::NextSibling, Ground::Nested),
-    ),
-    (
-        "next_sibling, wide",
-        Call::Walk(Walk::NextSibling, Ground::Wide),
-    ),
-    (
-        "prev_sibling_with_trivia, nested",
-        Call::Walk(Walk::PrevSiblingWithTrivia, Ground::Nested),
-    ),
-    (
-        "prev_sibling_with_trivia, wide",
-        Call::Walk(Walk::PrevSiblingWithTrivia, Ground::Wide),
-    ),
-    (
-        "next_sibling_with_trivia, nested",
-        Call::Walk(Walk::NextSiblingWithTrivia, Ground::Nested),
-    ),
-    (
-        "next_sibling_with_trivia, wide",
-        Call::Walk(Walk::NextSiblingWithTrivia, Ground::Wide),
-    ),
-    (
-        "leftmost_leaf, nested",
-        Call::Walk(Walk::LeftmostLeaf, Ground::Nested),
-    ),
-    (
-        "leftmost_leaf, wide",
-        Call::Walk(Walk::LeftmostLeaf, Ground::Wide),
-    ),
-    (
-        "rightmost_leaf, nested",
-        Call::Walk(Walk::RightmostLeaf, Ground::Nested),
-    ),
-    (
-        "rightmost_leaf, wide",
-        Call::Walk(Walk::RightmostLeaf, Ground::Wide),
-    ),
-    (
-        "prev_leaf, nested",
-        Call::Walk(Walk::PrevLeaf, Ground::Nested),
-    ),
-    ("prev_leaf, wide", Call::Walk(Walk::PrevLeaf, Ground::Wide)),
-    (
-        "next_leaf, nested",
-        Call::Walk(Walk::NextLeaf, Ground::Nested),
-    ),
-    ("next_leaf, wide", Call::Walk(Walk::NextLeaf, Ground::Wide)),
-    ("leaf_at, nested", Call::Walk(Walk::LeafAt, Ground::Nested)),
-    ("leaf_at, wide", Call::Walk(Walk::LeafAt, Ground::Wide)),
-    (
-        "leaf_at_counted, nested",
-        Call::Walk(Walk::LeafAtCounted, Ground::Nested),
-    ),
-    (
-        "leaf_at_counted, wide",
-        Call::Walk(Walk::LeafAtCounted, Ground::Wide),
-    ),
     ("leaf_at_counted, of 1000 leaves", Call::FindAmongThousand),
-    ("find, nested", Call::Walk(Walk::Find, Ground::Nested)),
-    ("find, wide", Call::Walk(Walk::Find, Ground::Wide)),
-    (
-        "find_counted, nested",
-        Call::Walk(Walk::FindCounted, Ground::Nested),
-    ),
-    (
-        "find_counted, wide",
-        Call::Walk(Walk::FindCounted, Ground::Wide),
-    ),
-    (
-        "find_range, nested",
-        Call::Walk(Walk::FindRange, Ground::Nested),
-    ),
-    (
-        "find_range, wide",
-        Call::Walk(Walk::FindRange, Ground::Wide),
-    ),
-    (
-        "preorder, nested",
-        Call::Walk(Walk::Preorder, Ground::Nested),
-    ),
-    ("preorder, wide", Call::Walk(Walk::Preorder, Ground::Wide)),
-    ("path, nested", Call::Walk(Walk::Path, Ground::Nested)),
-    ("path, wide", Call::Walk(Walk::Path, Ground::Wide)),
     ("session::run, each reply", Call::Run(Queue::Replies)),
     ("session::run, insertions", Call::Run(Queue::Insertions)),
+    (
+        "session::run, a text between two",
+        Call::Run(Queue::Between),
+    ),
+    ("session::run, another name", Call::Run(Queue::Renamed)),
     ("script::run", Call::RunScript),
+    ("Source::new", Call::MakeSource),
+    ("Source::edit, a letter", Call::Edit(Editing::Letter)),
+    ("Source::edit, a paragraph", Call::Edit(Editing::Paragraph)),
+    ("Source::edit, a delimiter", Call::Edit(Editing::Delimiter)),
+    ("Source::run", Call::RunEdits),
+    ("Source::find", Call::FindInSource(Finding::Find)),
+    ("Source::range", Call::FindInSource(Finding::Range)),
+    ("Lines::new", Call::MakeLines),
+    ("Lines::edit, a letter", Call::Follow(Following::Letter)),
+    ("Lines::edit, two lines", Call::Follow(Following::Lines)),
 ];
 
 impl Call {
@@ -194,10 +145,11 @@ impl Call {
                 return Some(*call);
             }
         }
-        None
+        let (walk, ground) = name.split_once(", ")?;
+        Some(Call::Walk(walk_named(walk)?, ground_named(ground)?))
     }
 
-    /// Builds what the call needs, makes these requests, and then the call.
+    /// Builds what the call needs, makes these requests, and then makes the call.
     pub fn run(self, alloc: Global, requests: Requests) -> Result<End, Stop> {
         match self {
             Call::Make(making) => making.run(alloc, requests),
@@ -212,6 +164,32 @@ impl Call {
             Call::FindAmongThousand => walks::find_among_thousand(alloc, requests),
             Call::Run(queue) => queue.requests().run(alloc, requests),
             Call::RunScript => scripts::run_script(alloc, requests),
+            Call::MakeSource => sources::make_source(alloc, requests),
+            Call::Edit(editing) => editing.run(alloc, requests),
+            Call::RunEdits => sources::run_edits(alloc, requests),
+            Call::FindInSource(finding) => finding.run(alloc, requests),
+            Call::MakeLines => lines::make_lines(alloc, requests),
+            Call::Follow(following) => following.run(alloc, requests),
         }
     }
+}
+
+/// The walk of this name.
+fn walk_named(name: &str) -> Option<Walk> {
+    for (named, walk) in WALKS {
+        if *named == name {
+            return Some(*walk);
+        }
+    }
+    None
+}
+
+/// The tree of this name.
+fn ground_named(name: &str) -> Option<Ground> {
+    for (named, ground) in GROUNDS {
+        if *named == name {
+            return Some(*ground);
+        }
+    }
+    None
 }

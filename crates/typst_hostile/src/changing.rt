@@ -1,12 +1,14 @@
 //! Calls that change a node.
 use crate::end::{End, Fault, Stop};
 use crate::requests::Requests;
-use crate::trees::{ELEVEN, NESTED, Step, TEN, grow, grow_all, grow_numbered};
+use crate::trees::{
+    ELEVEN, NESTED, ONE, STRONG, Step, TEN, TEXTS, TWO_IN_MARKUP, grow, grow_all, grow_numbered,
+};
 use std::alloc::Global;
 use typst_base::SyntaxKind;
 use typst_node::{Renumbered, SyntaxNode};
 
-/// A call that changes a node by a text.
+/// A call that changes a node with a text.
 #[derive(Clone, Copy)]
 pub enum Change {
     /// `warn`
@@ -21,7 +23,7 @@ pub enum Change {
     HintAt,
     /// `convert_to_error`
     ConvertToError,
-    /// `expected`, of a keyword in the place of a name.
+    /// `expected`, of a keyword in place of a name.
     Expected,
     /// `unexpected`
     Unexpected,
@@ -37,7 +39,7 @@ const ERROR: &[Step] = &[Step::Error("m", "let")];
 const WARNED: &[Step] = &[Step::Leaf(SyntaxKind::Let, "let"), Step::Warning("m")];
 
 impl Change {
-    /// Makes the call, whose answer is to be that of the same call before.
+    /// Makes the call. Its answer must be that of the same call before.
     pub fn run(self, alloc: Global, requests: Requests) -> Result<End, Stop> {
         let kept = grow(alloc, self.lent())?;
         let mut changed = kept.clone()?;
@@ -50,7 +52,7 @@ impl Change {
         })
     }
 
-    /// What is lent.
+    /// The steps that grow the node that the call changes.
     fn lent(self) -> &'static [Step] {
         match self {
             Change::Hint | Change::HintAt => ERROR,
@@ -59,6 +61,7 @@ impl Change {
         }
     }
 
+    /// Makes the change.
     fn make(self, alloc: Global, node: &mut SyntaxNode) -> Result<(), Fault> {
         match self {
             Change::Warn => node.warn(alloc, "message")?,
@@ -98,65 +101,89 @@ pub fn hint_all(alloc: Global, requests: Requests) -> Result<End, Stop> {
     })
 }
 
-/// A replacement that puts a leaf between two others.
+/// A replacement.
 #[derive(Clone, Copy)]
 pub enum Replacing {
-    /// `replace_children`
+    /// `replace_children`: a leaf between two nodes.
     Children,
     /// `replace_children`, of a node of ten letters.
     ChildrenOfTen,
     /// `replace_children`, of a node of eleven letters.
     ChildrenOfEleven,
+    /// `replace_children`: a text between two, in narrow bounds.
+    Between,
     /// `replace_at`, of a node two levels below the root.
     Below,
+    /// `replace_at`, of one child by another below the root, in narrow bounds.
+    OneByOne,
+}
+
+/// What a replacement needs: a tree, the end of its numbers, a path to a node, the range of children to replace, and
+/// the nodes that replace them.
+#[derive(Clone, Copy)]
+struct Site {
+    tree: &'static [Step],
+    end: u64,
+    path: &'static [usize],
+    start: usize,
+    past: usize,
+    others: &'static [Step],
 }
 
 impl Replacing {
-    /// Makes the call, whose answer is to be that of the same call before.
+    /// Makes the call. Its answer must be that of the same call before.
     pub fn run(self, alloc: Global, requests: Requests) -> Result<End, Stop> {
-        let kept = grow_numbered(alloc, self.lent(), 1 << 20)?;
+        let site = self.site();
+        let kept = grow_numbered(alloc, site.tree, site.end)?;
         let mut replaced = kept.clone()?;
-        let told = self.make(alloc, &mut replaced, leaves(alloc)?)?;
+        let told = site.replace(alloc, &mut replaced, grow_all(alloc, site.others)?)?;
         let mut tree = kept.clone()?;
-        let leaves = leaves(alloc)?;
+        let others = grow_all(alloc, site.others)?;
         requests.make(alloc)?;
-        Ok(match self.make(alloc, &mut tree, leaves) {
+        Ok(match site.replace(alloc, &mut tree, others) {
             Ok(again) => End::answered(again == told && tree == replaced && tree != kept),
             Err(fault) => End::failed(fault, tree == kept),
         })
     }
 
-    /// What is lent.
-    fn lent(self) -> &'static [Step] {
-        match self {
-            Replacing::ChildrenOfTen => TEN,
-            Replacing::ChildrenOfEleven => ELEVEN,
-            Replacing::Children | Replacing::Below => NESTED,
-        }
-    }
-
-    fn make(
-        self,
-        alloc: Global,
-        tree: &mut SyntaxNode,
-        leaves: Vec<SyntaxNode>,
-    ) -> Result<Renumbered, Fault> {
-        let path: &[usize] = match self {
-            Replacing::Below => &[1, 1],
-            _ => &[],
+    /// The tree, and what is replaced where in it.
+    fn site(self) -> Site {
+        let (tree, end, path, range, others): (_, _, &[usize], _, _) = match self {
+            Replacing::Children => (NESTED, 1 << 20, &[], (1, 1), ONE),
+            Replacing::ChildrenOfTen => (TEN, 1 << 20, &[], (1, 1), ONE),
+            Replacing::ChildrenOfEleven => (ELEVEN, 1 << 20, &[], (1, 1), ONE),
+            Replacing::Between => (TEXTS, 14, &[], (1, 1), ONE),
+            Replacing::Below => (NESTED, 1 << 20, &[1, 1], (1, 1), ONE),
+            Replacing::OneByOne => (STRONG, 30, &[0], (1, 2), TWO_IN_MARKUP),
         };
-        if !tree.is_numbered() || !tree.edit_fits(path, 1..1) {
-            return Err(Fault::Other);
-        }
-        match self {
-            Replacing::Below => Ok(tree.replace_at(alloc, path, 1..1, leaves)?),
-            _ if tree.edit_fits(&[], 1..1) => Ok(tree.replace_children(alloc, 1..1, leaves)?),
-            _ => Err(Fault::Other),
+        let (start, past) = range;
+        Site {
+            tree,
+            end,
+            path,
+            start,
+            past,
+            others,
         }
     }
 }
 
-/// The leaf that is put in.
-fn leaves(alloc: Global) -> Result<Vec<SyntaxNode>, Stop> {
-    grow_all(alloc, &[Step::Leaf(SyntaxKind::Text, "x")])
+impl Site {
+    /// Makes the replacement.
+    fn replace(
+        &self,
+        alloc: Global,
+        tree: &mut SyntaxNode,
+        others: Vec<SyntaxNode>,
+    ) -> Result<Renumbered, Fault> {
+        let range = self.start..self.past;
+        if !tree.is_numbered() || !tree.edit_fits(self.path, self.start..self.past) {
+            return Err(Fault::Other);
+        }
+        if self.path.is_empty() && tree.edit_fits(&[], self.start..self.past) {
+            Ok(tree.replace_children(alloc, range, others)?)
+        } else {
+            Ok(tree.replace_at(alloc, self.path, range, others)?)
+        }
+    }
 }

@@ -2,13 +2,14 @@
 use std::alloc::{AllocError, AllocFailed};
 use typst_base::MapperError;
 use typst_node::{InnerError, ReplaceError};
+use typst_source::SourceError;
 
-/// How a call ended that was made.
+/// How a call that was made ended.
 #[derive(Clone, Copy, Debug, PartialEq, Eq)]
 pub enum End {
-    /// Memory was refused, the call said so by this error, and what was lent is as it was.
+    /// Memory was refused, the call said so by this error, and what it borrowed is as it was.
     Refused(Refusal),
-    /// Memory was refused, and what was lent has changed.
+    /// Memory was refused, and what the call borrowed has changed.
     Changed,
     /// Nothing was refused, and the answer is the right one.
     Whole,
@@ -32,7 +33,7 @@ pub enum Refusal {
 pub enum Stop {
     /// Memory was refused before the call.
     Early,
-    /// So many requests were granted before one was refused.
+    /// This number of requests was granted before one was refused.
     Spent(u64),
 }
 
@@ -41,17 +42,17 @@ pub enum Stop {
 pub enum Fault {
     /// Memory ran out.
     Refused(Refusal),
-    /// For another reason, which there isn't.
+    /// Another reason, which no call has.
     Other,
 }
 
 impl End {
-    /// The end of a call that answered: `right` tells whether as it should.
+    /// The end of a call that answered. `right` says whether the answer was right.
     pub fn answered(right: bool) -> End {
         if right { End::Whole } else { End::Wrong }
     }
 
-    /// The end of a call that gave no answer: `same` tells whether what was lent is as it was.
+    /// The end of a call that gave no answer. `same` says whether what the call borrowed is as it was.
     pub fn failed(fault: Fault, same: bool) -> End {
         match fault {
             Fault::Other => End::Wrong,
@@ -97,6 +98,12 @@ impl From<InnerError> for Stop {
     }
 }
 
+impl From<SourceError> for Stop {
+    fn from(_: SourceError) -> Stop {
+        Stop::Early
+    }
+}
+
 impl From<Fault> for Stop {
     fn from(_: Fault) -> Stop {
         Stop::Early
@@ -133,6 +140,15 @@ impl From<MapperError> for Fault {
         match error {
             MapperError::Memory => Fault::Refused(Refusal::Memory),
             MapperError::InvalidSegment { .. } => Fault::Other,
+        }
+    }
+}
+
+impl From<SourceError> for Fault {
+    fn from(error: SourceError) -> Fault {
+        match error {
+            SourceError::Memory => Fault::Refused(Refusal::Memory),
+            SourceError::Overflow | SourceError::Unnumberable => Fault::Other,
         }
     }
 }

@@ -1,9 +1,10 @@
-//! Makes calls after so many requests for memory, and says how each ended: a test that is run with one request refused.
+//! Makes calls after a number of requests for memory, and says how each call ended. It is a test that is run with one
+//! request refused.
 //!
-//! Each line of standard input is a call's name and a number K, as `leaf 3`. The program builds what the call needs, makes
-//! K requests of its own, makes the call, and prints the line with how it ended (see [`end::End`]). For the word `spare` in
-//! place of K it makes requests until one is refused, and prints how many were granted: with K that number, the same
-//! refusal hits the first request of the call, with one less the second, and so on.
+//! Each line of standard input is a call's name and a number K, as `leaf 3`. The program builds what the call needs,
+//! makes K requests of its own, makes the call, and prints the line with how it ended (see [`end::End`]). For the word
+//! `spare` in place of K it makes requests until one is refused, and prints how many were granted. If K is that number,
+//! the same refusal hits the first request of the call. If K is one less, it hits the second request, and so on.
 #![tactic(auto)]
 
 use calls::Call;
@@ -16,11 +17,13 @@ use std::process::ExitCode;
 mod calls;
 mod changing;
 mod end;
+mod lines;
 mod making;
 mod reading;
 mod requests;
 mod runs;
 mod scripts;
+mod sources;
 mod trees;
 mod views;
 mod walks;

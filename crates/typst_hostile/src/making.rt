@@ -32,7 +32,7 @@ const TWO: &[Step] = &[
 ];
 
 impl Making {
-    /// Makes the call, whose answer is to be that of the same call before.
+    /// Makes the call. Its answer must be that of the same call before.
     pub fn run(self, alloc: Global, requests: Requests) -> Result<End, Stop> {
         let lent = grow(alloc, self.lent())?;
         let kept = lent.clone()?;
@@ -45,7 +45,7 @@ impl Making {
         })
     }
 
-    /// What is lent.
+    /// The steps that grow the nodes that the call reads.
     fn lent(self) -> &'static [Step] {
         match self {
             Making::CloneOfEleven => ELEVEN,
@@ -61,6 +61,7 @@ impl Making {
         }
     }
 
+    /// Makes the node.
     fn make(
         self,
         alloc: Global,

@@ -1,4 +1,4 @@
-//! Calls that read a node into a value of their own.
+//! Calls that read a node into a new value.
 use crate::end::{End, Fault, Stop};
 use crate::requests::Requests;
 use crate::trees::{ALL_FORMS, grow};
@@ -26,7 +26,7 @@ impl Reading {
         })
     }
 
-    /// Whether the answer is what stands in the tree.
+    /// Whether the answer is what the tree says.
     fn reads(self, alloc: Global, tree: &SyntaxNode) -> Result<bool, AllocError> {
         match self {
             Reading::FullText => Ok(tree.full_text(alloc)?.as_str() == "abc#"),
@@ -35,7 +35,7 @@ impl Reading {
     }
 }
 
-/// Whether an error and a warning are told, each with its hint.
+/// Whether the call reports an error and a warning, each with its hint.
 fn reports(alloc: Global, tree: &SyntaxNode) -> Result<bool, AllocError> {
     let (errors, warnings) = tree.errors_and_warnings(alloc)?;
     let each_one = errors.len() == 1 && warnings.len() == 1;

@@ -8,9 +8,9 @@ const MOST: u64 = 1 << 20;
 /// The requests that are made before a call, so that a refusal hits one of the call's own.
 #[derive(Clone, Copy)]
 pub enum Requests {
-    /// So many.
+    /// This number of requests.
     Count(u64),
-    /// All up to the one that is refused, and no call.
+    /// All requests up to the one that is refused, and no call.
     Spare,
 }
 
@@ -26,7 +26,7 @@ impl Requests {
         }
     }
 
-    /// Makes them. `Spare` always stops here.
+    /// Makes the requests. `Spare` always stops here.
     pub fn make(self, alloc: Global) -> Result<(), Stop> {
         match self {
             Requests::Count(count) => {

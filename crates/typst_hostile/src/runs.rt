@@ -1,7 +1,7 @@
 //! Runs of replacements and searches.
 use crate::end::{End, Refusal, Stop};
 use crate::requests::Requests;
-use crate::trees::{Step, grow_all, grow_numbered};
+use crate::trees::{LET_PARTS, ONE, STRONG, Step, TEXTS, TWO_IN_MARKUP, grow_all, grow_numbered};
 use std::alloc::Global;
 use typst_base::{FileId, Span, SpanNumber, SyntaxKind};
 use typst_node::{ReplaceError, SyntaxNode};
@@ -10,7 +10,7 @@ use typst_tree::session::{self, Reply, Request, Slot};
 /// A request as it is written in a table.
 #[derive(Clone, Copy)]
 pub enum Asked {
-    /// A path, the first child to be replaced, the first after those, and what comes for them.
+    /// A path, the first child to replace, the first child after those, and what replaces them.
     Replace(&'static [usize], usize, usize, &'static [Step]),
     /// A number.
     Find(u64),
@@ -27,16 +27,24 @@ pub struct Run {
 /// A run that is made.
 #[derive(Clone, Copy)]
 pub enum Queue {
+    /// One of each reply.
     Replies,
+    /// Insertions and searches between them.
     Insertions,
+    /// A text between two others, and the search for the one after it.
+    Between,
+    /// Another name in place of the first one that a let binds.
+    Renamed,
 }
 
 impl Queue {
-    /// Its tree, and what is asked of that.
+    /// The run's tree, and what is asked of the tree.
     pub fn requests(self) -> Run {
         match self {
             Queue::Replies => REPLIES,
             Queue::Insertions => INSERTIONS,
+            Queue::Between => BETWEEN,
+            Queue::Renamed => RENAMED,
         }
     }
 }
@@ -48,20 +56,12 @@ struct Served {
     slots: Vec<Slot>,
 }
 
-/// One of each reply, where memory is ample: on the tree `*b*c` with `Strong`.
+/// One of each reply where memory is ample, on the tree `*b*c` with `Strong`.
 const REPLIES: Run = Run {
-    tree: &[
-        Step::Leaf(SyntaxKind::Star, "*"),
-        Step::Leaf(SyntaxKind::Text, "b"),
-        Step::Inner(SyntaxKind::Markup, 1),
-        Step::Leaf(SyntaxKind::Star, "*"),
-        Step::Inner(SyntaxKind::Strong, 3),
-        Step::Leaf(SyntaxKind::Text, "c"),
-        Step::Inner(SyntaxKind::Markup, 2),
-    ],
+    tree: STRONG,
     end: 30,
     asked: &[
-        Asked::Replace(&[0], 1, 2, &TWO_IN_MARKUP),
+        Asked::Replace(&[0], 1, 2, TWO_IN_MARKUP),
         Asked::Find(15),
         Asked::Replace(&[0, 1], 0, 1, &TWO),
         Asked::Replace(&[5], 0, 0, &[]),
@@ -70,7 +70,7 @@ const REPLIES: Run = Run {
     ],
 };
 
-/// Insertions at the root and below it, and searches between them: each takes memory.
+/// Insertions at the root and below it, and searches between them. Each takes memory.
 const INSERTIONS: Run = Run {
     tree: &[
         Step::Leaf(SyntaxKind::Text, "a"),
@@ -85,7 +85,7 @@ const INSERTIONS: Run = Run {
         Asked::Find(22),
         Asked::Replace(&[0], 1, 1, &TWO),
         Asked::Find(23),
-        Asked::Replace(&[], 1, 1, &TWO_IN_MARKUP),
+        Asked::Replace(&[], 1, 1, TWO_IN_MARKUP),
         Asked::Find(24),
         Asked::Replace(&[0], 0, 2, &TWO),
     ],
@@ -97,15 +97,22 @@ const TWO: [Step; 2] = [
     Step::Leaf(SyntaxKind::Text, "y"),
 ];
 
-/// The same in `Markup`.
-const TWO_IN_MARKUP: [Step; 3] = [
-    Step::Leaf(SyntaxKind::Text, "x"),
-    Step::Leaf(SyntaxKind::Text, "y"),
-    Step::Inner(SyntaxKind::Markup, 2),
-];
+/// `x` between `ab` and `c`, and the search for `c`, whose number is then 6.
+const BETWEEN: Run = Run {
+    tree: TEXTS,
+    end: 14,
+    asked: &[Asked::Replace(&[], 1, 1, ONE), Asked::Find(6)],
+};
+
+/// `z` in place of `a` in the parts that a let binds.
+const RENAMED: Run = Run {
+    tree: LET_PARTS,
+    end: 1 << 47,
+    asked: &[Asked::Replace(&[2], 1, 2, &[Step::Leaf(SyntaxKind::Ident, "z")])],
+};
 
 impl Run {
-    /// Makes the run. Where a request was refused memory, all else is to be as if it hadn't been asked.
+    /// Makes the run. Where a request was refused memory, all else must be as if that request hadn't been made.
     pub fn run(self, alloc: Global, requests: Requests) -> Result<End, Stop> {
         let whole = self.served(alloc, None)?;
         let mut tree = grow_numbered(alloc, self.tree, self.end)?;
@@ -138,6 +145,7 @@ impl Run {
         Ok(Served { tree, slots })
     }
 
+    /// The requests of the run, except for one.
     fn slots(self, alloc: Global, but: Option<usize>) -> Result<Vec<Slot>, Stop> {
         let mut slots = Vec::with_capacity(alloc, self.asked.len())?;
         for (index, asked) in self.asked.iter().enumerate() {
@@ -150,6 +158,7 @@ impl Run {
 }
 
 impl Asked {
+    /// The request.
     fn request(&self, alloc: Global) -> Result<Request, Stop> {
         match *self {
             Asked::Replace(path, start, end, steps) => Ok(Request::Replace {
@@ -158,8 +167,7 @@ impl Asked {
                 replacement: grow_all(alloc, steps)?,
             }),
             Asked::Find(number) if 2 <= number && number < 1 << 47 => {
-                let id = FileId::new(1).ok_or(Stop::Early)?;
-                Ok(Request::Find(Span::from_number(id, SpanNumber(number))))
+                Ok(Request::Find(Span::from_number(FileId::FIRST, SpanNumber(number))))
             }
             Asked::Find(_) => Err(Stop::Early),
         }

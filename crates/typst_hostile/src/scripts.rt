@@ -8,7 +8,7 @@ use typst_script::{Fault, script};
 /// The lines that make a tree.
 const TREE: &str = "leaf 6 a\nleaf 6 b\ninner 5 2\nleaf 6 c\ninner 5 2\nroot\nnumber 1 2 400\n";
 
-/// The lines of each request, which has one line of the answer.
+/// The lines of each request. Each request has one line of the answer.
 const REQUESTS: [&str; 6] = [
     "leaf 6 x\nleaf 6 y\nreplace - 1 1 2\n",
     "find 1 22\n",
@@ -21,7 +21,7 @@ const REQUESTS: [&str; 6] = [
 /// The lines that serve the requests, and print the tree.
 const END: &str = "run\nshow\n";
 
-/// What stands for a reply where memory was refused.
+/// The line in place of a reply where memory was refused.
 const REFUSED: &str = "no memory";
 
 /// Room for all that is printed, so that the writer asks for no memory of its own.
@@ -29,8 +29,8 @@ const ROOM: usize = 4096;
 
 /// `script::run`, over a script whose lines are bytes at hand.
 ///
-/// Where it ends because memory ran out, what it printed is to be the beginning of the whole answer. Where one request of the
-/// queue was refused, all else is to be as if that request hadn't been in the script.
+/// Where the run ends because memory ran out, what it printed must be the beginning of the whole answer. Where one
+/// request of the queue was refused, all else must be as if that request hadn't been in the script.
 pub fn run_script(alloc: Global, requests: Requests) -> Result<End, Stop> {
     let lines = lines_but(alloc, None)?;
     let whole = printed(alloc, lines.as_str())?;
@@ -49,7 +49,7 @@ pub fn run_script(alloc: Global, requests: Requests) -> Result<End, Stop> {
     }
 }
 
-/// How a run ended that printed another answer than the whole one.
+/// How a run ended that printed something other than the whole answer.
 fn is_without_one(alloc: Global, out: &[u8]) -> Result<End, Stop> {
     let text = str::from_utf8(out).ok().ok_or(Stop::Early)?;
     let Some(index) = text.lines().position(|line| line == REFUSED) else {
@@ -82,7 +82,7 @@ fn lines_but(alloc: Global, but: Option<usize>) -> Result<String, Stop> {
     Ok(lines)
 }
 
-/// What a script prints that has no fault.
+/// What a script without a fault prints.
 fn printed(alloc: Global, lines: &str) -> Result<Vec<u8>, Stop> {
     let mut out = Vec::with_capacity(alloc, ROOM)?;
     match script::run(alloc, lines.as_bytes(), &mut out) {

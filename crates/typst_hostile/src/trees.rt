@@ -15,25 +15,31 @@ pub enum Step {
     Warning(&'static str),
     /// A hint for the newest node.
     Hint(&'static str),
-    /// A node over the newest ones, so many.
+    /// A node over this number of the newest nodes.
     Inner(SyntaxKind, usize),
 }
 
 /// A tree that is walked.
 #[derive(Clone, Copy)]
 pub enum Ground {
-    /// One of three levels.
+    /// A tree of three levels.
     Nested,
-    /// One of several forms side by side.
+    /// A tree of several forms side by side.
     Wide,
+    /// A tree of two texts and a blank between them.
+    Text,
+    /// A tree of a let binding.
+    Let,
 }
 
 impl Ground {
-    /// The steps that grow it.
+    /// The steps that grow the tree.
     pub fn steps(self) -> &'static [Step] {
         match self {
             Ground::Nested => NESTED,
             Ground::Wide => BINDING,
+            Ground::Text => SPACED,
+            Ground::Let => LET,
         }
     }
 }
@@ -71,6 +77,103 @@ const BINDING: &[Step] = &[
     Step::Inner(SyntaxKind::Markup, 5),
 ];
 
+/// `ab c`
+const SPACED: &[Step] = &[
+    Step::Leaf(SyntaxKind::Text, "ab"),
+    Step::Leaf(SyntaxKind::Space, " "),
+    Step::Leaf(SyntaxKind::Text, "c"),
+    Step::Inner(SyntaxKind::Markup, 3),
+];
+
+/// `#let x = 10`
+const LET: &[Step] = &[
+    Step::Leaf(SyntaxKind::Hash, "#"),
+    Step::Leaf(SyntaxKind::Let, "let"),
+    Step::Leaf(SyntaxKind::Space, " "),
+    Step::Leaf(SyntaxKind::Ident, "x"),
+    Step::Leaf(SyntaxKind::Space, " "),
+    Step::Leaf(SyntaxKind::Eq, "="),
+    Step::Leaf(SyntaxKind::Space, " "),
+    Step::Leaf(SyntaxKind::Int, "10"),
+    Step::Inner(SyntaxKind::LetBinding, 7),
+    Step::Inner(SyntaxKind::Markup, 2),
+];
+
+/// `abc`, of two texts.
+pub const TEXTS: &[Step] = &[
+    Step::Leaf(SyntaxKind::Text, "ab"),
+    Step::Leaf(SyntaxKind::Text, "c"),
+    Step::Inner(SyntaxKind::Markup, 2),
+];
+
+/// `*b*c`, with `Strong`.
+pub const STRONG: &[Step] = &[
+    Step::Leaf(SyntaxKind::Star, "*"),
+    Step::Leaf(SyntaxKind::Text, "b"),
+    Step::Inner(SyntaxKind::Markup, 1),
+    Step::Leaf(SyntaxKind::Star, "*"),
+    Step::Inner(SyntaxKind::Strong, 3),
+    Step::Leaf(SyntaxKind::Text, "c"),
+    Step::Inner(SyntaxKind::Markup, 2),
+];
+
+/// The leaf `x`.
+pub const ONE: &[Step] = &[Step::Leaf(SyntaxKind::Text, "x")];
+
+/// The leaves `x` and `y` in `Markup`.
+pub const TWO_IN_MARKUP: &[Step] = &[
+    Step::Leaf(SyntaxKind::Text, "x"),
+    Step::Leaf(SyntaxKind::Text, "y"),
+    Step::Inner(SyntaxKind::Markup, 2),
+];
+
+/// `(a, b: c, ..d)`
+pub const PARTS: &[Step] = &[
+    Step::Leaf(SyntaxKind::LeftParen, "("),
+    Step::Leaf(SyntaxKind::Ident, "a"),
+    Step::Leaf(SyntaxKind::Comma, ","),
+    Step::Leaf(SyntaxKind::Space, " "),
+    Step::Leaf(SyntaxKind::Ident, "b"),
+    Step::Leaf(SyntaxKind::Colon, ":"),
+    Step::Leaf(SyntaxKind::Space, " "),
+    Step::Leaf(SyntaxKind::Ident, "c"),
+    Step::Inner(SyntaxKind::Named, 4),
+    Step::Leaf(SyntaxKind::Comma, ","),
+    Step::Leaf(SyntaxKind::Space, " "),
+    Step::Leaf(SyntaxKind::Dots, ".."),
+    Step::Leaf(SyntaxKind::Ident, "d"),
+    Step::Inner(SyntaxKind::Spread, 2),
+    Step::Leaf(SyntaxKind::RightParen, ")"),
+    Step::Inner(SyntaxKind::Destructuring, 9),
+];
+
+/// `let (a, b: c, ..d) = v`
+pub const LET_PARTS: &[Step] = &[
+    Step::Leaf(SyntaxKind::Let, "let"),
+    Step::Leaf(SyntaxKind::Space, " "),
+    Step::Leaf(SyntaxKind::LeftParen, "("),
+    Step::Leaf(SyntaxKind::Ident, "a"),
+    Step::Leaf(SyntaxKind::Comma, ","),
+    Step::Leaf(SyntaxKind::Space, " "),
+    Step::Leaf(SyntaxKind::Ident, "b"),
+    Step::Leaf(SyntaxKind::Colon, ":"),
+    Step::Leaf(SyntaxKind::Space, " "),
+    Step::Leaf(SyntaxKind::Ident, "c"),
+    Step::Inner(SyntaxKind::Named, 4),
+    Step::Leaf(SyntaxKind::Comma, ","),
+    Step::Leaf(SyntaxKind::Space, " "),
+    Step::Leaf(SyntaxKind::Dots, ".."),
+    Step::Leaf(SyntaxKind::Ident, "d"),
+    Step::Inner(SyntaxKind::Spread, 2),
+    Step::Leaf(SyntaxKind::RightParen, ")"),
+    Step::Inner(SyntaxKind::Destructuring, 9),
+    Step::Leaf(SyntaxKind::Space, " "),
+    Step::Leaf(SyntaxKind::Eq, "="),
+    Step::Leaf(SyntaxKind::Space, " "),
+    Step::Leaf(SyntaxKind::Ident, "v"),
+    Step::Inner(SyntaxKind::LetBinding, 7),
+];
+
 /// A leaf, a warned leaf with a hint for the warning, and an error with a hint: a node of each form.
 pub const ALL_FORMS: &[Step] = &[
     Step::Leaf(SyntaxKind::Text, "ab"),
@@ -100,7 +203,7 @@ pub const TEN: &[Step] = &[
     Step::Inner(SyntaxKind::Markup, 10),
 ];
 
-/// Eleven letters in a node, for which it has a list.
+/// Eleven letters in a node, which has a list of where their texts end.
 pub const ELEVEN: &[Step] = &[
     LETTER,
     LETTER,
@@ -131,11 +234,10 @@ pub fn grow(alloc: Global, steps: &[Step]) -> Result<SyntaxNode, Stop> {
     grow_all(alloc, steps)?.pop().ok_or(Stop::Early)
 }
 
-/// The same, with all numbers of file 1 that these bounds leave.
+/// The same tree, numbered for file 1 with all numbers from 2 up to `end`.
 pub fn grow_numbered(alloc: Global, steps: &[Step], end: u64) -> Result<SyntaxNode, Stop> {
     let mut tree = grow(alloc, steps)?;
-    let id = FileId::new(1).ok_or(Stop::Early)?;
-    if end > 1 << 47 || tree.numberize(id, 2..end).is_err() {
+    if end > 1 << 47 || tree.numberize(FileId::FIRST, 2..end).is_err() {
         return Err(Stop::Early);
     }
     Ok(tree)

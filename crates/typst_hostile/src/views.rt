@@ -1,7 +1,7 @@
-//! Calls that read what views tell into a value of their own.
+//! Calls that read from a view into a new value.
 use crate::end::{End, Fault, Stop};
 use crate::requests::Requests;
-use crate::trees::{Step, grow};
+use crate::trees::{LET_PARTS, PARTS, Step, grow};
 use std::alloc::{AllocError, Global};
 use typst_base::SyntaxKind;
 use typst_node::SyntaxNode;
@@ -22,8 +22,8 @@ pub enum Viewing {
     DestructuringBindings,
 }
 
-/// The string `"a\u{e9}\n\"b\""`.
-const ESCAPED: &[Step] = &[Step::Leaf(SyntaxKind::Str, r#""a\u{e9}\n\"b\"""#)];
+/// The string `"a\u{41}\x"`.
+const ESCAPED: &[Step] = &[Step::Leaf(SyntaxKind::Str, r#""a\u{41}\x""#)];
 
 /// `import "a/b.typ"`
 const IMPORT: &[Step] = &[
@@ -31,24 +31,6 @@ const IMPORT: &[Step] = &[
     Step::Leaf(SyntaxKind::Space, " "),
     Step::Leaf(SyntaxKind::Str, "\"a/b.typ\""),
     Step::Inner(SyntaxKind::ModuleImport, 3),
-];
-
-/// `(a,b: c,..d)`
-const PARTS: &[Step] = &[
-    Step::Leaf(SyntaxKind::LeftParen, "("),
-    Step::Leaf(SyntaxKind::Ident, "a"),
-    Step::Leaf(SyntaxKind::Comma, ","),
-    Step::Leaf(SyntaxKind::Ident, "b"),
-    Step::Leaf(SyntaxKind::Colon, ":"),
-    Step::Leaf(SyntaxKind::Space, " "),
-    Step::Leaf(SyntaxKind::Ident, "c"),
-    Step::Inner(SyntaxKind::Named, 4),
-    Step::Leaf(SyntaxKind::Comma, ","),
-    Step::Leaf(SyntaxKind::Dots, ".."),
-    Step::Leaf(SyntaxKind::Ident, "d"),
-    Step::Inner(SyntaxKind::Spread, 2),
-    Step::Leaf(SyntaxKind::RightParen, ")"),
-    Step::Inner(SyntaxKind::Destructuring, 6),
 ];
 
 impl Viewing {
@@ -63,26 +45,21 @@ impl Viewing {
         })
     }
 
-    /// What is lent.
+    /// The tree that the call reads.
     fn lent(self, alloc: Global) -> Result<SyntaxNode, Stop> {
         match self {
             Viewing::StrGet => grow(alloc, ESCAPED),
             Viewing::BareName => grow(alloc, IMPORT),
             Viewing::PatternBindings | Viewing::DestructuringBindings => grow(alloc, PARTS),
-            Viewing::KindBindings => {
-                let parts = grow(alloc, PARTS)?;
-                let key = SyntaxNode::leaf(alloc, SyntaxKind::Let, "let")?;
-                let children = vec![in alloc; key, parts]?;
-                Ok(SyntaxNode::inner(alloc, SyntaxKind::LetBinding, children)?)
-            }
+            Viewing::KindBindings => grow(alloc, LET_PARTS),
         }
     }
 
-    /// Whether the answer is what stands in the tree.
+    /// Whether the answer is what the tree says.
     fn reads(self, alloc: Global, tree: &SyntaxNode) -> Result<bool, AllocError> {
         match self {
             Viewing::StrGet => match tree.cast::<Str>() {
-                Some(view) => Ok(view.get(alloc)?.as_str() == "aé\n\"b\""),
+                Some(view) => Ok(view.get(alloc)?.as_str() == "aA\\x"),
                 None => Ok(false),
             },
             Viewing::BareName => names_file(alloc, tree),

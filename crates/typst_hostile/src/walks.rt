@@ -46,14 +46,14 @@ pub enum Walk {
     Path,
 }
 
-/// How much a list of answers has room for, so that no answer takes memory of its own.
+/// The capacity of a list of answers, which is large enough that no answer takes memory of its own.
 const ROOM: usize = 1024;
 
-/// What stands for an answer of no node.
+/// The number in place of an answer that isn't a node.
 const NOTHING: usize = usize::MAX;
 
 impl Walk {
-    /// Walks from each node of a tree. The answers are to be those of the same walks before: where memory was refused,
+    /// Walks from each node of a tree. The answers must be those of the same walks before. Where memory was refused,
     /// the walk is made again.
     pub fn run(self, steps: &[Step], alloc: Global, requests: Requests) -> Result<End, Stop> {
         let tree = grow_numbered(alloc, steps, 1 << 20)?;
@@ -71,7 +71,7 @@ impl Walk {
         })
     }
 
-    /// Walks from each node, and answers the last refusal. After one the same walk is made again.
+    /// Walks from each node, and answers the last refusal. After a refusal the same walk is made again.
     fn from_each(
         self,
         alloc: Global,
@@ -203,7 +203,7 @@ fn last_below<'n, 'a>(nodes: &'n [LinkedNode<'a>], index: usize) -> Option<&'n L
     nodes.get(index.saturating_add(count).saturating_sub(1))
 }
 
-/// Adds where a found node stands and how many nodes it has.
+/// Adds where a found node is and how many nodes it has.
 fn see(found: Option<LinkedNode>, seen: &mut Vec<usize>) -> Result<(), AllocError> {
     match found {
         Some(node) => {
@@ -216,31 +216,27 @@ fn see(found: Option<LinkedNode>, seen: &mut Vec<usize>) -> Result<(), AllocErro
     Ok(())
 }
 
-/// `leaf_at_counted` in a node of a thousand leaves, of which each hundredth has a byte: it is to read at most ten ends.
-/// It asks for memory once it has read them, so where that is refused `looks` is to hold what the whole search reads.
+/// `leaf_at_counted` at 1001 of a thousand texts of two bytes. It must read one to ten ends. It asks for memory after
+/// it has read them. Where that memory is refused, `looks` must hold what the whole search reads.
 pub fn find_among_thousand(alloc: Global, requests: Requests) -> Result<End, Stop> {
     let mut leaves = Vec::with_capacity(alloc, 1000)?;
-    for index in 0..1000u32 {
-        leaves.push(if index % 100 == 0 {
-            SyntaxNode::leaf(alloc, SyntaxKind::Text, "x")?
-        } else {
-            SyntaxNode::placeholder(alloc, SyntaxKind::Space)
-        })?;
+    for _ in 0..1000 {
+        leaves.push(SyntaxNode::leaf(alloc, SyntaxKind::Text, "ab")?)?;
     }
     let tree = SyntaxNode::inner(alloc, SyntaxKind::Markup, leaves)?;
     let kept = tree.clone()?;
     let root = LinkedNode::new(&tree);
     let mut looks = Looks::new();
     requests.make(alloc)?;
-    let found = root.leaf_at_counted(alloc, 8, Side::Before, &mut looks);
-    let few = looks.count() <= 10;
+    let found = root.leaf_at_counted(alloc, 1001, Side::Before, &mut looks);
+    let few = 1 <= looks.count() && looks.count() <= 10;
     Ok(match found {
-        Ok(Some(leaf)) => End::answered(few && leaf.index() == 700 && leaf.offset() == 7),
+        Ok(Some(leaf)) => End::answered(few && leaf.index() == 500 && leaf.offset() == 1000),
         Ok(None) => End::Wrong,
         Err(error) => {
             let mut all = Looks::new();
             let is_found = root
-                .leaf_at_counted(alloc, 8, Side::Before, &mut all)
+                .leaf_at_counted(alloc, 1001, Side::Before, &mut all)
                 .is_ok();
             let told = is_found && looks.count() == all.count();
             End::failed(Fault::from(error), few && told && tree == kept)

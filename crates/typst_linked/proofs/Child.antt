@@ -7,7 +7,7 @@ use Rattle.typst_node.specs.Tree.{Content, AsLeaf, AsError, AsInner, Tree, trees
 use Rattle.typst_node.specs.Text.{content_text, own_text, text, text_of_all}
 use Rattle.typst_linked.specs.Place.{Place, child_place}
 use Rattle.typst_linked.specs.Linked.{IsAt, place_below}
-use Rattle.typst_node.proofs.Steps.{at-push}
+use Rattle.typst_node.proofs.PathSteps.{at-push, pushed}
 use Rattle.typst_node.proofs.Offsets.{offset-push, length-text, text_of_all-more, text_of_all-take}
 
 -- no text stands at a node that has children
@@ -37,3 +37,17 @@ at_place p q n o e at = subst (λ (r : Place). IsAt r n o) e at
 -- a node with a parent
 pub place_with : (node : Tree) (i : ℕ) (o : Option (Rc Place Global)) (parent : Rc Place Global) → o ≡ Some parent → place_below node i o ≡ child_place parent.value i
 place_with node i o parent e = ap (place_below node i) e
+
+-- where the text of a child begins, from where both stand
+pub begin_in : (p : Place) (n c : Tree) (o at i : ℕ) (kids : List Tree) → IsAt p n o → IsAt (child_place p i) c at → kids ≡ trees n.children → (¬ (IsInner n.label.content) → kids ≡ []) →
+    at ≡ o + length (text_of_all (take i (trees n.children)))
+begin_in p n c o at i kids own child same inner =
+    let s = pushed p.path i p.root n c own.node_is child.node_is in
+    omega (arith, no_own_text n c i kids same inner s, own.offset_is, child.offset_is, offset-push p.path i p.root n c own.node_is s)
+
+-- and where it ends
+pub end_in : (p : Place) (n c : Tree) (o at i : ℕ) (kids : List Tree) → IsAt p n o → IsAt (child_place p i) c at → kids ≡ trees n.children → (¬ (IsInner n.label.content) → kids ≡ []) →
+    at + length (text c) ≡ o + length (text_of_all (take (i + 1) (trees n.children)))
+end_in p n c o at i kids own child same inner =
+    let s = pushed p.path i p.root n c own.node_is child.node_is in
+    omega (arith, begin_in p n c o at i kids own child same inner, text_of_all-more (trees n.children) i c s)

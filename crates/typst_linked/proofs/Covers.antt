@@ -11,7 +11,7 @@ use Rattle.typst_linked.specs.Place.{Place, subtree, below, child_place}
 use Rattle.typst_linked.specs.Part.{begin_at, IsFirstEnding, EndsBefore, HasNoOwnText}
 use Rattle.typst_linked.specs.Ranges.{begin_of, HasRange, Covers, IsFirstCover, IsRangePath, FindsRange}
 use Rattle.typst_linked.specs.declared.floor.Part.{Part}
-use Rattle.typst_node.proofs.Steps.{at-append, at-push}
+use Rattle.typst_node.proofs.PathSteps.{at-append, at-push}
 use Rattle.typst_node.proofs.Offsets.{offset-push, text_of_all-more}
 use Rattle.typst_linked.proofs.Found.{option_cases}
 

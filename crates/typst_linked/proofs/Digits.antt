@@ -2,7 +2,7 @@
 use Rattle.std.proofs.Common.{suc, zero, ℕ, ◌+◌, ◌/◌, ◌<◌, ◌≤◌, ◌^◌, arith, subst}
 use Rattle.std.specs.Int.Digits.{digits_of}
 use Rattle.std.proofs.lemmas.Int.Digits.{length-digits_of-le, length-digits_of_step, number_lt, all_below_base_digits_of, number_digits_of}
-use Rattle.typst_linked.specs.Search.{binary_digits}
+use Rattle.typst_node.specs.BinaryDigits.{binary_digits}
 
 below_power : (n : ℕ) → n < 2 ^ binary_digits n
 below_power n = subst (λ (k : ℕ). k < 2 ^ binary_digits n) (number_digits_of 2 n (omega arith)) (number_lt 2 (digits_of 2 n) (all_below_base_digits_of 2 n (omega arith)))

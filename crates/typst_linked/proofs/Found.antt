@@ -8,9 +8,9 @@ use Rattle.typst_node.specs.Tree.{Tree}
 use Rattle.typst_node.specs.Preorder.{nodes, paths, subtrees, at}
 use Rattle.typst_node.specs.Labels.{number}
 use Rattle.typst_node.specs.Numbered.{Rise, IsNumbered}
-use Rattle.typst_node.proofs.Paths.{at-paths, labels-subtrees, path-in-paths}
+use Rattle.typst_node.proofs.PathsInPreorder.{at-paths, labels-subtrees, path-in-paths}
 use Rattle.typst_linked.specs.Search.{is_there, has_number_up_to, first_path, floor_path}
-use Rattle.typst_node.proofs.FirstMatch.{bool_cases}
+use Rattle.typst_node.proofs.FirstThatPasses.{bool_cases}
 
 -- ---- lists
 

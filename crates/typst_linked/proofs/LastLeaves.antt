@@ -7,7 +7,7 @@ use Rattle.typst_node.specs.Tree.{Label, Forest, none, tree, Tree, trees}
 use Rattle.typst_node.specs.Text.{text, offset}
 use Rattle.typst_node.specs.Preorder.{paths, at}
 use Rattle.typst_node.proofs.Offsets.{offset-cons, offset-root}
-use Rattle.typst_node.proofs.Paths.{path-in-paths}
+use Rattle.typst_node.proofs.PathsInPreorder.{path-in-paths}
 use Rattle.typst_linked.specs.Place.{Place, subtree, below, child_place}
 use Rattle.typst_linked.specs.Part.{begin_at, HasNoOwnText}
 use Rattle.typst_linked.specs.Ranges.{begin_of}
@@ -17,12 +17,12 @@ use Rattle.typst_linked.specs.LeafLooks.{IsNextChild}
 use Rattle.typst_linked.specs.declared.cursor.Side.{Side}
 use Rattle.typst_linked.specs.declared.cursor.Side.TheVariants.{Before, After}
 use Rattle.typst_linked.proofs.Covers.{child_begin, child_there}
-use Rattle.typst_node.proofs.FirstMatch.{bool_cases}
+use Rattle.typst_node.proofs.FirstThatPasses.{bool_cases}
 use Rattle.typst_linked.proofs.Found.{option_cases, find_passes, is_there_value, last_there}
 use Rattle.typst_linked.proofs.LeafCovers.{childless_true, covers_tells, covers_when, covering_none, offset-append, place_covers, text_within}
 use Rattle.typst_linked.proofs.LeafWays.{some_and}
 use Rattle.typst_linked.proofs.Searching.{found_at, below-nothing}
-use Rattle.typst_node.proofs.Steps.{at-append}
+use Rattle.typst_node.proofs.PathSteps.{at-append}
 use Rattle.typst_linked.proofs.Walks.{last_up, last_up-more, last_path-children, last_path-self}
 
 pub begins_tells : (side : Side) (cursor begin : ℕ) → begins_at_cursor side cursor begin ≡ true → (side ≡ Before) × (begin ≡ cursor)

@@ -9,7 +9,7 @@ use Rattle.typst_node.specs.Tree.{Tree, trees}
 use Rattle.typst_node.specs.Text.{own_text, text, text_of_all, offset}
 use Rattle.typst_node.specs.Preorder.{paths, at}
 use Rattle.typst_node.proofs.Offsets.{offset-cons, offset-root, length-text, text_of_all-more, text_of_all-take}
-use Rattle.typst_node.proofs.Paths.{path-in-paths}
+use Rattle.typst_node.proofs.PathsInPreorder.{path-in-paths}
 use Rattle.typst_linked.specs.Place.{Place, subtree}
 use Rattle.typst_linked.specs.Ranges.{begin_of}
 use Rattle.typst_linked.specs.Search.{is_there}
@@ -17,9 +17,9 @@ use Rattle.typst_linked.specs.LeafAt.{covers_cursor, least_end, is_childless, is
 use Rattle.typst_linked.specs.declared.cursor.Side.{Side}
 use Rattle.typst_linked.specs.declared.cursor.Side.TheVariants.{Before, After}
 use Rattle.typst_linked.proofs.Covers.{begin_at-le}
-use Rattle.typst_node.proofs.FirstMatch.{bool_cases}
+use Rattle.typst_node.proofs.FirstThatPasses.{bool_cases}
 use Rattle.typst_linked.proofs.Found.{find_none, find_only, is_there_value}
-use Rattle.typst_node.proofs.Steps.{if_some_value, at-append}
+use Rattle.typst_node.proofs.PathSteps.{if_some_value, at-append}
 
 -- ---- tests
 

@@ -1,27 +1,28 @@
 -- A search of the leaf that covers a cursor, on its way down.
-use Rattle.std.proofs.Common.{◌≡◌, ℕ, ◌+◌, ◌-◌, ◌<◌, ◌≤◌, inl, inr, List, [], ◌∷◌, length, take, true, false, cond, Option, None, Some, refl, sym, ◌∙◌, ap, subst, arith}
+use Rattle.std.proofs.Common.{◌≡◌, ℕ, ◌+◌, ◌-◌, ◌<◌, ◌≤◌, inl, inr, List, [], ◌∷◌, length, take, true, false, cond, Option, None, Some, refl, sym, ◌∙◌, ap, subst, append_assoc, arith}
 use Rattle.std.specs.Prelude.{slice_get, IsSomeAnd}
 use Rattle.std.specs.Option.{option_or}
 use Rattle.std.proofs.lemmas.Bool.{cases_order}
 use Rattle.typst_node.specs.Tree.{Tree, trees}
 use Rattle.typst_node.specs.Text.{text, text_of_all, offset}
 use Rattle.typst_node.specs.Preorder.{at}
-use Rattle.typst_linked.specs.Place.{Place, subtree, child_place}
+use Rattle.typst_linked.specs.Place.{Place, subtree, below, child_place}
 use Rattle.typst_linked.specs.Part.{begin_at, IsFirstEnding, EndsBefore, HasNoOwnText}
 use Rattle.typst_linked.specs.Ranges.{begin_of}
-use Rattle.typst_linked.specs.Search.{binary_digits, weight_along}
+use Rattle.typst_node.specs.BinaryDigits.{binary_digits}
+use Rattle.typst_linked.specs.Search.{weight_along}
 use Rattle.typst_linked.specs.LeafAt.{reaches_cursor, covers_cursor, least_end, is_childless, covering_leaf, last_leaf, leaf_path, leaf_place, CoversCursor, IsCoveringBelow}
-use Rattle.typst_linked.specs.LeafLooks.{IsNextChild, IsWay, HasWay}
+use Rattle.typst_linked.specs.LeafLooks.{IsNextChild, IsWay, HasWay, HasLookEachFork, one_if_several}
 use Rattle.typst_linked.specs.declared.cursor.Side.{Side}
 use Rattle.typst_linked.specs.declared.cursor.Side.TheVariants.{Before, After}
 use Rattle.typst_linked.specs.declared.floor.Part.{Part}
 use Rattle.typst_linked.proofs.Covers.{child_begin, child_there}
 use Rattle.typst_linked.proofs.LeafCovers.{covers_tells, covers_when, place_covers, covers_place, covering_is, offset-append}
 use Rattle.typst_node.proofs.Offsets.{length-text}
-use Rattle.typst_linked.proofs.Searching.{found_at}
-use Rattle.typst_node.proofs.Steps.{at-append}
+use Rattle.typst_linked.proofs.Searching.{below-nothing, found_at}
+use Rattle.typst_node.proofs.PathSteps.{at-append}
 use Rattle.typst_linked.proofs.Places.{same_node}
-use Rattle.typst_linked.proofs.Weights.{weight_along-cons}
+use Rattle.typst_linked.proofs.Weights.{weight_along-root, weight_along-cons}
 
 -- the first of some trees begins before any goal but 0
 begin_small : (goal : ℕ) (ts : List Tree) (part : Part) → 0 < goal → IsFirstEnding goal ts part → part.begin < goal
@@ -80,6 +81,28 @@ way_on side cursor old mid new i p child t c h s hc e next cost one more = recor
   most = λ u hu. subst (λ (v : Tree). new ≤ old + weight_along binary_digits (i ∷ more.path) v) (same_node t u p h hu) (omega (arith, cost, more.most c hc, weight_along-cons binary_digits i more.path t c s));
   each = λ cover. let step = one cover in omega (arith, step.0, more.each step.1);
 }
+
+-- ---- one look at least for each node of several children
+
+-- a node without children is the answer
+pub fork_end : (p : Place) (t : Tree) (n : ℕ) → subtree p ≡ Some t → trees t.children ≡ [] → HasLookEachFork p n n p
+fork_end p t n h none =
+    record {
+      path = [];
+      place_is = below-nothing p;
+      forks = λ u hu. let long : length (trees u.children) ≡ 0 = ap (λ (v : Tree). length (trees v.children)) (same_node u t p hu h) ∙ ap length none in
+          omega (arith, weight_along-root one_if_several u, long);
+    }
+
+-- the answer below a child
+pub fork_on : (old mid new i : ℕ) (p child found : Place) (t c : Tree) → subtree p ≡ Some t → slice_get (trees t.children) i ≡ Some c → subtree child ≡ Some c → child ≡ child_place p i →
+    old + one_if_several (length (trees t.children)) ≤ mid → HasLookEachFork child mid new found → HasLookEachFork p old new found
+fork_on old mid new i p child found t c h s hc e cost more =
+    record {
+      path = i ∷ more.path;
+      place_is = more.place_is ∙ ap (λ (q : Place). below q more.path) e ∙ (λ x. record { root = p.root; path = append_assoc p.path (i ∷ []) more.path x });
+      forks = λ u hu. subst (λ (v : Tree). old + weight_along one_if_several (i ∷ more.path) v ≤ new) (same_node t u p h hu) (omega (arith, cost, more.forks c hc, weight_along-cons one_if_several i more.path t c s));
+    }
 
 -- ---- what is found
 

@@ -18,3 +18,4 @@ pub mod OuterModes
 pub mod OneNumber
 pub mod OwnSpan
 pub mod Onwards
+pub mod Descent

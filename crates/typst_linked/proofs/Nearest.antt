@@ -7,7 +7,7 @@ use Rattle.typst_node.specs.Tree.{Tree, trees}
 use Rattle.typst_node.specs.Preorder.{at}
 use Rattle.typst_linked.specs.Place.{Place, subtree, child_place}
 use Rattle.typst_linked.specs.Siblings.{front, siblings, children_of, is_solid, solid_before, parent_place, parent_tree, parent_at}
-use Rattle.typst_node.proofs.FirstMatch.{bool_cases}
+use Rattle.typst_node.proofs.FirstThatPasses.{bool_cases}
 
 front-cons : (i j : ℕ) (p : List ℕ) → front (i ∷ (p ++ j ∷ [])) ≡ i ∷ front (p ++ j ∷ [])
 front-cons i j [] = refl

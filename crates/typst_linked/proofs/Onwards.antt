@@ -9,12 +9,12 @@ use Rattle.typst_node.specs.Tree.{Forest, none, tree, Tree, trees, forest}
 use Rattle.typst_node.specs.Preorder.{paths_from, paths, at}
 use Rattle.typst_node.specs.Paths.{no_tree}
 use Rattle.typst_node.specs.Count.{count}
-use Rattle.typst_node.proofs.Paths.{length-paths}
+use Rattle.typst_node.proofs.PathsInPreorder.{length-paths}
 use Rattle.typst_node.proofs.Trees.{forest-trees}
 use Rattle.typst_linked.specs.Place.{Place, subtree, below, child_place}
 use Rattle.typst_linked.specs.Preorder.{listed_of, places_below}
 use Rattle.typst_linked.specs.Onwards.{paths_behind, places_behind, places_from}
-use Rattle.typst_node.proofs.Steps.{if_some_value, at-push}
+use Rattle.typst_node.proofs.PathSteps.{if_some_value, at-push}
 
 map_map : {A B C : Type 0} (f : B → C) (g : A → B) (xs : List A) → map f (map g xs) ≡ map (λ x. f (g x)) xs
 map_map f g [] = refl

@@ -10,7 +10,7 @@ use Rattle.typst_node.specs.Numbered.{IsNumbered}
 use Rattle.typst_node.specs.Interval.{IsWithin}
 use Rattle.typst_node.proofs.Within.{within_le}
 use Rattle.typst_node.proofs.Ordered.{within_from_numbered}
-use Rattle.typst_node.proofs.Steps.{if_some_value}
+use Rattle.typst_node.proofs.PathSteps.{if_some_value}
 
 -- the children of a node are numbered one after the other, up to its bound
 abbrev pub IsInOrder : ℕ → Tree → Type 0

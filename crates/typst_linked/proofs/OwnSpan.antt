@@ -16,7 +16,7 @@ use Rattle.typst_linked.specs.Search.{with_number}
 use Rattle.typst_linked.specs.Finds.{FindsSpan}
 use Rattle.typst_linked.specs.Own.{FindsOwn}
 use Rattle.typst_node.proofs.Ordered.{within_from_numbered}
-use Rattle.typst_node.proofs.Steps.{if_some_value, at-append}
+use Rattle.typst_node.proofs.PathSteps.{if_some_value, at-append}
 use Rattle.typst_linked.proofs.Ordered.{IsInOrder, child_in_order, node_in_order}
 use Rattle.typst_linked.proofs.Searching.{found_at}
 use Rattle.typst_linked.proofs.OneNumber.{own_path}

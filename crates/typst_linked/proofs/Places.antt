@@ -2,7 +2,7 @@
 use Rattle.std.proofs.Common.{◌≡◌, ℕ, ◌<◌, List, [], ◌∷◌, ◌++◌, length, Some, refl, sym, ◌∙◌}
 use Rattle.std.proofs.lemmas.Option.{slice_get_within}
 use Rattle.typst_node.specs.Tree.{Tree, trees}
-use Rattle.typst_node.proofs.Steps.{pushed}
+use Rattle.typst_node.proofs.PathSteps.{pushed}
 use Rattle.typst_linked.specs.Place.{Place, subtree, child_place, last_step}
 
 -- one node stands at a place

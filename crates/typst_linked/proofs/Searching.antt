@@ -10,17 +10,18 @@ use Rattle.typst_node.specs.Count.{count}
 use Rattle.typst_node.specs.Labels.{number}
 use Rattle.typst_node.specs.Numbered.{IsNumbered}
 use Rattle.typst_linked.specs.Place.{Place, subtree, below, child_place}
-use Rattle.typst_linked.specs.Search.{has_number, has_number_up_to, with_number, found_below, floor_path, weight_along, look_bound, bound_along, prefixes, child_count, each_child, binary_digits}
+use Rattle.typst_node.specs.BinaryDigits.{binary_digits}
+use Rattle.typst_linked.specs.Search.{has_number, has_number_up_to, with_number, found_below, floor_path, weight_along, look_bound, bound_along, prefixes, child_count, each_child}
 use Rattle.typst_linked.specs.Finds.{AreLooksFor, HasNumberBelow}
 use Rattle.typst_linked.proofs.Digits.{digits_most}
 use Rattle.std.proofs.lemmas.List.Sums.{sum_by-cons}
 use Rattle.typst_linked.specs.Floor.{NumbersRise, AreAbove}
-use Rattle.typst_node.proofs.Steps.{at-append, at-push}
+use Rattle.typst_node.proofs.PathSteps.{at-append, at-push}
 use Rattle.typst_linked.proofs.Places.{same_node}
 use Rattle.typst_linked.proofs.Ordered.{IsInOrder, numbered_order, child_in_order, node_in_order, one_before, deeper, narrow, stop, count_child, count_children}
 use Rattle.typst_linked.proofs.Weights.{weight_along-root, weight_along-push, weight_along-append}
 use Rattle.typst_linked.proofs.Found.{first_path_none, first_path_only, floor_largest, no_floor, option_cases}
-use Rattle.typst_node.proofs.FirstMatch.{bool_cases}
+use Rattle.typst_node.proofs.FirstThatPasses.{bool_cases}
 use Rattle.std.proofs.lemmas.Bool.Decides.{nat_tests}
 
 -- Where a search from a tree at a place stands: at a node below it, whose number is at most the wanted one, and under which all wanted nodes stand.

@@ -16,10 +16,10 @@ use Rattle.typst_node.proofs.Trees.{forest-trees}
 use Rattle.typst_linked.specs.Search.{is_there, first_path, found_below}
 use Rattle.typst_linked.specs.Siblings.{is_solid}
 use Rattle.typst_linked.specs.Leaves.{is_good, branch, leads_to_solid, is_stop, stop_behind, is_later, later_from, elsewhere}
-use Rattle.typst_node.proofs.Steps.{if_some_value, at-push}
-use Rattle.typst_node.proofs.FirstMatch.{after-miss, after-append_hit, after-append_miss, after-map, find-map}
-use Rattle.typst_node.proofs.SamePaths.{any_below, none_below, same_below}
-use Rattle.typst_node.proofs.Listed.{listed}
+use Rattle.typst_node.proofs.PathSteps.{if_some_value, at-push}
+use Rattle.typst_node.proofs.FirstThatPasses.{after-miss, after-append_hit, after-append_miss, after-map, find-map}
+use Rattle.typst_node.proofs.EqualPaths.{any_below, none_below, same_below}
+use Rattle.typst_node.proofs.ListedPaths.{listed}
 use Rattle.typst_linked.proofs.Found.{find_none, option_cases}
 
 -- the trees after an index, with the index of the first of them

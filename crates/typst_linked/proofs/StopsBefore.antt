@@ -14,9 +14,9 @@ use Rattle.typst_linked.specs.Place.{Place, subtree, below, child_place}
 use Rattle.typst_linked.specs.Search.{is_there, last_path, found_below}
 use Rattle.typst_linked.specs.Siblings.{is_solid}
 use Rattle.typst_linked.specs.Leaves.{is_good, is_stop, stop_before, is_later, earlier_up, elsewhere}
-use Rattle.typst_node.proofs.Steps.{if_some_value, at-push}
-use Rattle.typst_node.proofs.FirstMatch.{before-miss, find-map}
-use Rattle.typst_node.proofs.Listed.{before_from}
+use Rattle.typst_node.proofs.PathSteps.{if_some_value, at-push}
+use Rattle.typst_node.proofs.FirstThatPasses.{before-miss, find-map}
+use Rattle.typst_node.proofs.ListedPaths.{before_from}
 use Rattle.typst_linked.proofs.Found.{find_none, option_cases}
 use Rattle.typst_linked.proofs.Searching.{found_at}
 use Rattle.typst_linked.proofs.Walks.{map-reverse, paths_from-push, front_length, below_hit, below_miss}

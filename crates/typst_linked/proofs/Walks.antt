@@ -11,9 +11,9 @@ use Rattle.typst_node.specs.Preorder.{paths, paths_from, if_some, at}
 use Rattle.typst_node.proofs.Trees.{forest-trees}
 use Rattle.typst_linked.specs.Place.{Place, subtree, below, child_place}
 use Rattle.typst_linked.specs.Search.{is_there, first_path, last_path, found_below}
-use Rattle.typst_node.proofs.FirstMatch.{find-map}
+use Rattle.typst_node.proofs.FirstThatPasses.{find-map}
 use Rattle.typst_linked.proofs.Found.{option_cases}
-use Rattle.typst_node.proofs.Steps.{at-push}
+use Rattle.typst_node.proofs.PathSteps.{at-push}
 use Rattle.typst_linked.proofs.Searching.{found_at, below-nothing}
 
 -- the test at a path of a tree
@@ -53,6 +53,10 @@ drop_past (u ∷ ts) (suc i) h = drop_past ts i (omega arith)
 -- no child is left
 pub first_from-end : (test : Tree → Bool) (t : Tree) (i : ℕ) → length (trees t.children) ≤ i → first_from test t i ≡ None
 first_from-end test t i h = ap (λ ts. find (test_at test t) (paths_from i (forest ts))) (drop_past (trees t.children) i h)
+
+-- nothing is found in a node without children that doesn't pass
+pub first_none : (test : Tree → Bool) (n : Tree) → test n ≡ false → trees n.children ≡ [] → first_path test n ≡ None
+first_none test n bad bare = first_path-children test n bad ∙ first_from-end test n 0 (omega (arith, ap length bare))
 
 -- the same from the back
 abbrev pub last_up : (Tree → Bool) → Tree → ℕ → Option (List ℕ)
@@ -175,3 +179,13 @@ last_here test p n h good childless = ap Some (below-nothing p) ∙ sym (found_a
 pub not_passed : (r b : Bool) → (b ≡ true → r ≡ true) → r ≡ false → b ≡ false
 not_passed r true h e = absurd (let bad : true ≡ false = sym (h refl) ∙ e in cc)
 not_passed r false h e = refl
+
+-- nothing is found in a node without children that doesn't pass
+pub last_none : (test : Tree → Bool) (n : Tree) → test n ≡ false → trees n.children ≡ [] → last_path test n ≡ None
+last_none test n bad bare = last_path-children test n 0 bad (sym (ap length bare))
+
+-- a node that passes is the first one itself
+pub first_here : (test : Tree → Bool) (p : Place) (n : Tree) → subtree p ≡ Some n → test n ≡ true → Some p ≡ found_below (first_path test) p
+first_here test p n h good =
+    let there : first_path test n ≡ Some [] = ap (λ b. cond b (Some []) (find (test_at test n) (paths_from 0 n.children))) good in
+    ap Some (below-nothing p) ∙ sym (found_at (first_path test) p n (Some []) h there)

@@ -5,7 +5,7 @@ use Rattle.std.proofs.lemmas.List.Sums.{sum_by-cons}
 use Rattle.typst_node.specs.Tree.{Tree, trees}
 use Rattle.typst_node.specs.Preorder.{if_some, at}
 use Rattle.typst_linked.specs.Search.{child_count, prefixes, weight_along}
-use Rattle.typst_node.proofs.Steps.{if_some_value}
+use Rattle.typst_node.proofs.PathSteps.{if_some_value}
 
 sum_by-map : {X Y : Type 0} (f : Y → ℕ) (g : X → Y) (xs : List X) → sum_by f (map g xs) ≡ sum_by (λ x. f (g x)) xs
 sum_by-map f g [] = refl

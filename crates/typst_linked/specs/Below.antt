@@ -1,4 +1,4 @@
--- The children of a place that an iterator has left: those from one index up to another.
+-- The children of a place that an iterator still has to give: those from one index up to another.
 use Rattle.std.specs.Prelude.{ℕ, refl}
 use Rattle.std.specs.Coded.{Coded, code_by, coded×, coded_ℕ}
 use Rattle.typst_linked.specs.Place.{Place, place_code}

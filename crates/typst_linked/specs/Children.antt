@@ -1,4 +1,4 @@
--- What an iterator over children has left, and what it gives.
+-- What an iterator over children still has to give, and what it gives.
 use Rattle.std.specs.Prelude.{◌+◌, ◌-◌, ◌<◌, ◌≤◌, ◌≡◌, length, Option, Result, Some, MatchOption, IfOk}
 use Rattle.std.specs.Option.{ForSome}
 use Rattle.std.specs.declared.alloc.AllocError.{AllocError}
@@ -7,7 +7,7 @@ use Rattle.typst_linked.specs.Place.{Place, subtree, child_place, BeginsAt}
 use Rattle.typst_linked.specs.Below.{Below}
 use Rattle.typst_linked.specs.declared.children.LinkedChildren.TheInside.{Inside}
 
--- the children that are left are children of the parent, and it is known where the text of the first begins
+-- the children that are left are children of the parent, and the text of the first of them begins at this offset
 pub record IsBelow (a : Inside) : Type 0 where
   pub ordered : a.from ≤ a.to
   pub within : ForSome (subtree a.parent.value) (λ t. a.to ≤ length (trees t.children))
@@ -17,13 +17,13 @@ pub record IsBelow (a : Inside) : Type 0 where
 abbrev pub IsAllOf : Place → Below → Type 0
 IsAllOf place all = (t : Tree) → subtree place ≡ Some t → all ≡ record { parent = place; from = 0; to = length (trees t.children) }
 
--- The first of the children that are left comes, or a want of memory in its place. Or none is left, and nothing changes.
+-- The first of the children that are left comes, or an error if memory runs out. If no child is left, nothing changes.
 abbrev pub GivesFirst : Below → Option (Result Place AllocError) → Below → Type 0
 GivesFirst before answer after = MatchOption answer
     ((before.from ≡ before.to) × (after ≡ before))
     (λ child. (before.from < before.to) × (after ≡ record before { from = before.from + 1 }) × IfOk child (λ l. l ≡ child_place before.parent before.from))
 
--- the same with the last of them
+-- the same for the last of the children that are left
 abbrev pub GivesLast : Below → Option (Result Place AllocError) → Below → Type 0
 GivesLast before answer after = MatchOption answer
     ((before.from ≡ before.to) × (after ≡ before))

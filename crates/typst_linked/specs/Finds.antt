@@ -1,4 +1,4 @@
--- What a search by a span answers and reads.
+-- The answer of a search by a span, and what the search reads.
 use Rattle.std.specs.Prelude.{ℕ, ◌+◌, ◌≤◌, ◌≡◌, List, length, Option, None, Some, IfSome}
 use Rattle.std.specs.Option.{ForSome}
 use Rattle.typst_base.specs.declared.span.SpanKind.{SpanKind}
@@ -7,14 +7,15 @@ use Rattle.typst_node.specs.Tree.{Tree}
 use Rattle.typst_node.specs.Labels.{number}
 use Rattle.typst_node.specs.Numbered.{IsNumbered}
 use Rattle.typst_linked.specs.Place.{Place, subtree, below}
-use Rattle.typst_linked.specs.Search.{with_number, found_below, look_bound, each_child, binary_digits}
+use Rattle.typst_node.specs.BinaryDigits.{binary_digits}
+use Rattle.typst_linked.specs.Search.{with_number, found_below, look_bound, each_child}
 use Rattle.typst_linked.specs.Ranges.{FindsRange}
 
--- in a numbered tree the plain search's answer
+-- in a numbered tree, the answer of the plain search
 abbrev pub FindsNumber : ℕ → Place → Option Place → Type 0
 FindsNumber wanted place answer = ForSome (subtree place) (λ s. IsNumbered s → answer ≡ found_below (with_number wanted) place)
 
--- in any tree: a node below the place that has the number
+-- in any tree, a node at or below the place that has the number
 pub record HasNumberBelow (wanted : ℕ) (place found : Place) : Type 0 where
   pub path : List ℕ
   pub node : Tree
@@ -22,18 +23,18 @@ pub record HasNumberBelow (wanted : ℕ) (place found : Place) : Type 0 where
   pub node_is : subtree found ≡ Some node
   pub number_is : number node.label ≡ wanted
 
--- In a numbered tree so many looks are within both look bounds of the number: by the numbers of children, and by their
--- binary digits. In any tree there is at least one.
+-- In a numbered tree the number of looks is within both look bounds of the number: by the numbers of children, and by
+-- their binary digits. In any tree there is at least one look.
 pub record AreLooksFor (wanted : ℕ) (place : Place) (looks : ℕ) : Type 0 where
   pub least : 1 ≤ looks
   pub most : ForSome (subtree place) (λ s. IsNumbered s → looks ≤ look_bound each_child wanted s)
   pub halving : ForSome (subtree place) (λ s. IsNumbered s → looks ≤ look_bound binary_digits wanted s)
 
--- for an answer at least one look a step and one more
+-- for an answer, at least one look for each step and one more
 abbrev pub HasLookEachStep : Place → ℕ → Option Place → Type 0
 HasLookEachStep place looks answer = IfSome answer (λ found. 1 + length found.path ≤ looks + length place.path)
 
--- by what a span points to: nothing, the node with a number, whatever the file, or the node with a range
+-- the answer for each target of a span: nothing, the node with a number in any file, or the node with a range
 abbrev pub FindsSpan : SpanKind → Place → Option Place → Type 0
 FindsSpan Detached place answer = answer ≡ None
 FindsSpan (Number id num) place answer = FindsNumber num.0 place answer × IfSome answer (HasNumberBelow num.0 place)

@@ -1,4 +1,4 @@
--- Children whose numbers rise, and the place after a floor among them.
+-- Children whose numbers rise, and the index after a floor among them.
 use Rattle.std.specs.Prelude.{ℕ, ◌+◌, ◌<◌, ◌≤◌, ◌≡◌, List, Option, None, Some, slice_get}
 use Rattle.typst_node.specs.Tree.{Tree}
 use Rattle.typst_node.specs.Labels.{number}
@@ -8,7 +8,7 @@ abbrev pub index_behind : Option Floor → ℕ
 index_behind None = 0
 index_behind (Some floor) = floor.index + 1
 
--- the floor is one of the trees, and its number is at most the wanted one
+-- the floor is one of the trees, and its number is at most the wanted number
 abbrev pub IsFloorOf : List Tree → ℕ → Floor → Type 0
 IsFloorOf ts wanted floor = (floor.number ≤ wanted) × ((t : Tree) × (slice_get ts floor.index ≡ Some t) × (number t.label ≡ floor.number))
 
@@ -16,6 +16,6 @@ IsFloorOf ts wanted floor = (floor.number ≤ wanted) × ((t : Tree) × (slice_g
 abbrev pub NumbersRise : List Tree → Type 0
 NumbersRise ts = (i j : ℕ) (a b : Tree) → slice_get ts i ≡ Some a → slice_get ts j ≡ Some b → i < j → number a.label < number b.label
 
--- from an index on all numbers are above the wanted one
+-- all numbers from an index on are above the wanted number
 abbrev pub AreAbove : List Tree → ℕ → ℕ → Type 0
 AreAbove ts wanted from = (k : ℕ) (t : Tree) → from ≤ k → slice_get ts k ≡ Some t → wanted < number t.label

@@ -11,12 +11,14 @@ use Rattle.typst_linked.specs.Ranges.{begin_of}
 use Rattle.typst_linked.specs.declared.cursor.Side.{Side}
 use Rattle.typst_linked.specs.declared.cursor.Side.TheVariants.{Before, After}
 
--- whether a text with this end reaches the cursor: up to it, or after it
+-- whether a text with this end reaches the cursor: it ends at the cursor or after it for `Before`, and after it for
+-- `After`
 abbrev pub reaches_cursor : Side → ℕ → ℕ → Bool
 reaches_cursor Before cursor end = nat_le cursor end
 reaches_cursor After cursor end = nat_lt cursor end
 
--- whether a text that begins and ends here covers the cursor: it has the byte before it, or the byte after it
+-- whether a text with this begin and this end covers the cursor: it has the byte before the cursor, or the byte after
+-- it
 abbrev pub covers_cursor : Side → ℕ → ℕ → ℕ → Bool
 covers_cursor Before cursor begin end = nat_lt begin cursor && nat_le cursor end
 covers_cursor After cursor begin end = nat_le begin cursor && nat_lt cursor end
@@ -25,25 +27,25 @@ covers_cursor After cursor begin end = nat_le begin cursor && nat_lt cursor end
 abbrev pub is_childless : Tree → Bool
 is_childless t = length (trees t.children) == 0
 
--- in a tree whose text begins here, a path to a node without children that covers the cursor
+-- whether a path, in a tree whose text begins at this offset, leads to a node without children that covers the cursor
 abbrev pub is_covering_leaf : Side → ℕ → ℕ → Tree → List ℕ → Bool
 is_covering_leaf side cursor begin t path = is_there (λ leaf. is_childless leaf && covers_cursor side cursor (begin + offset path t) (begin + offset path t + length (text leaf))) (at path t)
 
--- the first such path in preorder; there is one at most
+-- the first such path in preorder; there is at most one
 abbrev pub covering_leaf : Side → ℕ → ℕ → Tree → Option (List ℕ)
 covering_leaf side cursor begin t = find (is_covering_leaf side cursor begin t) (paths t)
 
--- whether a text that begins here may stand at the cursor without covering it
+-- whether a text that begins here may be the answer at the cursor without covering it
 abbrev pub begins_at_cursor : Side → ℕ → ℕ → Bool
 begins_at_cursor Before cursor begin = begin == cursor
 begins_at_cursor After cursor begin = false
 
--- the last path to a node without children, if that may stand at the cursor by its begin
+-- the last path to a node without children, if that node may be the answer by where it begins
 abbrev pub last_leaf : Side → ℕ → ℕ → Tree → Option (List ℕ)
 last_leaf side cursor begin t = option_and_then (λ path. if begins_at_cursor side cursor (begin + offset path t) then Some path else None) (last_path is_childless t)
 
--- The leaf at the cursor: the one that covers it, else for `Before` the last one if it begins there. A node without
--- children need only reach the cursor.
+-- The leaf at the cursor: the leaf that covers it, or else, for `Before`, the last leaf if it begins there. If the tree
+-- has no children, it only needs to reach the cursor.
 abbrev pub leaf_path : Side → ℕ → ℕ → Tree → Option (List ℕ)
 leaf_path side cursor begin t = if is_childless t
     then (if reaches_cursor side cursor (begin + length (text t)) then Some [] else None)
@@ -57,14 +59,14 @@ leaf_place side cursor place = found_below (leaf_path side cursor (begin_of plac
 abbrev pub CoversCursor : Side → ℕ → Place → Type 0
 CoversCursor side cursor place = IsSomeAnd (subtree place) (λ t. IsTrue (covers_cursor side cursor (begin_of place) (begin_of place + length (text t))))
 
--- a node without children below a place that covers the cursor
+-- a node at or below a place, without children, that covers the cursor
 pub record IsCoveringBelow (side : Side) (cursor : ℕ) (place found : Place) : Type 0 where
   pub path : List ℕ
   pub place_is : found ≡ below place path
   pub covers : CoversCursor side cursor found
   pub childless : IsSomeAnd (subtree found) (λ t. trees t.children ≡ [])
 
--- where a text that covers the cursor ends at the least
+-- the least end of a text that covers the cursor
 abbrev pub least_end : Side → ℕ → ℕ
 least_end Before cursor = cursor
 least_end After cursor = cursor + 1

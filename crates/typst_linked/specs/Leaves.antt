@@ -1,4 +1,4 @@
--- Good leaves, and where walks from leaf to leaf stop.
+-- Good leaves, and the stops of walks from leaf to leaf.
 use Rattle.std.specs.Prelude.{ℕ, ◌==◌, ◌&&◌, List, [], ◌∷◌, reverse, take, drop, Option, None, Some, Bool, true, false, not, if◌then◌else◌}
 use Rattle.std.specs.List.{find, before_first, after_first}
 use Rattle.std.specs.Option.{option_map}
@@ -23,8 +23,9 @@ is_good_content (AsInner kind bound) = false
 abbrev pub is_good : Tree → Bool
 is_good t = is_good_content t.label.content
 
--- The branch of another path, seen from a path: the first of its steps that the path doesn't share, with all before. It
--- leads to a sibling of the path's node or of an ancestor. Ancestors and what stands below the path have none.
+-- The branch of another path, seen from a path: the beginning of the other path up to the first step that the path
+-- doesn't share. It leads to a sibling of the path's node or of an ancestor. Ancestors and the nodes below the path
+-- have no branch.
 abbrev pub branch : List ℕ → List ℕ → Option (List ℕ)
 branch [] other = None
 branch (i ∷ path) [] = None
@@ -38,7 +39,7 @@ leads_to_solid t (Some b) = is_there is_solid (at b t)
 abbrev pub is_stop : Tree → List ℕ → List ℕ → Bool
 is_stop t path other = leads_to_solid t (branch path other) && is_there is_good (at other t)
 
--- the first stop after a path in preorder, and the last one before it
+-- the first stop after a path in preorder, and the last stop before it
 abbrev pub stop_behind : Tree → List ℕ → Option (List ℕ)
 stop_behind t path = find (is_stop t path) (after_first (is_same_path path) (paths t))
 
@@ -49,15 +50,15 @@ stop_before t path = find (is_stop t path) (reverse (before_first (is_same_path 
 abbrev pub elsewhere : (Tree → List ℕ → Option (List ℕ)) → Place → Option Place
 elsewhere walk place = option_map (λ path. record { root = place.root; path = path }) (walk place.root place.path)
 
--- a good leaf of a child that isn't trivia
+-- a good leaf at or below a child that isn't trivia
 abbrev pub is_later : Tree → List ℕ → Bool
 is_later t [] = false
 is_later t (j ∷ path) = is_there is_solid (at (j ∷ []) t) && is_there is_good (at (j ∷ path) t)
 
--- the first of them among the children from an index on
+-- the first such leaf in the children from an index on
 abbrev pub later_from : Tree → ℕ → Option (List ℕ)
 later_from t k = find (is_later t) (paths_from k (forest (drop k (trees t.children))))
 
--- the last of them among the children before an index
+-- the last such leaf in the children before an index
 abbrev pub earlier_up : Tree → ℕ → Option (List ℕ)
 earlier_up t k = find (is_later t) (reverse (paths_from 0 (forest (take k (trees t.children)))))

@@ -17,3 +17,4 @@ pub mod Leaves
 pub mod LeafAt
 pub mod LeafLooks
 pub mod Modes
+pub mod DiagPlaces

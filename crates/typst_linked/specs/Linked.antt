@@ -1,4 +1,4 @@
--- What the fields of a linked node mean.
+-- The meaning of the fields of a linked node.
 use Rattle.std.specs.Prelude.{ℕ, ◌+◌, ◌<◌, ◌≤◌, ◌≡◌, ◌^◌, [], length, Option, None, Some}
 use Rattle.std.specs.declared.rc.Rc.{Rc}
 use Rattle.std.specs.declared.alloc.Global.{Global}
@@ -8,7 +8,7 @@ use Rattle.typst_node.specs.Count.{count}
 use Rattle.typst_linked.specs.Place.{Place, subtree, child_place, last_step}
 use Rattle.typst_linked.specs.declared.node.LinkedNode.TheInside.{Inside}
 
--- a root stands alone, and a child one step below its parent
+-- a root has the empty path, and a child is one step below its parent
 abbrev pub place_below : Tree → ℕ → Option (Rc Place Global) → Place
 place_below node index None = record { root = node; path = [] }
 place_below node index (Some parent) = child_place parent.value index
@@ -16,7 +16,7 @@ place_below node index (Some parent) = child_place parent.value index
 abbrev pub place_of : Inside → Place
 place_of a = place_below a.node.now a.index a.parent
 
--- a node with an offset, at its place
+-- a node and its offset belong to this place
 pub record IsAt (place : Place) (node : Tree) (at : ℕ) : Type 0 where
   pub node_is : subtree place ≡ Some node
   pub offset_is : at ≡ offset place.path place.root

@@ -14,12 +14,12 @@ use Rattle.typst_linked.specs.Place.{Place, subtree, last_step}
 use Rattle.typst_linked.specs.Siblings.{kind_at, before_it, sibling_kind, parent_kind_of}
 use denote.Enum.Bare.{sameb}
 
--- whether there is a kind, and it is this one
+-- whether there is a kind, and it is this kind
 abbrev pub has_kind : SyntaxKind → Option SyntaxKind → Bool
 has_kind kind None = false
 has_kind kind (Some other) = sameb the_type other kind
 
--- the mode after the node at a place by the rule of its kind, where the mode after its parent is `outer`
+-- the mode after the node at a place by the rule of its kind, if `outer` is the mode after its parent
 abbrev pub mode_by : ModeAfter → Option SyntaxMode → Place → Option SyntaxMode
 mode_by (rules.Known mode) outer place = Some mode
 mode_by rules.Parent outer place = outer
@@ -33,7 +33,7 @@ mode_by rules.Embeddable outer place = if has_kind kinds.Hash (sibling_kind befo
 abbrev pub mode_from : Option SyntaxMode → Place → Option SyntaxMode
 mode_from outer place = option_and_then (λ t. mode_by (mode_after_of (kind_at t)) outer place) (subtree place)
 
--- the same from the root on, where the path is given from its last step to its first
+-- the same along a path from the root; the path is given from its last step to its first
 abbrev pub mode_outwards : Tree → List ℕ → Option SyntaxMode
 mode_outwards root [] = mode_from None (record { root = root; path = [] })
 mode_outwards root (i ∷ path) = mode_from (mode_outwards root path) (record { root = root; path = reverse (i ∷ path) })

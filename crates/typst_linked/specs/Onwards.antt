@@ -1,4 +1,4 @@
--- The places from one on, to the end of the root's preorder.
+-- The places from a place on, to the end of the root's preorder.
 use Rattle.std.specs.Prelude.{ℕ, ◌+◌, List, [], ◌∷◌, ◌++◌, map, drop, slice_get}
 use Rattle.typst_node.specs.Tree.{Tree, trees, forest}
 use Rattle.typst_node.specs.Preorder.{paths_from}
@@ -16,6 +16,6 @@ paths_behind (i ∷ path) t =
 abbrev pub places_behind : Place → List Place
 places_behind place = map (λ path. record { root = place.root; path = path }) (paths_behind place.path place.root)
 
--- the places from this one on: those of its subtree, and those after it
+-- the places from this place on: the places of its subtree, and the places after it
 abbrev pub places_from : Place → List Place
 places_from place = places_below place ++ places_behind place

@@ -6,7 +6,7 @@ use Rattle.typst_node.specs.Tree.{Tree}
 use Rattle.typst_node.specs.Numbered.{IsNumbered}
 use Rattle.typst_linked.specs.Place.{Place, subtree, below}
 
--- where the subtree at a place is numbered, and a node with this span stands there or below, the answer is that node's place
+-- if the subtree at a place is numbered, and a node with this span is in it, the answer is the place of that node
 abbrev pub FindsOwn : SpanParts → Place → Option Place → Type 0
 FindsOwn span place answer = ForSome (subtree place) (λ t. IsNumbered t → (path : List ℕ) (node : Tree)
     → subtree (below place path) ≡ Some node → node.label.span ≡ span → answer ≡ Some (below place path))

@@ -1,4 +1,4 @@
--- Where a linked node stands.
+-- The place of a linked node.
 use Rattle.std.specs.Prelude.{ℕ, ◌<◌, ◌≡◌, take, List, [], ◌∷◌, ◌++◌, length, Option, refl}
 use Rattle.std.specs.Coded.{Coded, code_by, coded×, coded_ℕ, coded_list}
 use Rattle.std.specs.Option.{ForSome}
@@ -12,7 +12,7 @@ pub record Place : Type 0 where
   pub root : Tree
   pub path : List ℕ
 
--- a code, by which a proof tells places apart
+-- a code that tells places apart in proofs
 abbrev pub place_code : Coded Place
 place_code = code_by (Tree × List ℕ) (coded× tree_code (coded_list coded_ℕ)) (λ p. (p.root, p.path)) (λ p. record { root = p.0; path = p.1 }) (λ _. refl)
 
@@ -24,15 +24,15 @@ subtree place = at place.path place.root
 abbrev pub below : Place → List ℕ → Place
 below place path = record { root = place.root; path = place.path ++ path }
 
--- the place of the child with an index
+-- the place of the child at an index
 abbrev pub child_place : Place → ℕ → Place
 child_place place index = below place (index ∷ [])
 
--- there is a child with this index
+-- there is a child at this index
 abbrev pub HasChild : Place → ℕ → Type 0
 HasChild place index = ForSome (subtree place) (λ t. index < length (trees t.children))
 
--- so many bytes of the texts of the children stand before the child with this index
+-- how many bytes of the children's text come before the child at this index
 abbrev pub BeginsAt : Place → ℕ → ℕ → Type 0
 BeginsAt place index begin = ForSome (subtree place) (λ t. begin ≡ length (text_of_all (take index (trees t.children))))
 

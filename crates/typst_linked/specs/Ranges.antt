@@ -3,29 +3,29 @@ use Rattle.std.specs.Prelude.{ℕ, ◌+◌, ◌<◌, ◌≤◌, ◌≡◌, List,
 use Rattle.typst_node.specs.Text.{text, offset}
 use Rattle.typst_linked.specs.Place.{Place, subtree, below, child_place}
 
--- where the text of a place's node begins
+-- where the text of the node at a place begins
 abbrev pub begin_of : Place → ℕ
 begin_of place = offset place.path place.root
 
--- the node's range of bytes is exactly this one
+-- the node's range of bytes is exactly this range
 abbrev pub HasRange : ℕ → ℕ → Place → Type 0
 HasRange start end place = IsSomeAnd (subtree place) (λ t. (begin_of place ≡ start) × (begin_of place + length (text t) ≡ end))
 
--- the node's range covers this one
+-- the node's range covers this range
 abbrev pub Covers : ℕ → ℕ → Place → Type 0
 Covers start end place = IsSomeAnd (subtree place) (λ t. (begin_of place ≤ start) × (end ≤ begin_of place + length (text t)))
 
--- the child with this index is the first one whose range covers the wanted one
+-- the child at this index is the first child whose range covers the wanted range
 abbrev pub IsFirstCover : ℕ → ℕ → Place → ℕ → Type 0
 IsFirstCover start end place i = Covers start end (child_place place i) × ((j : ℕ) → j < i → ¬ (Covers start end (child_place place j)))
 
--- On this path from a place each step goes to the first child whose range covers the wanted one, its end has exactly
--- the wanted range, and no earlier node has.
+-- On this path from a place, each step goes to the first child whose range covers the wanted range. The node at its end
+-- has exactly the wanted range, and no node before it on the path has.
 abbrev pub IsRangePath : ℕ → ℕ → Place → List ℕ → Type 0
 IsRangePath start end place [] = HasRange start end place
 IsRangePath start end place (i ∷ path) = ¬ (HasRange start end place) × IsFirstCover start end place i × IsRangePath start end (child_place place i) path
 
--- the answer to a search by a range: the place that such a path leads to, or there is no such path
+-- the answer to a search by a range: the place that such a path leads to, or none if there is no such path
 abbrev pub FindsRange : ℕ → ℕ → Place → Option Place → Type 0
 FindsRange start end place answer = MatchOption answer
     ((path : List ℕ) → ¬ (IsRangePath start end place path))

@@ -28,7 +28,7 @@ abbrev pub children_of : Option Tree → List Tree
 children_of None = []
 children_of (Some t) = trees t.children
 
--- the subtree at a path's parent; a root has none
+-- the subtree at the parent of a path; a root has no parent
 abbrev pub parent_at : Tree → List ℕ → Option Tree
 parent_at root [] = None
 parent_at root (i ∷ path) = at (front (i ∷ path)) root
@@ -36,12 +36,12 @@ parent_at root (i ∷ path) = at (front (i ∷ path)) root
 abbrev pub parent_tree : Place → Option Tree
 parent_tree place = parent_at place.root place.path
 
--- the children of a place's parent; a root has no siblings
+-- the children of the parent of a place; a root has no siblings
 abbrev pub siblings : Place → List Tree
 siblings place = children_of (parent_tree place)
 
--- The index of another tree of a list, seen from an index: of the tree directly before, of the one directly after,
--- of the nearest before whose kind isn't trivia, and of the nearest after.
+-- The index of another tree of a list, seen from an index: the tree directly before, the tree directly after, the
+-- nearest tree before whose kind isn't trivia, and the nearest tree after whose kind isn't trivia.
 abbrev pub before_it : ℕ → List Tree → Option ℕ
 before_it zero ts = None
 before_it (suc i) ts = Some i
@@ -55,13 +55,13 @@ solid_before i ts = option_map (λ k. i - 1 - k) (position_from is_solid 0 (reve
 abbrev pub solid_behind : ℕ → List Tree → Option ℕ
 solid_behind i ts = position_from is_solid (i + 1) (drop (i + 1) ts)
 
--- the sibling that is picked, and its kind
+-- the chosen sibling, and its kind
 abbrev pub sibling : (ℕ → List Tree → Option ℕ) → Place → Option Place
 sibling pick place = option_map (child_place (parent_place place)) (pick (last_step place.path) (siblings place))
 
 abbrev pub sibling_kind : (ℕ → List Tree → Option ℕ) → Place → Option SyntaxKind
 sibling_kind pick place = option_and_then (λ i. option_map kind_at (slice_get (siblings place) i)) (pick (last_step place.path) (siblings place))
 
--- the parent's kind
+-- the kind of the parent
 abbrev pub parent_kind_of : Place → Option SyntaxKind
 parent_kind_of place = option_map kind_at (parent_tree place)

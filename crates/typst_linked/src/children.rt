@@ -1,4 +1,4 @@
-// The children of a linked node, from both ends.
+//! The children of a linked node. They can be read from both ends.
 ghost use Rattle.std.specs.Prelude.{◌≡◌, ◌+◌, ◌-◌, ◌^◌, ◌<◌, length, take, Some, IfSome};
 ghost use Rattle.typst_node.specs.Tree.{trees};
 ghost use Rattle.typst_node.specs.Text.{text_of_all};
@@ -13,17 +13,17 @@ use std::marker::Model;
 use std::rc::Rc;
 use typst_node::SyntaxNode;
 
-/// The children of a linked node, in order and from both ends.
+/// The children of a linked node, in order. They can be read from both ends.
 ///
-/// Where memory is refused for a child, the item in that child's place is an error, and the child is passed.
-/// A clone takes no memory: its only error is that the parent is shared too often.
+/// If memory for a child is refused, the item for that child is an error, and the next step goes on after it. A clone
+/// takes no memory. It fails only if the parent is shared too often.
 #[derive(Debug, Drop)]
 pub struct LinkedChildren<'a> {
     parent: Rc<LinkedNode<'a>>,
-    // The children from the first index up to the second are left.
+    /// The children from the first index up to the second are left.
     from: usize,
     to: usize,
-    // Where the text of the first of them begins, in bytes from the beginning of the parent's.
+    /// Where the text of the first of them begins, in bytes from the beginning of the parent's text.
     begin: usize,
 }
 
@@ -42,6 +42,7 @@ impl<'a> Model for LinkedChildren<'a> {
 }
 
 impl<'a> LinkedChildren<'a> {
+    /// All children of a node that others share.
     pub(crate) fn new(parent: Rc<LinkedNode<'a>>) -> Self
         ensures { IsAllOf parent.entry.value result }
     {
@@ -68,7 +69,7 @@ impl<'a> Clone for LinkedChildren<'a> {
     }
 }
 
-// The length of a child's text. It ends where the next one begins.
+/// The length of a child's text. The text ends where the next one begins.
 pub(crate) fn len_of_child(node: &SyntaxNode, index: usize) -> usize
     requires { index < length (trees node.now.children) }
     ensures more { length (text_of_all (take (index + 1) (trees node.now.children)))

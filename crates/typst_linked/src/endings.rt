@@ -1,4 +1,4 @@
-// The child at a place in the text.
+//! The child at a place in the text, for nodes with few or many children.
 ghost use Rattle.std.specs.Prelude.{MatchOption};
 ghost use Rattle.typst_node.specs.Tree.{trees};
 ghost use Rattle.typst_linked.specs.Part.{EndsBefore, IsFirstEnding, HasNoOwnText};
@@ -9,13 +9,15 @@ use crate::halving::first_ending;
 use crate::looks::Looks;
 use typst_node::SyntaxNode;
 
-// Of how many children at the most a node doesn't keep where they end.
+/// A node with at most this many children doesn't keep their ends.
 const FEW: usize = 10;
 
-// The first child whose text ends at or after a goal, in bytes from the beginning of the children's text, and where it
-// begins. Few children are gone through, since halving would add up their lengths again and again.
+/// The first child whose text ends at or after a goal, and where that text begins. The goal is in bytes from the
+/// beginning of the children's text. Few children are read one after the other, because binary search would add up
+/// their lengths again and again.
 pub(crate) fn child_ending(node: &SyntaxNode, goal: usize) -> Option<Part>
-    ensures found { MatchOption result (EndsBefore goal (trees node.now.children)) (IsFirstEnding goal (trees node.now.children)) }
+    ensures found { MatchOption result (EndsBefore goal (trees node.now.children))
+        (IsFirstEnding goal (trees node.now.children)) }
     ensures no_text { HasNoOwnText node.now }
 {
     let count = node.child_slice().len();

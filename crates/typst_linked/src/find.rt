@@ -1,4 +1,4 @@
-// Searches by spans.
+//! Searches by spans.
 ghost use Rattle.std.specs.Prelude.{ℕ, ◌≡◌, ◌+◌, ◌↔◌, length, Some, IfOk, IfSome, IsTrue};
 ghost use Rattle.typst_base.specs.SpanKind.{span_kind_of};
 ghost use Rattle.typst_node.specs.Tree.{Tree, trees};
@@ -21,11 +21,11 @@ use typst_node::SyntaxNode;
 
 /// # Searches
 impl<'a> LinkedNode<'a> {
-    /// The node that a span points to, in this node's subtree.
+    /// The node in this node's subtree that a span points to.
     ///
-    /// A detached span points to none. A node number is looked for in numbered trees, whatever the span's file; in a
-    /// tree that isn't numbered an answer has the number, but a node that has it may be missed. A range is looked for as
-    /// by [`LinkedNode::find_range`]. It fails only where memory runs out.
+    /// A detached span points to none. A node number is searched in numbered trees, whatever the span's file. In a tree
+    /// that isn't numbered, an answer has the number, but the search may miss a node that has it. A range is searched
+    /// as [`LinkedNode::find_range`] does. It fails only if memory runs out.
     pub fn find(&self, alloc: Global, span: Span) -> Result<Option<Self>, AllocError>
         ensures found { IfOk result (FindsSpan (span_kind_of span) self.now) }
         ensures own { IfOk result (FindsOwn span self.now) }
@@ -33,8 +33,9 @@ impl<'a> LinkedNode<'a> {
         self.find_counted(alloc, span, &mut Looks::new())
     }
 
-    /// The same, and `looks` then holds how many nodes' numbers this call read, also where memory was refused: in a
-    /// numbered tree at most one and the binary digits of the numbers of children along one path downwards.
+    /// The same as [`LinkedNode::find`]. Afterwards `looks` holds the number of node numbers that this call read, even
+    /// if memory was refused. In a numbered tree this is at most 1 plus the binary digits of the numbers of children
+    /// along one path downwards.
     pub fn find_counted(
         &self,
         alloc: Global,
@@ -59,7 +60,7 @@ impl<'a> LinkedNode<'a> {
         }
     }
 
-    // The node with a number in this subtree. Each child is chosen by halving, and no number is read twice.
+    /// The node in this subtree with a number. Binary search chooses each child, and no number is read twice.
     fn find_number(
         &self,
         alloc: Global,
@@ -91,9 +92,9 @@ impl<'a> LinkedNode<'a> {
         Ok(None)
     }
 
-    /// The node with this range, in bytes from the beginning of the root's text: this node if its range is exactly that,
-    /// else what is found below the first child whose range covers it, else `None`. An empty node after a nonempty
-    /// sibling is missed.
+    /// The node with this range, in bytes from the beginning of the root's text. It is this node if its range is
+    /// exactly that. Otherwise the search goes on with the first child whose range covers the wanted range. If there is
+    /// none, the answer is `None`. The search misses an empty node after a nonempty sibling.
     pub fn find_range(
         &self,
         alloc: Global,
@@ -105,16 +106,18 @@ impl<'a> LinkedNode<'a> {
         self.clone()?.into_range(alloc, start, end)
     }
 
-    // Whether the node's range of bytes is exactly this one.
+    /// Whether the node's range of bytes is exactly this range.
     fn has_range(&self, start: usize, end: usize) -> bool
-        ensures { (t : Tree) → subtree self.now ≡ Some t → (IsTrue result ↔ ((begin_of self.now ≡ start) × (begin_of self.now + length (text t) ≡ end))) }
+        ensures { (t : Tree) → subtree self.now ≡ Some t → (IsTrue result
+            ↔ ((begin_of self.now ≡ start) × (begin_of self.now + length (text t) ≡ end))) }
     {
         let range = self.range();
-        // Read for the proof: a node stands at this place, whose length gives the range's end.
+        // Read for the proof: there is a node at this place, and its length gives the end of the range.
         let _node = self.get();
         range.start == start && range.end == end
     }
 
+    /// The same as `find_range`, for an owned node.
     fn into_range(self, alloc: Global, start: usize, end: usize) -> Result<Option<Self>, AllocError>
         ensures { IfOk result (FindsRange start end self.entry) }
     {
@@ -129,7 +132,7 @@ impl<'a> LinkedNode<'a> {
     }
 }
 
-// The first child of a node with this range whose range covers the wanted one.
+/// The first child, of a node with this range, whose range covers the wanted range.
 fn first_cover(node: &SyntaxNode, range: Range<usize>, start: usize, end: usize) -> Option<Part>
     requires { range.end ≡ range.start + length (text node.now) }
     ensures { (place : Place) → subtree place ≡ Some node.now → begin_of place ≡ range.start

@@ -1,11 +1,12 @@
-// Walks from leaf to leaf.
-ghost use Rattle.std.specs.Prelude.{◌≡◌, ◌≤◌, ◌↔◌, true, false, [], length, IfOk, IsTrue};
+//! Walks from leaf to leaf.
+ghost use Rattle.std.specs.Prelude.{◌≡◌, ◌+◌, ◌≤◌, ◌↔◌, true, false, [], length, IfOk, IsTrue};
 ghost use Rattle.std.specs.Option.{ForSome};
-ghost use Rattle.typst_linked.specs.Place.{subtree};
+ghost use Rattle.typst_linked.specs.Place.{subtree, child_place, last_step, BeginsAt};
 ghost use Rattle.typst_node.specs.Tree.{trees};
 ghost use Rattle.typst_linked.specs.Search.{found_below, first_path, last_path};
 ghost use Rattle.typst_linked.specs.Leaves.{is_good, stop_behind, stop_before, elsewhere, later_from, earlier_up};
 
+use crate::children::len_of_child;
 use crate::node::LinkedNode;
 use std::alloc::{AllocError, Global};
 use std::rc::Rc;
@@ -22,8 +23,7 @@ impl<'a> LinkedNode<'a> {
         self.clone()?.into_leftmost(alloc)
     }
 
-    // The same of a node that is handed on. Small, so that callers answer a good leaf without a call.
-    #[cycle(into_leftmost)]
+    /// The same as `leftmost_leaf`, for an owned node.
     fn into_leftmost(self, alloc: Global) -> Result<Option<Self>, AllocError>
         ensures { IfOk result (λ r. r ≡ found_below (first_path is_good) self.entry) }
     {
@@ -34,8 +34,7 @@ impl<'a> LinkedNode<'a> {
         }
     }
 
-    // The first good leaf below this node, which is none itself.
-    #[cycle(into_leftmost)]
+    /// The first good leaf below this node, which is no good leaf itself.
     #[inline(never)]
     fn leftmost_below(self, alloc: Global) -> Result<Option<Self>, AllocError>
         requires { ForSome (subtree self) (λ t. is_good t ≡ false) }
@@ -45,12 +44,21 @@ impl<'a> LinkedNode<'a> {
         if count == 0 {
             return Ok(None);
         }
+        let node = self.get();
         let parent = Rc::new(alloc, self)?;
+        let mut begin = 0;
         for index in 0..count {
-            let child = LinkedNode::nth_child(&parent, index)?;
-            if let Some(leaf) = child.into_leftmost(alloc)? {
-                return Ok(Some(leaf));
+            let next = &node.child_slice()[index];
+            if is_good_leaf(next) {
+                return Ok(Some(LinkedNode::child_at(parent, index, begin)));
             }
+            if !is_childless(next) {
+                let child = LinkedNode::shared_child(&parent, index, begin)?;
+                if let Some(leaf) = child.leftmost_below(alloc)? {
+                    return Ok(Some(leaf));
+                }
+            }
+            begin += len_of_child(node, index);
         }
         Ok(None)
     }
@@ -62,8 +70,7 @@ impl<'a> LinkedNode<'a> {
         self.clone()?.into_rightmost(alloc)
     }
 
-    // The same of a node that is handed on. Small, so that callers answer a good leaf without a call.
-    #[cycle(into_rightmost)]
+    /// The same as `rightmost_leaf`, for an owned node.
     fn into_rightmost(self, alloc: Global) -> Result<Option<Self>, AllocError>
         ensures { IfOk result (λ r. r ≡ found_below (last_path is_good) self.entry) }
     {
@@ -74,8 +81,7 @@ impl<'a> LinkedNode<'a> {
         }
     }
 
-    // The last good leaf below this node, which is none itself.
-    #[cycle(into_rightmost)]
+    /// The last good leaf below this node, which is no good leaf itself.
     #[inline(never)]
     fn rightmost_below(self, alloc: Global) -> Result<Option<Self>, AllocError>
         requires { ForSome (subtree self) (λ t. is_good t ≡ false) }
@@ -85,66 +91,86 @@ impl<'a> LinkedNode<'a> {
         if count == 0 {
             return Ok(None);
         }
+        let node = self.get();
+        let mut begin = node.child_end(count - 1);
         let parent = Rc::new(alloc, self)?;
         for index in (0..count).rev() {
-            let child = LinkedNode::nth_child(&parent, index)?;
-            if let Some(leaf) = child.into_rightmost(alloc)? {
-                return Ok(Some(leaf));
+            begin -= len_of_child(node, index);
+            let previous = &node.child_slice()[index];
+            if is_good_leaf(previous) {
+                return Ok(Some(LinkedNode::child_at(parent, index, begin)));
+            }
+            if !is_childless(previous) {
+                let child = LinkedNode::shared_child(&parent, index, begin)?;
+                if let Some(leaf) = child.rightmost_below(alloc)? {
+                    return Ok(Some(leaf));
+                }
             }
         }
         Ok(None)
     }
 
-    /// The first good leaf after this node's subtree, among the later siblings, then among those of the parent, and so
-    /// on outwards. A sibling whose kind is trivia is passed over whole.
+    /// The first good leaf after this node's subtree. The search goes through the later siblings, then through those of
+    /// the parent, and so on outwards. It skips a sibling whose kind is trivia with everything below it.
     pub fn next_leaf(&self, alloc: Global) -> Result<Option<Self>, AllocError>
         ensures { IfOk result (λ r. r ≡ elsewhere stop_behind self.now) }
     {
-        // Read for the proof: a node stands at this place, and its index is at most the number of its siblings.
+        // Read for the proof: there is a node at this place, and its index is at most the number of its siblings.
         let _node = self.get();
         let _siblings = self.siblings();
         let Some(parent) = self.shared_parent() else {
             return Ok(None);
         };
         let start = self.index() + 1;
-        if let Some(leaf) = LinkedNode::leaf_from(parent, alloc, start)? {
+        let begin = self.end_below(parent);
+        if let Some(leaf) = LinkedNode::leaf_from(parent, alloc, start, begin)? {
             return Ok(Some(leaf));
         }
         parent.next_leaf(alloc)
     }
 
-    /// The last good leaf before this node, among the earlier siblings, then among those of the parent, and so on
-    /// outwards. A sibling whose kind is trivia is passed over whole.
+    /// The last good leaf before this node. The search goes through the earlier siblings, then through those of the
+    /// parent, and so on outwards. It skips a sibling whose kind is trivia with everything below it.
     pub fn prev_leaf(&self, alloc: Global) -> Result<Option<Self>, AllocError>
         ensures { IfOk result (λ r. r ≡ elsewhere stop_before self.now) }
     {
-        // Read for the proof: a node stands at this place, and its index is at most the number of its siblings.
+        // Read for the proof: there is a node at this place, and its index is at most the number of its siblings.
         let _node = self.get();
         let _siblings = self.siblings();
         let Some(parent) = self.shared_parent() else {
             return Ok(None);
         };
         let end = self.index();
-        if let Some(leaf) = LinkedNode::leaf_before(parent, alloc, end)? {
+        let begin = self.begin_below(parent);
+        if let Some(leaf) = LinkedNode::leaf_before(parent, alloc, end, begin)? {
             return Ok(Some(leaf));
         }
         parent.prev_leaf(alloc)
     }
 
-    // The last good leaf of a node's children before an index whose kind isn't trivia.
+    /// The last good leaf among the children of a node before the index `end`. It skips children whose kind is trivia.
+    /// `begin` is where the text of the children before that index ends.
     fn leaf_before(
         parent: &Rc<LinkedNode<'a>>,
         alloc: Global,
         end: usize,
+        mut begin: usize,
     ) -> Result<Option<Self>, AllocError>
-        requires { ForSome (subtree parent.now.value) (λ t. end ≤ length (trees t.children)) }
+        requires within { ForSome (subtree parent.now.value) (λ t. end ≤ length (trees t.children)) }
+        requires begin { BeginsAt parent.now.value end begin }
         ensures { IfOk result (λ r. r ≡ found_below (λ t. earlier_up t end) parent.now.value) }
     {
-        let children = parent.get().child_slice();
+        let node = parent.get();
+        let children = node.child_slice();
         for before in (0..end).rev() {
-            if !children[before].kind().is_trivia() {
-                let child = LinkedNode::nth_child(parent, before)?;
-                if let Some(leaf) = child.into_rightmost(alloc)? {
+            begin -= len_of_child(node, before);
+            let previous = &children[before];
+            if !previous.kind().is_trivia() {
+                if is_good_leaf(previous) {
+                    return Ok(Some(LinkedNode::shared_child(parent, before, begin)?));
+                }
+                let child = LinkedNode::shared_child(parent, before, begin)?;
+                if let Some(leaf) = child.rightmost_below(alloc)? {
                     return Ok(Some(leaf));
                 }
             }
@@ -152,33 +178,49 @@ impl<'a> LinkedNode<'a> {
         Ok(None)
     }
 
-    // The first good leaf of a node's children from an index on whose kind isn't trivia.
+    /// The first good leaf among the children of a node from the index `start` on. It skips children whose kind is
+    /// trivia. `begin` is where the text of the child at that index begins, if there is one.
     fn leaf_from(
         parent: &Rc<LinkedNode<'a>>,
         alloc: Global,
         start: usize,
+        mut begin: usize,
     ) -> Result<Option<Self>, AllocError>
+        requires { BeginsAt parent.now.value start begin }
         ensures { IfOk result (λ r. r ≡ found_below (λ t. later_from t start) parent.now.value) }
     {
-        let children = parent.get().child_slice();
+        let node = parent.get();
+        let children = node.child_slice();
         for index in start..children.len() {
-            if !children[index].kind().is_trivia() {
-                let child = LinkedNode::nth_child(parent, index)?;
-                if let Some(leaf) = child.into_leftmost(alloc)? {
+            let next = &children[index];
+            if !next.kind().is_trivia() {
+                if is_good_leaf(next) {
+                    return Ok(Some(LinkedNode::shared_child(parent, index, begin)?));
+                }
+                let child = LinkedNode::shared_child(parent, index, begin)?;
+                if let Some(leaf) = child.leftmost_below(alloc)? {
                     return Ok(Some(leaf));
                 }
             }
+            begin += len_of_child(node, index);
         }
         Ok(None)
     }
 }
 
-// Whether a walk from leaf to leaf may stop here. Such a node has no children.
+/// Whether a walk from leaf to leaf may stop at this node. Such a node has no children.
 fn is_good_leaf(node: &SyntaxNode) -> bool
     ensures good { IsTrue result ↔ (is_good node.now ≡ true) }
     ensures childless { IsTrue result → trees node.now.children ≡ [] }
 {
-    // Read for the proof: only an inner node has children, and a leaf or an error is none.
+    // Read for the proof: only an inner node has children, and an inner node is neither a leaf nor an error.
     let _children = node.child_slice();
     node.is_leaf() && !node.kind().is_trivia()
+}
+
+/// Whether a node has no children. A walk finds nothing below such a node.
+fn is_childless(node: &SyntaxNode) -> bool
+    ensures { IsTrue result ↔ (trees node.now.children ≡ []) }
+{
+    node.child_slice().is_empty()
 }

@@ -1,4 +1,4 @@
-// How much a search reads.
+//! How much a search reads.
 ghost use Rattle.std.specs.Prelude.{◌≡◌, ◌+◌, ◌<◌, ◌≤◌, ◌^◌, length, take};
 ghost use Rattle.typst_node.specs.Tree.{trees};
 ghost use Rattle.typst_node.specs.Text.{text_of_all};
@@ -7,8 +7,8 @@ ghost use Rattle.typst_node.specs.Labels.{number};
 use std::marker::Model;
 use typst_node::SyntaxNode;
 
-/// A count of what a search read: of node numbers for a search by a number, of child ends for a search by a place in
-/// the text.
+/// A count of what a search read. A search by a number counts node numbers. A search by a place in the text counts ends
+/// of children.
 #[derive(Debug, Drop)]
 pub struct Looks {
     count: u64,
@@ -33,14 +33,14 @@ impl Default for Looks {
 }
 
 impl Looks {
-    /// Nothing was read yet.
+    /// A count of 0.
     pub fn new() -> Self
         ensures { result ≡ 0 }
     {
         Looks { count: 0 }
     }
 
-    /// How much was read.
+    /// How much the search read.
     pub fn count(&self) -> u64
         ensures { result ≡ self.now }
     {
@@ -48,7 +48,7 @@ impl Looks {
         *count
     }
 
-    // Reads a node's number and counts it.
+    /// Reads a node's number and counts it.
     pub(crate) fn number_of(&mut self, node: &SyntaxNode) -> u64
         requires { self.old + 1 < 2 ^ 64 }
         ensures number { result ≡ number node.now.label }
@@ -58,7 +58,7 @@ impl Looks {
         node.span().number()
     }
 
-    // Reads the end of a node's child and counts it.
+    /// Reads the end of a node's child and counts it.
     pub(crate) fn end_of(&mut self, node: &SyntaxNode, index: usize) -> usize
         requires room { self.old + 1 < 2 ^ 64 }
         requires child { index < length (trees node.now.children) }

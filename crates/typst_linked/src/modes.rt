@@ -1,4 +1,4 @@
-// The mode of the parser after a node.
+//! The mode of the parser after a node.
 ghost use Rattle.std.specs.Prelude.{◌≡◌, Option, unwrap_or};
 ghost use Rattle.typst_base.specs.declared.mode.SyntaxMode.{SyntaxMode};
 ghost use Rattle.typst_linked.specs.Siblings.{before_it, sibling_kind};
@@ -11,9 +11,10 @@ use typst_base::{ModeAfter, SyntaxKind, SyntaxMode};
 ///
 /// They take no memory.
 impl<'a> LinkedNode<'a> {
-    /// The mode in which the text directly after this node is read, or `None` where none is known.
+    /// The mode in which the text directly after this node is read, or `None` if no mode is known.
     ///
-    /// It follows from the node's kind, as [`SyntaxKind::mode_after`] says. It takes at most one step for each ancestor.
+    /// It follows from the node's kind by the rule in [`SyntaxKind::mode_after`]. It takes at most one step for each
+    /// ancestor.
     pub fn mode_after(&self) -> Option<SyntaxMode>
         ensures { result ≡ mode_behind self.now }
     {
@@ -31,7 +32,7 @@ impl<'a> LinkedNode<'a> {
         parent.mode_after()
     }
 
-    // The mode after this node, where it isn't that after its parent.
+    /// The mode after this node, or `None` if the node takes the mode after its parent.
     fn own_mode(&self) -> Option<Option<SyntaxMode>>
         ensures { (outer : Option SyntaxMode) → unwrap_or result outer ≡ mode_from outer self.now }
     {
@@ -55,7 +56,7 @@ impl<'a> LinkedNode<'a> {
         }
     }
 
-    // The kind of the sibling directly before this node, trivia or not.
+    /// The kind of the sibling directly before this node, trivia or not.
     fn kind_before(&self) -> Option<SyntaxKind>
         ensures { result ≡ sibling_kind before_it self.now }
     {

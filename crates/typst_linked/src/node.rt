@@ -1,4 +1,4 @@
-// A node of a borrowed tree with its parents.
+//! A node of a borrowed tree with its parents.
 ghost use Rattle.std.specs.Prelude.{◌≡◌, ◌+◌, ◌<◌, ◌≤◌, [], length, take, Some, MatchOption, IfOk};
 ghost use Rattle.typst_node.specs.Tree.{Tree, trees};
 ghost use Rattle.typst_node.specs.Text.{text, text_of_all, offset};
@@ -19,13 +19,13 @@ use typst_node::SyntaxNode;
 
 /// A node of a borrowed tree that knows its parents, its index among its siblings and where its text begins.
 ///
-/// Parents are shared, so a clone takes no memory: its only error is that the parent is shared too often.
+/// Nodes share their parents, so a clone takes no memory. It fails only if the parent is shared too often.
 pub struct LinkedNode<'a> {
     node: &'a SyntaxNode,
     parent: Option<Rc<LinkedNode<'a>>>,
-    // Among the parent's children; 0 for a root.
+    /// Among the parent's children; 0 for a root.
     index: usize,
-    // In bytes from the beginning of the root's text.
+    /// In bytes from the beginning of the root's text.
     offset: usize,
 }
 
@@ -51,7 +51,7 @@ impl<'a> Model for LinkedNode<'a> {
     ghost size_decreases = { λ a h. parent_is_less a.node.now a.index a.parent };
 }
 
-// By hand, so that crates above call this one and don't each prove how shared parents are let go.
+/// By hand, so that crates above call this one and don't each prove how shared parents are dropped.
 impl Drop for LinkedNode<'_> {
     #[cycle(drop_linked)]
     fn drop(self) {
@@ -82,7 +82,7 @@ impl<'a> LinkedNode<'a> {
         }
     }
 
-    /// The node itself, as it stands in the borrowed tree.
+    /// The node itself, borrowed from the tree.
     pub fn get(&self) -> &'a SyntaxNode
         ensures { subtree self.now ≡ Some result.now }
     {
@@ -103,7 +103,7 @@ impl<'a> LinkedNode<'a> {
         self.offset
     }
 
-    /// The bytes of the root's text that are the node's.
+    /// The range of the node's bytes in the root's text.
     pub fn range(&self) -> Range<usize>
         ensures start { result.start ≡ offset self.now.path self.now.root }
         ensures end { (t : Tree) → subtree self.now ≡ Some t → result.end ≡ result.start + length (text t) }
@@ -114,7 +114,8 @@ impl<'a> LinkedNode<'a> {
 
     /// The parent, or `None` for the root.
     pub fn parent(&self) -> Option<&Self>
-        ensures { MatchOption result (self.now.path ≡ []) (λ p. self.now ≡ child_place p.now (last_step self.now.path)) }
+        ensures { MatchOption result (self.now.path ≡ []) (λ p. self.now
+            ≡ child_place p.now (last_step self.now.path)) }
     {
         match &self.parent {
             None => None,
@@ -124,16 +125,17 @@ impl<'a> LinkedNode<'a> {
 }
 
 impl<'a> LinkedNode<'a> {
-    // The parent, as it is shared by its children.
+    /// The parent, which its children share.
     pub(crate) fn shared_parent(&self) -> Option<&Rc<LinkedNode<'a>>>
-        ensures { MatchOption result (self.now.path ≡ []) (λ p. self.now ≡ child_place p.now.value (last_step self.now.path)) }
+        ensures { MatchOption result (self.now.path ≡ []) (λ p. self.now
+            ≡ child_place p.now.value (last_step self.now.path)) }
     {
         self.parent.as_ref()
     }
 }
 
 impl<'a> LinkedNode<'a> {
-    // The children of the parent, this node among them; none for the root.
+    /// The children of the parent, with this node among them. A root has none.
     pub(crate) fn siblings(&self) -> &'a [SyntaxNode]
         ensures siblings { result.now ≡ siblings self.now }
         ensures within { last_step self.now.path ≤ length result.now }
@@ -145,9 +147,31 @@ impl<'a> LinkedNode<'a> {
     }
 }
 
+impl<'a> LinkedNode<'a> {
+    /// Where the text of this node begins, in bytes from the beginning of its parent's text.
+    pub(crate) fn begin_below(&self, parent: &LinkedNode<'a>) -> usize
+        requires { self.now ≡ child_place parent.now (last_step self.now.path) }
+        ensures { BeginsAt parent.now (last_step self.now.path) result }
+    {
+        // Read for the proof: a node that has children has no text of its own.
+        let _siblings = parent.node.child_slice();
+        self.offset - parent.offset
+    }
+
+    /// Where the text of this node ends, in bytes from the beginning of its parent's text.
+    pub(crate) fn end_below(&self, parent: &LinkedNode<'a>) -> usize
+        requires { self.now ≡ child_place parent.now (last_step self.now.path) }
+        ensures { BeginsAt parent.now (last_step self.now.path + 1) result }
+    {
+        // Read for the proof: a node that has children has no text of its own.
+        let _siblings = parent.node.child_slice();
+        self.offset - parent.offset + self.node.len()
+    }
+}
+
 /// # Children
 impl<'a> LinkedNode<'a> {
-    /// The children, in order and from both ends. It fails only where memory runs out.
+    /// The children, in order. They can be read from both ends. It fails only if memory runs out.
     pub fn children(&self, alloc: Global) -> Result<LinkedChildren<'a>, AllocError>
         ensures { IfOk result (IsAllOf self.now) }
     {
@@ -155,7 +179,7 @@ impl<'a> LinkedNode<'a> {
         Ok(LinkedChildren::new(parent))
     }
 
-    // The child with an index, whose text begins `begin` bytes after the beginning of its parent's.
+    /// The child at an index. Its text begins `begin` bytes after the beginning of its parent's text.
     pub(crate) fn child_at(parent: Rc<LinkedNode<'a>>, index: usize, begin: usize) -> Self
         requires child { HasChild parent.value index }
         requires begin { BeginsAt parent.value index begin }
@@ -172,7 +196,7 @@ impl<'a> LinkedNode<'a> {
         }
     }
 
-    // The child with an index, whose text begins there, below a parent that others share.
+    /// The child at an index, below a parent that others share. Its text begins `begin` bytes after that of its parent.
     pub(crate) fn shared_child(
         parent: &Rc<LinkedNode<'a>>,
         index: usize,
@@ -185,7 +209,7 @@ impl<'a> LinkedNode<'a> {
         Ok(LinkedNode::child_at(parent.clone()?, index, begin))
     }
 
-    // The child with an index, below a parent that others share.
+    /// The child at an index, below a parent that others share.
     pub(crate) fn nth_child(parent: &Rc<LinkedNode<'a>>, index: usize) -> Result<Self, AllocError>
         requires child { HasChild parent.now.value index }
         ensures { IfOk result (λ l. l ≡ child_place parent.now.value index) }
@@ -194,7 +218,7 @@ impl<'a> LinkedNode<'a> {
         LinkedNode::shared_child(parent, index, begin)
     }
 
-    // The child with an index, below this node.
+    /// The child at an index, below this node.
     pub(crate) fn into_child(self, alloc: Global, index: usize) -> Result<Self, AllocError>
         requires child { HasChild self index }
         ensures { IfOk result (λ l. l ≡ child_place self.entry index) }
@@ -204,7 +228,7 @@ impl<'a> LinkedNode<'a> {
         Ok(LinkedNode::child_at(parent, index, begin))
     }
 
-    // The same for a child of which it is known where its text begins.
+    /// The same as `into_child`, if it is known where the child's text begins.
     pub(crate) fn into_part(self, alloc: Global, part: Part) -> Result<Self, AllocError>
         requires { ForSome (subtree self) (λ t. IsPart (trees t.children) part) }
         ensures { IfOk result (λ l. l ≡ child_place self.entry part.index) }
@@ -214,8 +238,8 @@ impl<'a> LinkedNode<'a> {
     }
 }
 
-// How many bytes of a node's text stand before that of the child with an index.
-fn child_begin(node: &SyntaxNode, index: usize) -> usize
+/// How many bytes of a node's text come before the text of the child at an index.
+pub(crate) fn child_begin(node: &SyntaxNode, index: usize) -> usize
     requires { index < length (trees node.now.children) }
     ensures { result ≡ length (text_of_all (take index (trees node.now.children))) }
 {
@@ -254,7 +278,7 @@ impl<'a> Deref for LinkedNode<'a> {
 }
 
 impl<'a> Debug for LinkedNode<'a> {
-    /// That of the node.
+    /// Writes the node as `SyntaxNode` does.
     fn fmt<W: Write>(&self, f: &mut Formatter<W>) -> fmt::Result {
         self.get().fmt(f)
     }

@@ -1,4 +1,4 @@
-// The path of a linked node.
+//! The path of a linked node.
 ghost use Rattle.std.specs.Prelude.{◌≡◌, ◌++◌, IfOk};
 
 use crate::node::LinkedNode;
@@ -6,9 +6,9 @@ use std::alloc::{AllocError, Global};
 
 /// # Path
 impl<'a> LinkedNode<'a> {
-    /// The child indices from the root down to this node, none for the root.
+    /// The child indices from the root down to this node. The path of the root is empty.
     ///
-    /// It fails only where memory runs out. Takes time in proportion to the depth.
+    /// It fails only if memory runs out. It takes time in proportion to the depth.
     pub fn path(&self, alloc: Global) -> Result<Vec<usize>, AllocError>
         ensures { IfOk result (λ path. path.items ≡ self.now.path) }
     {
@@ -17,6 +17,7 @@ impl<'a> LinkedNode<'a> {
         Ok(path)
     }
 
+    /// Adds the path at the end.
     fn push_path(&self, path: &mut Vec<usize>) -> Result<(), AllocError>
         ensures { IfOk result (λ _. path.new.items ≡ path.old.items ++ self.now.path) }
     {

@@ -1,4 +1,4 @@
-// The nodes of a linked subtree, in preorder.
+//! The nodes of a linked subtree, in preorder.
 ghost use Rattle.std.specs.Prelude.{◌≡◌, ◌∷◌, IfOk, IfSome, MatchOption, Some, length, min, []};
 ghost use Rattle.std.specs.Iterator.{UpTo, at_most};
 ghost use Rattle.std.specs.Iterator.SizeHint.{IsWithinCount};
@@ -11,15 +11,15 @@ use std::fmt;
 use std::iter::FusedIterator;
 use std::marker::Model;
 
-/// The nodes of a linked subtree in preorder: each node before its children, children from left to right.
+/// The nodes of a linked subtree in preorder: each node before its children, and children from left to right.
 ///
-/// Where memory is refused, the item is an error, and it is the last one.
-/// A clone takes no memory: its only error is that a parent is shared too often.
+/// If memory is refused, the item is an error, and it is the last item. A clone takes no memory. It fails only if a
+/// parent is shared too often.
 #[derive(Drop)]
 pub struct LinkedPreorder<'a> {
     alloc: Global,
     next: Option<LinkedNode<'a>>,
-    // How many nodes are left, the next one among them.
+    /// The number of nodes that are left, including the next node.
     left: usize,
 }
 
@@ -41,7 +41,7 @@ impl<'a> Model for LinkedPreorder<'a> {
 
 /// # Preorder
 impl<'a> LinkedNode<'a> {
-    /// The nodes of this node's subtree, itself first, in preorder. It fails only where memory runs out.
+    /// The nodes of this node's subtree in preorder, starting with this node. It fails only if memory runs out.
     pub fn preorder(&self, alloc: Global) -> Result<LinkedPreorder<'a>, AllocError>
         ensures { IfOk result (λ left. left ≡ places_below self.now) }
     {
@@ -52,9 +52,10 @@ impl<'a> LinkedNode<'a> {
         })
     }
 
-    // The node that comes after this one in the preorder of the root.
+    /// The node after this one in the preorder of the root.
     fn following(&self, alloc: Global) -> Result<Option<Self>, AllocError>
-        ensures { IfOk result (λ next. MatchOption next (places_from self.now ≡ self.now ∷ []) (λ place. places_from self.now ≡ self.now ∷ places_from place)) }
+        ensures { IfOk result (λ next. MatchOption next (places_from self.now
+            ≡ self.now ∷ []) (λ place. places_from self.now ≡ self.now ∷ places_from place)) }
     {
         if self.get().child_slice().is_empty() {
             return self.beyond();
@@ -62,9 +63,10 @@ impl<'a> LinkedNode<'a> {
         Ok(Some(self.clone()?.into_child(alloc, 0)?))
     }
 
-    // The first node after this node's whole subtree.
+    /// The first node after this node's whole subtree.
     fn beyond(&self) -> Result<Option<Self>, AllocError>
-        ensures { IfOk result (λ next. MatchOption next (places_behind self.now ≡ []) (λ place. places_behind self.now ≡ places_from place)) }
+        ensures { IfOk result (λ next. MatchOption next (places_behind self.now ≡ []) (λ place. places_behind self.now
+            ≡ places_from place)) }
     {
         // Read for the proof: the index is at most the number of siblings, so the next one is a usize too.
         let _siblings = self.siblings();
@@ -96,7 +98,7 @@ impl<'a> Clone for LinkedPreorder<'a> {
 }
 
 impl<'a> fmt::Debug for LinkedPreorder<'a> {
-    /// Writes the next node, and how many are left with it.
+    /// Writes the next node, and the number of nodes that are left with it.
     fn fmt<W: fmt::Write>(&self, f: &mut fmt::Formatter<W>) -> fmt::Result {
         f.debug_struct("LinkedPreorder")
             .field("next", &self.next)
@@ -124,7 +126,7 @@ impl<'a> Iterator for LinkedPreorder<'a> {
         Some(Ok(here))
     }
 
-    /// At least the next node, if there is one, or the error in its place; at most all nodes that are left.
+    /// At least the next node, if there is one, or the error in its place. At most all nodes that are left.
     fn size_hint(&self) -> (usize, Option<usize>)
         ensures lower { IsWithinCount result.0 (at_most (length self.now)) }
         ensures upper { IfSome result.1 (UpTo (at_most (length self.now))) }

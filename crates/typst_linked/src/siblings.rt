@@ -1,4 +1,4 @@
-// The other children of a linked node's parent.
+//! The other children of a linked node's parent.
 ghost use Rattle.std.specs.Prelude.{◌≡◌, ◌+◌, ◌<◌, ◌≤◌, length, IfOk, IfSome};
 ghost use Rattle.std.specs.Option.{option_map, ForSome};
 ghost use Rattle.typst_linked.specs.Place.{child_place, last_step};
@@ -11,7 +11,7 @@ use typst_node::SyntaxNode;
 
 /// # Siblings
 ///
-/// They take no memory. Their only error is that the parent is shared too often to be shared once more.
+/// These calls take no memory. They fail only if the parent is shared too often to be shared once more.
 impl<'a> LinkedNode<'a> {
     /// The nearest sibling before this node whose kind isn't trivia.
     pub fn prev_sibling(&self) -> Result<Option<Self>, AllocError>
@@ -31,7 +31,7 @@ impl<'a> LinkedNode<'a> {
     pub fn prev_sibling_with_trivia(&self) -> Result<Option<Self>, AllocError>
         ensures { IfOk result (λ r. r ≡ sibling before_it self.now) }
     {
-        // Read for the proof: the index is at most the number of siblings, so the sibling before it is there.
+        // Read for the proof: the index is at most the number of siblings, so there is a sibling before it.
         let _siblings = self.siblings();
         self.sibling_at(self.index().checked_sub(1))
     }
@@ -75,7 +75,7 @@ impl<'a> LinkedNode<'a> {
         Some(siblings[index].kind())
     }
 
-    // The child of the parent with an index, if one is given.
+    /// The child of the parent at an index, if there is an index.
     fn sibling_at(&self, index: Option<usize>) -> Result<Option<Self>, AllocError>
         requires { ForSome index (λ i. i < length (siblings self.now)) }
         ensures { IfOk result (λ r. r ≡ option_map (child_place (parent_place self.now)) index) }
@@ -87,7 +87,7 @@ impl<'a> LinkedNode<'a> {
     }
 }
 
-// The index after an index, if a node stands there.
+/// The index after an index, if there is a node at it.
 fn next_index(nodes: &[SyntaxNode], index: usize) -> Option<usize>
     requires { index ≤ length nodes.now }
     ensures index { result ≡ behind_it index nodes.now }
@@ -100,7 +100,7 @@ fn next_index(nodes: &[SyntaxNode], index: usize) -> Option<usize>
     }
 }
 
-// The index of the last node before an index whose kind isn't trivia.
+/// The index of the last node before an index whose kind isn't trivia.
 fn last_solid(nodes: &[SyntaxNode], index: usize) -> Option<usize>
     requires { index ≤ length nodes.now }
     ensures index { result ≡ solid_before index nodes.now }
@@ -114,7 +114,7 @@ fn last_solid(nodes: &[SyntaxNode], index: usize) -> Option<usize>
     None
 }
 
-// The index of the first node after an index whose kind isn't trivia.
+/// The index of the first node after an index whose kind isn't trivia.
 fn first_solid(nodes: &[SyntaxNode], index: usize) -> Option<usize>
     requires { index ≤ length nodes.now }
     ensures index { result ≡ solid_behind index nodes.now }

@@ -1,5 +1,6 @@
 //! Tests of `typst_base`.
 mod diag_span;
+mod equal;
 mod kind;
 mod kinds;
 mod mapper;

@@ -1,5 +1,5 @@
-//! Tests of `typst_linked` and of what it stands on, in a crate of their own, so that the code is proved without them: each crate's
-//! in the module that has its name.
+//! Tests of `typst_linked` and of the crates below it, in a crate of their own, so that the code is proved without
+//! them. The tests of each crate are in the module that has its name.
 #![tactic(auto)]
 
 #[cfg(test)]

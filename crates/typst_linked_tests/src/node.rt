@@ -1,6 +1,7 @@
-//! Tests of `typst_node`. Most are tables: a drawn tree, what is done to it, and the words for what comes of it.
+//! Tests of `typst_node`. Most are tables: a drawn tree, what is done to it, and the words for the result.
 mod converting;
 mod diagnostics;
+mod equal;
 mod errors;
 mod numbering;
 mod reading;

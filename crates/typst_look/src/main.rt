@@ -4,9 +4,9 @@
 //!
 //! ```text
 //! leaf 6 Hi
-//! leaf 3
+//! leaf 11 --
 //! leaf 6 you
-//! inner 2 3
+//! inner 5 3
 //! root
 //! look views
 //! ```
@@ -21,19 +21,16 @@
 //! 0 Text.get "Hi"
 //! ```
 //!
-//! The library crate `typst_script` has the lines that build trees, `typst_answers` what is answered; [`looker::Looker`] has
-//! the other lines.
+//! The library crate `typst_script` has the lines that build trees, `typst_looker` the other lines, `typst_answers` what is answered.
 #![tactic(auto)]
 
-mod looker;
-mod remark;
-
-use crate::looker::Looker;
 use std::process::ExitCode;
 use std::{env, fs, io};
+use typst_looker::Looker;
 use typst_script::input::MOST_BYTES;
 use typst_script::{Fault, script};
 
+/// Carries out the looks.
 fn main(rt: HostRuntime) -> ExitCode {
     match look_at_all(&rt) {
         Ok(()) => ExitCode::SUCCESS,

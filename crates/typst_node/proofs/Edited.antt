@@ -1,12 +1,12 @@
 -- Inner nodes seen as trees.
-use Rattle.std.proofs.Common.{◌≡◌, ℕ, ◌+◌, ◌<◌, ◌≤◌, ◌^◌, ◌⊎◌, inl, inr, List, map, refl, sym, ap, subst, ◌∙◌, arith, Box, Global, Option, Some, None}
+use Rattle.std.proofs.Common.{◌≡◌, ℕ, ◌+◌, ◌<◌, ◌≤◌, ◌^◌, ◌⊎◌, inl, inr, List, [], map, refl, sym, ap, subst, ◌∙◌, arith, Box, Global, Option, Some, None}
 use Rattle.std.specs.Prelude.{SomeIff, IfSome, MatchOption, Result, Ok, Err, IfOk, OnOk}
 use Rattle.typst_base.specs.declared.kind.SyntaxKind.{SyntaxKind}
 use Rattle.typst_node.specs.Tree.{AsInner, Forest, Tree, trees, forest, IsInner}
 use Rattle.typst_node.specs.Labels.{number, bound, bound_of}
 use Rattle.typst_node.specs.Plain.{plain, plain_label, plain_forest}
 use Rattle.typst_node.specs.Interval.{IsWithin}
-use Rattle.typst_node.specs.Numbered.{IsNumbered, IsNumberedFor}
+use Rattle.typst_node.specs.Numbered.{IsNumberedFor}
 use Rattle.typst_node.specs.View.{tree_of, below, content, shown_warnings}
 use Rattle.typst_node.specs.declared.node.InnerNode.{InnerNode}
 use Rattle.typst_node.specs.declared.node.Node.TheVariants.{Inner}
@@ -14,6 +14,7 @@ use Rattle.typst_node.specs.declared.node.SyntaxNode.TheInside.{Inside}
 use Rattle.std.specs.Box.{with_value}
 use Rattle.std.specs.List.{splice}
 use Rattle.typst_node.specs.PlainEdit.{edited}
+use Rattle.typst_node.specs.Edit.{IsNumberedOrUnfiled}
 use Rattle.typst_node.proofs.Plain.{forest_plain}
 use Rattle.typst_node.proofs.Trees.{trees_of_forest, forest-trees}
 use Rattle.typst_node.proofs.Ordered.{within_from_numbered, numbered_from_within}
@@ -69,14 +70,14 @@ numbered_again file t u n same within =
     (coe 1 0 (i. (same i).span.file ≡ file) w.0, coe 1 0 (i. 2 ≤ number (same i)) w.1, coe 1 0 (i. IsWithin file (number (same i) + 1) (bound (same i)) u.children) within, coe 1 0 (i. bound (same i) ≤ 2 ^ 47) w.3)
 
 -- where there is a file id, the children are numbered
-pub if_numbered : (o : Option ℕ) (t : Tree) (n up : ℕ) (f : Forest) → SomeIff o (0 < t.label.span.file) t.label.span.file → (t.label.span.file ≡ 0) ⊎ IsNumbered t → number t.label ≡ n → bound t.label ≡ up → t.children ≡ f → IfSome o (λ file. IsWithin file (n + 1) up f)
+pub if_numbered : (o : Option ℕ) (t : Tree) (n up : ℕ) (f : Forest) → SomeIff o (0 < t.label.span.file) t.label.span.file → IsNumberedOrUnfiled [] t → number t.label ≡ n → bound t.label ≡ up → t.children ≡ f → IfSome o (λ file. IsWithin file (n + 1) up f)
 if_numbered None t n up f some h n_is up_is f_is = tt
 if_numbered (Some file) t n up f some (inl none) n_is up_is f_is = absurd (omega (arith, some.0))
 if_numbered (Some file) t n up f some (inr h) n_is up_is f_is =
     let at : h.0 ≡ file = sym (file_within h.0 t h.2) ∙ sym some.1 in
     coe 0 1 (i. IsWithin (at i) (n_is i + 1) (up_is i) (f_is i)) (below_within h.0 t h.2)
 
-pub numbered_after : (o : Option ℕ) (t u : Tree) (n up : ℕ) → SomeIff o (0 < t.label.span.file) t.label.span.file → (t.label.span.file ≡ 0) ⊎ IsNumbered t → number t.label ≡ n → bound t.label ≡ up → u.label ≡ t.label → MatchOption o ⊥ (λ file. IsWithin file (n + 1) up u.children) → IsNumberedFor t.label.span.file u
+pub numbered_after : (o : Option ℕ) (t u : Tree) (n up : ℕ) → SomeIff o (0 < t.label.span.file) t.label.span.file → IsNumberedOrUnfiled [] t → number t.label ≡ n → bound t.label ≡ up → u.label ≡ t.label → MatchOption o ⊥ (λ file. IsWithin file (n + 1) up u.children) → IsNumberedFor t.label.span.file u
 numbered_after None t u n up some h n_is up_is same within = absurd within
 numbered_after (Some file) t u n up some (inl none) n_is up_is same within = absurd (omega (arith, some.0))
 numbered_after (Some file) t u n up some (inr h) n_is up_is same within =

@@ -10,7 +10,7 @@ use Rattle.typst_node.specs.Preorder.{nodes, paths, paths_from, subtrees, at, if
 use Rattle.typst_node.specs.Plain.{unbounded, plain_forest, plain}
 use Rattle.typst_node.specs.Diagnostics.{errors_at, warnings_at, error_report, error_reports, warning_report, errors_of, warnings_of}
 use Rattle.typst_node.specs.Entries.{warning_entry, content_entries, error_there, warnings_there, error_entries, warning_entries, span_there, told}
-use Rattle.typst_node.proofs.Paths.{at-paths, labels-subtrees}
+use Rattle.typst_node.proofs.PathsInPreorder.{at-paths, labels-subtrees}
 
 flat_same : {A B : Type 0} (f g : A → List B) → ((x : A) → f x ≡ g x) → (xs : List A) → flat_map f xs ≡ flat_map g xs
 flat_same f g same [] = refl

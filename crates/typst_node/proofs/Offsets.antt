@@ -6,11 +6,11 @@ use Rattle.typst_node.specs.Tree.{Forest, none, tree, Tree, trees}
 use Rattle.typst_node.specs.Preorder.{preorder, paths_from, paths, subtrees, at, if_some}
 use Rattle.typst_node.specs.Text.{own_text, joined, text, text_of_all, is_same_path, text_there, offset}
 use Rattle.typst_node.proofs.Trees.{forest-trees, length-text_of_all-cons}
-use Rattle.typst_node.proofs.Paths.{at_among, at-among, StandFrom, stand_first, stand_rest, at-paths, labels-subtrees}
-use Rattle.typst_node.proofs.FirstMatch.{before-miss, before-append_hit, before-append_miss, before-map}
-use Rattle.typst_node.proofs.SamePaths.{same_below, none_below, any_below}
-use Rattle.typst_node.proofs.Steps.{if_some_value, at-push}
-use Rattle.typst_node.proofs.Listed.{listed}
+use Rattle.typst_node.proofs.PathsInPreorder.{at_among, at-among, StandFrom, stand_first, stand_rest, at-paths, labels-subtrees}
+use Rattle.typst_node.proofs.FirstThatPasses.{before-miss, before-append_hit, before-append_miss, before-map}
+use Rattle.typst_node.proofs.EqualPaths.{same_below, none_below, any_below}
+use Rattle.typst_node.proofs.PathSteps.{if_some_value, at-push}
+use Rattle.typst_node.proofs.ListedPaths.{listed}
 
 flat_map_map : {A B C : Type 0} (f : B → List C) (g : A → B) (xs : List A) → flat_map f (map g xs) ≡ flat_map (λ x. f (g x)) xs
 flat_map_map f g [] = refl

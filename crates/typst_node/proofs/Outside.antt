@@ -18,7 +18,7 @@ use Rattle.typst_node.specs.declared.node.replace.Renumbered.{Renumbered}
 use Rattle.typst_node.proofs.Settled.{get_take, length_splice}
 use Rattle.typst_node.proofs.Opens.{drop_min}
 use Rattle.typst_node.proofs.Trimmed.{first_within, first_within_others}
-use Rattle.typst_node.proofs.PathsAt.{kids_plain}
+use Rattle.typst_node.proofs.EditStep.{kids_plain}
 
 suc_plus : (n j : ℕ) → suc n + j ≡ suc (n + j)
 suc_plus n j = omega arith
@@ -129,7 +129,7 @@ module _ (from to : ℕ) (others ts : List Tree) (order : from ≤ to) (inside :
 
   module _ (first end : ℕ) (r : Renumbered) (new : List Tree) (ok : IsRenumbering (site_among first end from to others ts) r new) where
     abbrev pub w : ℕ
-    w = reach (r.tried - 1)
+    w = reach ok.k
 
     before_long : length (take (from + p) ts) ≡ from + p
     before_long = omega (arith, length-take (from + p) ts, p_old)
@@ -143,13 +143,13 @@ module _ (from to : ℕ) (others ts : List Tree) (order : from ≤ to) (inside :
     pub front_stays : take r.window.start new ≡ take r.window.start ts
     front_stays =
         let few : length (take (from + p) ts) - w ≤ from + p = omega (arith, before_long) in
-        ok.before ∙ (take-take (length (take (from + p) ts) - w) (from + p) ts few ∙ ap (λ n. take n ts) (sym ok.start))
+        ok.window.before ∙ (take-take (length (take (from + p) ts) - w) (from + p) ts few ∙ ap (λ n. take n ts) (sym ok.window.start))
 
     pub back_stays : drop r.window.end new ≡ drop (to - e + min w (length (drop (to - e) ts))) ts
-    back_stays = ok.behind ∙ (sym (drop_min w (drop (to - e) ts)) ∙ drop-drop (min w (length (drop (to - e) ts))) (to - e) ts)
+    back_stays = ok.window.behind ∙ (sym (drop_min w (drop (to - e) ts)) ∙ drop-drop (min w (length (drop (to - e) ts))) (to - e) ts)
 
     pub back_many : length new + (to - from) ≡ length ts + length others → to - e + min w (length (drop (to - e) ts)) + length new ≡ r.window.end + length ts
-    back_many many = omega (arith, ok.end, before_long, behind_long, changed_long, p_old, p_new, e_old, e_new)
+    back_many many = omega (arith, ok.window.end, before_long, behind_long, changed_long, p_old, p_new, e_old, e_new)
 
 -- after a replacement at a path, what is outside of the window is kept
 pub keeps_outside : (path : List ℕ) (from to : ℕ) (others : List Tree) (t u : Tree) (r : Renumbered) → IsPath path t → from ≤ to → to ≤ length (trees (tree_at path t).children)
@@ -162,7 +162,7 @@ keeps_outside path from to others t u r h order inside ok same frame q at n =
     let kids : map plain new ≡ map plain (splice ts from to others) = kids_plain (tree_at path u) (edited from to others s) same ∙ ap (map plain) (trees_of_forest (splice ts from to others)) in
     let long : length new ≡ length (splice ts from to others) = sym (length-map new plain) ∙ (ap length kids ∙ length-map (splice ts from to others) plain) in
     let many : length new + (to - from) ≡ length ts + length others = omega (arith, long, length_splice ts others from to order inside) in
-    keeps_whole path q new t u r.window.start r.window.end (to - kept_last from to others ts + min (reach (r.tried - 1)) (length (drop (to - kept_last from to others ts) ts))) frame h
+    keeps_whole path q new t u r.window.start r.window.end (to - kept_last from to others ts + min (reach ok.k) (length (drop (to - kept_last from to others ts) ts))) frame h
     (front_stays from to others ts order inside (number s.label + 1) (bound s.label) r new ok)
     (back_stays from to others ts order inside (number s.label + 1) (bound s.label) r new ok)
     (back_many from to others ts order inside (number s.label + 1) (bound s.label) r new ok many) at n

@@ -5,7 +5,7 @@ use Rattle.typst_node.specs.Tree.{Content, AsLeaf, AsError, AsInner, IsInner, Tr
 use Rattle.typst_node.specs.Plain.{unbounded, plain}
 use Rattle.typst_node.specs.Paths.{IsPath, tree_at, no_tree}
 use Rattle.typst_node.specs.PlainEdit.{RangeFits, EditFits}
-use Rattle.typst_node.proofs.PathsAt.{kids_plain}
+use Rattle.typst_node.proofs.EditStep.{kids_plain}
 
 many_alike : (ts us : List Tree) → map plain ts ≡ map plain us → length ts ≡ length us
 many_alike ts us same = sym (length-map ts plain) ∙ (ap length same ∙ length-map us plain)

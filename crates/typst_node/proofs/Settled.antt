@@ -1,20 +1,20 @@
 -- Sums, diagnoses and ends after a part of a child list was exchanged.
-use Rattle.std.proofs.Common.{◌≡◌, ◌%◌, ℕ, suc, zero, ◌+◌, ◌-◌, ◌<◌, ◌≤◌, ◌^◌, Bool, true, false, ◌||◌, List, [], ◌∷◌, ◌++◌, length, map, take, drop, refl, sym, ap, ◌∙◌, arith, append_assoc, length-append, length-take, length-drop, get_or, get_or-set_same, set, drop-cons}
+use Rattle.std.proofs.Common.{◌≡◌, ◌%◌, ℕ, suc, zero, ◌+◌, ◌-◌, ◌<◌, ◌≤◌, ◌^◌, Bool, true, false, ◌||◌, List, [], ◌∷◌, ◌++◌, length, map, take, drop, refl, sym, ap, ◌∙◌, arith, append_assoc, append-nil, length-append, length-take, length-drop, get_or, get_or-set_same, set, drop-cons}
 use Rattle.std.proofs.lemmas.List.{take-append-drop, take_more, take_more_set, take_at, drop_at, take-set, drop-set}
 use Rattle.std.proofs.Math.Seq.{take-add}
 use Rattle.std.proofs.lemmas.List.Folds.{list_any-append, drop_split}
-use Rattle.std.specs.Prelude.{slice_range, IsTrue}
+use Rattle.std.specs.Prelude.{slice_range}
 use Rattle.std.specs.List.{list_any, splice}
 use Rattle.typst_node.specs.Tree.{Label, Tree, forest}
-use Rattle.typst_node.specs.Preorder.{preorder}
+use Rattle.typst_node.specs.Preorder.{preorder, nodes}
 use Rattle.typst_node.specs.Text.{text, text_of_all}
 use Rattle.std.specs.Prelude.{Option, Some, None}
 use Rattle.typst_node.specs.Ends.{moved}
-use Rattle.typst_node.specs.ChildEnds.{ends_from, AreEnds, HavePlace, AreStale}
+use Rattle.typst_node.specs.ChildEnds.{ends_from, AreEnds, HavePlace, IsStaleList, AreStale}
 use Rattle.typst_node.proofs.Trees.{length-text_of_all-cons, child_end_is, length_of_ends}
 use Rattle.typst_node.proofs.Opens.{length_text_append, part_text, splice_text, splice_count}
-use Rattle.typst_node.specs.Count.{count_of_all}
-use Rattle.typst_node.specs.Diagnosis.{is_error, is_warned}
+use Rattle.typst_node.specs.Count.{count, count_of_all}
+use Rattle.typst_node.specs.Diagnosis.{has_error, has_warning, is_error, is_warned}
 use Rattle.typst_node.specs.View.{IsMeasured}
 use Rattle.typst_node.specs.Sums.{AreSums}
 use Rattle.typst_node.specs.Stale.{IsStale}
@@ -143,15 +143,17 @@ one_end es ts from to added order inside one is same =
     ∙ (sym (take_more (ends_from 0 ts) from 0 more) ∙ ap (λ n. take n (ends_from 0 ts)) (let e : from + 1 ≡ to = omega arith in e)))
 
 -- where one child stands in the place of one of the same length, the ends are right
-pub ends_stay : (kept : Option (List ℕ)) (ts : List Tree) (from to : ℕ) (stay : Bool) (gone added : ℕ) → to ≡ suc from → to ≤ length ts → IsTrue stay → gone ≡ added
-    → added ≡ length (text_of_all (slice_range ts from to)) → AreStale from to stay gone kept ts → AreEnds kept ts
-ends_stay None ts from to stay gone added one inside s same is few = few
-ends_stay (Some ends) ts from to stay gone added one inside s same is stale =
-    let order : from ≤ to = omega arith in
-    let before : take to ends ≡ take to (ends_from 0 ts) =
-    one_end ends ts from to added order inside one is (stale.one s one ∙ ap (λ n. take from (ends_from 0 ts) ++ ((length (text_of_all (take from ts)) + n) % 2 ^ 32) ∷ []) same) in
-    sym (take-append-drop to ends)
-    ∙ ends_whole ends (drop to ends) ts from to added order inside before is (stale.behind ∙ ap (λ n. ends_from (length (text_of_all (take from ts)) + n) (drop to ts)) same)
+pub ends_stay : (ends : List ℕ) (ts : List Tree) (from to many gone added : ℕ) → many ≡ 1 → to ≡ suc from → from + many ≤ length ts → gone ≡ added
+    → added ≡ length (text_of_all (slice_range ts from (from + many))) → IsStaleList from to many gone ends ts → ends ≡ ends_from 0 ts
+ends_stay ends ts from to many gone added came went inside same is stale =
+    let order : from ≤ from + many = omega arith in
+    let one : from + many ≡ suc from = omega arith in
+    let before : take (from + many) ends ≡ take (from + many) (ends_from 0 ts) =
+    one_end ends ts from (from + many) added order inside one is
+    (ap (λ n. take n ends) one ∙ (stale.one came went ∙ ap (λ n. take from (ends_from 0 ts) ++ ((length (text_of_all (take from ts)) + n) % 2 ^ 32) ∷ []) same)) in
+    sym (take-append-drop (from + many) ends)
+    ∙ ends_whole ends (drop (from + many) ends) ts from (from + many) added order inside before is
+    (stale.behind ∙ ap (λ n. ends_from (length (text_of_all (take from ts)) + n) (drop (from + many) ts)) same)
 
 -- the ends of a beginning
 take_ends : (at n : ℕ) (ts : List Tree) → take n (ends_from at ts) ≡ ends_from at (take n ts)
@@ -196,13 +198,23 @@ slice_one xs i d h =
     let many : i + 1 - i ≡ 1 = omega arith in
     sym ((λ j. take (many j) (drop-cons xs i d h j)))
 
+-- the text of a single tree
+text_one : (t : Tree) → length (text t) ≡ length (text_of_all (t ∷ []))
+text_one t = omega (arith, length-text_of_all-cons t [])
+
+-- the sums of a single tree
+pub sums_of_one : (s : Sums) (t : Tree) → s.len ≡ length (text t) → s.descendants ≡ count t → s.diagnosis.errors ≡ has_error t → s.diagnosis.warnings ≡ has_warning t → AreSums s (t ∷ [])
+sums_of_one s t len descendants errors warnings =
+    let one : nodes t ≡ preorder (forest (t ∷ [])) = ap (λ ls. t.label ∷ ls) (sym (append-nil (preorder t.children))) in
+    record { len = len ∙ text_one t; descendants = descendants ∙ ap length one; errors = errors ∙ ap (list_any is_error) one; warnings = warnings ∙ ap (list_any is_warned) one }
+
 -- the length of the text after one child took the place of another
 pub len_after_one : (xs : List Tree) (i len gone added : ℕ) (was there child : Tree) → i < length xs → len ≡ length (text_of_all xs)
-    → gone ≡ length (text_of_all (was ∷ [])) → was ≡ get_or xs i was → added ≡ length (text_of_all (there ∷ [])) → there ≡ get_or (set xs i child) i there
+    → gone ≡ length (text was) → was ≡ get_or xs i was → added ≡ length (text there) → there ≡ get_or (set xs i child) i there
     → (gone ≤ len) × (len - gone + added ≡ length (text_of_all (set xs i child)))
 len_after_one xs i len gone added was there child h is is_gone is_was is_added is_there =
-    let old : gone ≡ length (text_of_all (slice_range xs i (i + 1))) = is_gone ∙ ap (λ ts. length (text_of_all ts)) (ap (λ x. x ∷ []) is_was ∙ slice_one xs i was h) in
-    let new : added ≡ length (text_of_all (child ∷ [])) = is_added ∙ ap (λ x. length (text_of_all (x ∷ []))) (is_there ∙ get_or-set_same xs i child there h) in
+    let old : gone ≡ length (text_of_all (slice_range xs i (i + 1))) = is_gone ∙ text_one was ∙ ap (λ ts. length (text_of_all ts)) (ap (λ x. x ∷ []) is_was ∙ slice_one xs i was h) in
+    let new : added ≡ length (text_of_all (child ∷ [])) = is_added ∙ text_one there ∙ ap (λ x. length (text_of_all (x ∷ []))) (is_there ∙ get_or-set_same xs i child there h) in
     let after = len_after xs (child ∷ []) i (i + 1) len gone added (omega arith) is old new in
     (after.0, after.1 ∙ ap (λ ts. length (text_of_all ts)) (sym (set_splice xs i child h)))
 
@@ -220,7 +232,7 @@ place_for_one (Some ends) ts i h same = record {
 module _ (old new : InnerNode) (ys : List Tree) (from to : ℕ) (gone : Sums) (order : from ≤ to) (inside : to ≤ length old.children.items) (measured : IsMeasured old)
     (is_gone : AreSums gone (slice_range old.children.items from to)) (children : new.children.items ≡ splice old.children.items from to ys)
     (descendants : new.descendants ≡ old.descendants) (diagnosis : new.extras.diagnosis ≡ old.extras.diagnosis)
-    (places : HavePlace from to (length ys) new.extras.ends old.children.items) (stay : Bool) (stays : IsTrue stay → length ys ≡ to - from) where
+    (places : HavePlace from to (length ys) new.extras.ends old.children.items) where
   front : take from new.children.items ≡ take from old.children.items
   front = ap (take from) children ∙ splice_front old.children.items ys from to order inside
 
@@ -253,22 +265,23 @@ module _ (old new : InnerNode) (ys : List Tree) (from to : ℕ) (gone : Sums) (o
       ap (λ n. take n (ends_from 0 old.children.items)) (let e : suc from ≡ from + 1 = omega arith in e)
       ∙ (take_more (ends_from 0 old.children.items) from 0 more ∙ ap (λ e. take from (ends_from 0 old.children.items) ++ e ∷ []) end)
 
-  stale_ends : (kept : Option (List ℕ)) → HavePlace from to (length ys) kept old.children.items → AreStale from (from + length ys) stay gone.len kept new.children.items
+  stale_ends : (kept : Option (List ℕ)) → HavePlace from to (length ys) kept old.children.items → AreStale from to (length ys) gone.len kept new.children.items
   stale_ends None few = omega (arith, many, few)
   stale_ends (Some ends) place =
       let text_front : length (text_of_all (take from new.children.items)) ≡ length (text_of_all (take from old.children.items)) = ap (λ ts. length (text_of_all ts)) front in
       record {
-        many = omega (arith, many, place.len);
+        all = omega (arith, many, place.len);
         before = place.before ∙ (take_ends 0 from old.children.items ∙ (ap (ends_from 0) (sym front) ∙ sym (take_ends 0 from new.children.items)));
         behind = place.behind ∙ (drop_ends 0 old.children.items to inside ∙ (λ i. ends_from (begins text_front i) (sym back i)));
-        one = λ s e.
+        one = λ came went.
+            let as_many : length ys ≡ to - from = omega (arith, came, went) in
             let same_front : take from (ends_from 0 old.children.items) ≡ take from (ends_from 0 new.children.items) =
             take_ends 0 from old.children.items ∙ (ap (ends_from 0) (sym front) ∙ sym (take_ends 0 from new.children.items)) in
-            (λ i. take (e i) (place.stay (stays s) i))
-            ∙ (old_end (omega (arith, stays s, e)) ∙ (λ i. same_front i ++ ((sym text_front i + gone.len) % 2 ^ 32) ∷ []));
+            ap (take (suc from)) (place.stay as_many)
+            ∙ (old_end went ∙ (λ i. same_front i ++ ((sym text_front i + gone.len) % 2 ^ 32) ∷ []));
       }
 
-  pub put_stale : IsStale from (from + length ys) stay gone new
+  pub put_stale : IsStale from to (length ys) gone new
   put_stale =
       let counts = splice_count old.children.items ys from to order in
       let count_in : count_of_all (slice_range new.children.items from (from + length ys)) ≡ count_of_all ys = ap count_of_all middle in

@@ -1,5 +1,5 @@
 -- Common beginnings and endings, and what is left without them.
-use Rattle.std.proofs.Common.{◌≡◌, ℕ, suc, zero, ◌+◌, ◌-◌, ◌<◌, ◌≤◌, Bool, true, false, List, [], ◌∷◌, ◌++◌, length, min, map, take, drop, get_or, reverse, refl, sym, ap, ◌∙◌, arith, add-one, drop-cons, append_assoc, length-take, length-drop}
+use Rattle.std.proofs.Common.{◌≡◌, ℕ, suc, zero, ◌+◌, ◌-◌, ◌<◌, ◌≤◌, Bool, true, false, cond, List, [], ◌∷◌, ◌++◌, length, min, map, take, drop, get_or, reverse, refl, sym, ap, subst, ◌∙◌, arith, add-one, drop-cons, append_assoc, length-take, length-drop}
 use Rattle.std.proofs.lemmas.List.{length-reverse, drop-take, take-take, drop-drop, reverse-reverse, take-append-drop, map-append, reverse-append, take_at}
 use Rattle.std.proofs.lemmas.List.Folds.{drop_split}
 use Rattle.std.specs.Prelude.{slice_range}
@@ -8,12 +8,19 @@ use Rattle.typst_node.specs.Tree.{Tree}
 use Rattle.typst_node.specs.Count.{SumsFit}
 use Rattle.typst_node.specs.Plain.{plain}
 use Rattle.typst_node.specs.Equal.{tree_eq, tree_same, tree_eq_same}
-use Rattle.typst_node.specs.ChangedChildren.{IsCommonBeginning, one_more_if, common_first, common_last, kept_first, kept_last}
+use Rattle.typst_node.specs.ChangedChildren.{IsCommonBeginning, StaysLongest, common_first, common_last, kept_first, kept_last}
 use Rattle.typst_node.proofs.Plain.{same_text_of_all, same_count_of_all}
 
 not_true : (b : Bool) → ¬ (b ≡ true) → b ≡ false
 not_true true n = absurd (n refl)
 not_true false n = refl
+
+-- one more where it is so, and else none
+abbrev one_more_if : Bool → ℕ → ℕ
+one_more_if b n = cond b (1 + n) 0
+
+one_plus : (n : ℕ) → 1 + n ≡ suc n
+one_plus n = omega arith
 
 one_within : (b : Bool) (n m : ℕ) → n ≤ m → one_more_if b n ≤ suc m
 one_within true n m h = omega arith
@@ -32,7 +39,9 @@ first_within_others (t ∷ ts) (u ∷ us) = one_within (tree_eq (plain t) (plain
 -- the common beginning is the same, apart from spans and bounds
 first_alike_at : (t u : Tree) (ts us : List Tree) (b : Bool) → tree_eq (plain t) (plain u) ≡ b → map plain (take (common_first ts us) ts) ≡ map plain (take (common_first ts us) us)
     → map plain (take (one_more_if b (common_first ts us)) (t ∷ ts)) ≡ map plain (take (one_more_if b (common_first ts us)) (u ∷ us))
-first_alike_at t u ts us true e h = let first : plain t ≡ plain u = tree_same (plain t) (plain u) e in λ i. first i ∷ h i
+first_alike_at t u ts us true e h =
+    let first : plain t ≡ plain u = tree_same (plain t) (plain u) e in
+    subst (λ (m : ℕ). map plain (take m (t ∷ ts)) ≡ map plain (take m (u ∷ us))) (sym (one_plus (common_first ts us))) (λ i. first i ∷ h i)
 first_alike_at t u ts us false e h = refl
 
 pub first_alike : (ts us : List Tree) → map plain (take (common_first ts us) ts) ≡ map plain (take (common_first ts us) us)
@@ -42,7 +51,7 @@ first_alike (t ∷ ts) (u ∷ us) = first_alike_at t u ts us (tree_eq (plain t) 
 
 -- a step along the common beginning
 pub first_more : (t u : Tree) (ts us : List Tree) → plain t ≡ plain u → common_first (t ∷ ts) (u ∷ us) ≡ suc (common_first ts us)
-first_more t u ts us e = ap (λ b. one_more_if b (common_first ts us)) (tree_eq_same (plain t) (plain u) e)
+first_more t u ts us e = ap (λ b. one_more_if b (common_first ts us)) (tree_eq_same (plain t) (plain u) e) ∙ one_plus (common_first ts us)
 
 -- no longer beginning is common
 pub first_longest : (ts us : List Tree) (n : ℕ) → n ≤ length ts → n ≤ length us → map plain (take n ts) ≡ map plain (take n us) → n ≤ common_first ts us
@@ -57,7 +66,16 @@ pub first_ends : (t u : Tree) (ts us : List Tree) → ¬ (plain t ≡ plain u) �
 first_ends t u ts us n = ap (λ b. one_more_if b (common_first ts us)) (not_true (tree_eq (plain t) (plain u)) (λ e. n (tree_same (plain t) (plain u) e)))
 
 pub common_first_is : (ts us : List Tree) → IsCommonBeginning ts us (common_first ts us)
-common_first_is ts us = record { alike = first_alike ts us; longest = first_longest ts us }
+common_first_is ts us =
+    record { within = first_within ts us; within_others = first_within_others ts us; alike = first_alike ts us; longest = first_longest ts us }
+
+-- so what stays of changed children is the longest
+pub stays_longest : (from to : ℕ) (others ts : List Tree) → StaysLongest from to others ts
+stays_longest from to others ts =
+    record {
+      first = common_first_is (slice_range ts from to) others;
+      last = common_first_is (reverse (slice_range ts (from + kept_first from to others ts) to)) (reverse (drop (kept_first from to others ts) others));
+    }
 
 drop_step : (ts : List Tree) (i : ℕ) (d : Tree) → i < length ts → drop i ts ≡ get_or ts i d ∷ drop (i + 1) ts
 drop_step ts i d h = rw add-one (drop-cons ts i d h)

@@ -1,14 +1,17 @@
--- What the program says of a change of children.
-use Rattle.std.specs.Prelude.{ℕ, ◌≡◌, suc, List, slice_range}
+-- What the program records of a change of children.
+use Rattle.std.specs.Prelude.{ℕ, ◌≡◌, List, length, slice_range}
 use Rattle.std.specs.List.{splice}
 use Rattle.typst_node.specs.Tree.{Tree}
-use Rattle.typst_node.specs.Count.{SumsFit, count_of_all}
+use Rattle.typst_node.specs.Count.{SumsFit}
 use Rattle.typst_node.specs.Sums.{AreSums}
-use Rattle.typst_node.specs.declared.node.replace.Change.{Change}
+use Rattle.typst_node.specs.declared.node.settle.Change.{Change}
 
--- the sums of the children that go, those of the others that come, and the parent's node count then, which fits as the text's length does
+-- the change replaces the children from one index up to another by others; it holds the sums of both, and the parent's
+-- sums fit afterwards
 pub record IsChange (from to : ℕ) (ts others : List Tree) (c : Change) : Type 0 where
+  pub from_is : c.from ≡ from
+  pub to_is : c.to ≡ to
+  pub many : c.many ≡ length others
   pub gone : AreSums c.gone (slice_range ts from to)
   pub added : AreSums c.added others
   pub fits : SumsFit (splice ts from to others)
-  pub total : c.total ≡ suc (count_of_all (splice ts from to others))

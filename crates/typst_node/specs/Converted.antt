@@ -1,4 +1,4 @@
--- Nodes of another kind, and errors in place of nodes.
+-- Nodes with another kind, and errors in place of nodes.
 use Rattle.std.specs.Prelude.{ℕ, ◌||◌, ◌&&◌, ◌++◌, Bool, List, [], ◌∷◌, None, nat_eq, codes, if◌then◌else◌}
 use lib.Pointwise.{pointwise}
 use Rattle.typst_base.specs.KindClasses.{is_keyword_kind}
@@ -14,11 +14,11 @@ content_of_kind kind (AsLeaf old text) = AsLeaf kind text
 content_of_kind kind (AsError text message hints) = AsError text message hints
 content_of_kind kind (AsInner old bound) = AsInner kind bound
 
--- the tree whose node has this kind
+-- the tree with this kind at its node
 abbrev pub of_kind : SyntaxKind → Tree → Tree
 of_kind kind t = record t { label = record t.label { content = content_of_kind kind t.label.content } }
 
--- a detached error with this message, these hints and the tree's whole text; a tree that is an error stays
+-- a detached error with this message, these hints and the tree's whole text; if the tree is an error, it stays
 abbrev pub as_error : List ℕ → List HintText → Tree → Tree
 as_error message hints t = if is_error t.label then t else hinted hints (error_tree message (text t))
 
@@ -39,12 +39,12 @@ abbrev pub keyword_message : List ℕ → List ℕ
 keyword_message text =
     codes "keyword `" ++ (text ++ (codes "` is not allowed as an identifier; try `" ++ (text ++ codes "_` instead")))
 
--- the hint at a keyword where an identifier or a pattern was expected
+-- the hint at a keyword, if an identifier or a pattern was expected
 abbrev pub keyword_hints : List ℕ → SyntaxKind → List ℕ → List HintText
 keyword_hints what kind text =
     if is_keyword_kind kind && wants_name what then hint_for None (keyword_message text) ∷ [] else []
 
--- the error in the node's place that says what was expected, with the hint at a keyword, if one is due
+-- the error in place of the node that says what was expected, with the hint at a keyword, if one is due
 abbrev pub as_expected : List ℕ → Tree → Tree
 as_expected what t =
     let kind = kind_of t.label.content in

@@ -1,4 +1,4 @@
--- How many nodes a tree has.
+-- The number of nodes of a tree.
 use Rattle.std.specs.Prelude.{ℕ, ◌<◌, ◌^◌, suc, List, length}
 use Rattle.typst_node.specs.Tree.{Tree, forest}
 use Rattle.typst_node.specs.Preorder.{preorder, nodes}
@@ -8,7 +8,7 @@ use Rattle.typst_node.specs.Text.{text_of_all}
 abbrev pub count : Tree → ℕ
 count t = length (nodes t)
 
--- the number of nodes of all these trees
+-- the number of nodes of all these trees together
 abbrev pub count_of_all : List Tree → ℕ
 count_of_all ts = length (preorder (forest ts))
 

@@ -17,7 +17,7 @@ abbrev pub has_some : List WarningText → Bool
 has_some [] = false
 has_some (w ∷ ws) = true
 
--- whether a node is under a warning
+-- whether a node has a warning
 abbrev pub is_warned : Label → Bool
 is_warned l = has_some l.warnings
 
@@ -25,6 +25,6 @@ is_warned l = has_some l.warnings
 abbrev pub has_error : Tree → Bool
 has_error t = list_any is_error (nodes t)
 
--- whether a node of the tree is under a warning
+-- whether a node of the tree has a warning
 abbrev pub has_warning : Tree → Bool
 has_warning t = list_any is_warned (nodes t)

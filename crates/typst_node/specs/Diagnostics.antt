@@ -1,4 +1,4 @@
--- What a tree reports: errors and warnings, with their places.
+-- The reports of a tree: errors and warnings, with their places.
 use Rattle.std.specs.Prelude.{ℕ, Bool, true, false, List, [], ◌∷◌, map, Option, Some, None}
 use Rattle.std.specs.declared.ops.Range.{Range}
 use Rattle.std.specs.List.{flat_map}
@@ -12,7 +12,7 @@ pub record PlacedHint : Type 0 where
   pub text : List ℕ
   pub place : DiagPlace
 
--- what is reported of a node: whether it is an error or a warning, the place that it is about, its message and its hints
+-- the report of a node: whether it is an error or a warning, the place that it is about, its message and its hints
 pub record Report : Type 0 where
   pub is_error : Bool
   pub place : DiagPlace
@@ -58,10 +58,10 @@ errors_at l = error_reports l.span l.content
 abbrev pub warnings_at : Label → List Report
 warnings_at l = map (warning_report l.span) l.warnings
 
--- what the errors of a tree's nodes report, one node after the other
+-- the reports of the errors of a tree's nodes, in preorder
 abbrev pub errors_of : Tree → List Report
 errors_of t = flat_map errors_at (nodes t)
 
--- what the warnings of a tree's nodes report, one node after the other
+-- the reports of the warnings of a tree's nodes, in preorder
 abbrev pub warnings_of : Tree → List Report
 warnings_of t = flat_map warnings_at (nodes t)

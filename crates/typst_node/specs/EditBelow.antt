@@ -1,14 +1,14 @@
--- Working forms of a replacement: what its recursion asks for, and what it makes of the children and of their node.
+-- The working forms of a replacement: what its recursion requires, and how it changes the children and their node.
 use Rattle.std.specs.Prelude.{ℕ, ◌≡◌, ◌-◌, ◌≤◌, ◌⊎◌, ◌↔◌, List, ◌++◌, length, map, get_or, Option, None, MatchOption, Result, IsErrOf, IfOk, OnOk, OnErr}
 use Rattle.typst_node.specs.Tree.{Tree, forest, trees}
 use Rattle.typst_node.specs.Text.{text_of_all}
 use Rattle.typst_node.specs.Count.{SumsFit}
 use Rattle.typst_node.specs.Plain.{plain}
-use Rattle.typst_node.specs.Numbered.{IsNumbered, IsNumberedFor}
+use Rattle.typst_node.specs.Numbered.{IsNumberedFor}
 use Rattle.typst_node.specs.Interval.{IsWithin}
-use Rattle.typst_node.specs.Paths.{IsInnerAt, IsPath, no_tree, tree_at, trees_at}
+use Rattle.typst_node.specs.Paths.{IsInnerAt, IsPath, no_tree, trees_at}
 use Rattle.typst_node.specs.PlainEdit.{edited, edited_at, spliced, TreeFits}
-use Rattle.typst_node.specs.Refusals.{HasNoRoom}
+use Rattle.typst_node.specs.Edit.{IsNumberedOrUnfiled, IsUnfiled}
 use Rattle.typst_node.specs.Window.{Site, site_of}
 use Rattle.typst_node.specs.FirstWindow.{HasNoFirst}
 use Rattle.typst_node.specs.Renumbering.{IsRenumbering}
@@ -18,16 +18,20 @@ use Rattle.typst_node.specs.declared.node.replace.Renumbered.{Renumbered}
 use Rattle.typst_node.specs.declared.node.replace.ReplaceError.{ReplaceError}
 use Rattle.typst_node.specs.declared.node.replace.ReplaceError.TheVariants.{Unnumberable, Overflow, Memory}
 
--- an edit of an inner node at a path, whose sums fit, where the numbers are in order or there is no file id
+-- an edit of an inner node at a path, whose sums fit; the numbers are in order, or the node has no file id
 pub record IsEdit (at : List ℕ) (from to : ℕ) (others : List Tree) (t : Tree) : Type 0 where
   pub path : IsPath at t
   pub inner : IsInnerAt at t
   pub order : from ≤ to
   pub inside : to ≤ length (trees_at at t)
-  pub numbered : ((tree_at at t).label.span.file ≡ 0) ⊎ IsNumbered t
+  pub numbered : IsNumberedOrUnfiled at t
   pub sums : TreeFits (edited_at at from to others t)
 
--- the tree at a place of a list
+-- the node has no file id, or no window has room for others in place of some children
+abbrev pub HasNoRoom : ℕ → ℕ → List Tree → Tree → Type 0
+HasNoRoom from to others t = IsUnfiled t ⊎ HasNoFirst (site_of from to others t)
+
+-- the tree at an index of a list
 abbrev pub child_of : List Tree → ℕ → Tree
 child_of ts index = get_or ts index no_tree
 
@@ -35,7 +39,7 @@ child_of ts index = get_or ts index no_tree
 abbrev pub all_at : Site → List Tree
 all_at s = s.before ++ (s.changed ++ s.behind)
 
--- what a replacement makes of an inner node's children and of the length that it keeps, where the node has this file id, if it has one
+-- how a replacement changes an inner node's children and the length that it keeps, if this is the node's file id
 pub record AreReplaced (s : Site) (id : Option ℕ) (old new : InnerNode) (kept : ℕ) (result : Result Renumbered ReplaceError) : Type 0 where
   pub len : kept ≡ length (text_of_all new.children.items)
   pub measured : IsMeasured new
@@ -48,7 +52,7 @@ pub record AreReplaced (s : Site) (id : Option ℕ) (old new : InnerNode) (kept 
   pub plain : OnOk result (map plain new.children.items ≡ map plain (all_at s))
   pub within : OnOk result (MatchOption id ⊥ (λ file. IsWithin file s.first s.end (forest new.children.items)))
 
--- what a replacement makes of an inner node, but for the sums of its ancestors
+-- how a replacement changes an inner node, apart from the sums of its ancestors
 pub record IsReplacement (from to : ℕ) (others : List Tree) (old new : Tree) (result : Result Renumbered ReplaceError) : Type 0 where
   pub unnumberable : IsErrOf result Unnumberable ↔ (SumsFit (spliced from to others old) × HasNoRoom from to others old)
   pub overflow : IsErrOf result Overflow ↔ ¬ (SumsFit (spliced from to others old))

@@ -1,4 +1,4 @@
--- As many ends are seen as are kept.
+-- There are as many ends as are kept.
 use Rattle.std.specs.Prelude.{ℕ, suc, ◌≡◌, List, [], ◌∷◌, length}
 use Rattle.std.proofs.Common.{refl, ap}
 use Rattle.typst_node.specs.Ends.{ends_seen}

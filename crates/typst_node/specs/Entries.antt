@@ -1,4 +1,4 @@
--- The two lists of diagnostics of a tree, over the whole list of its paths, and what a diagnostic tells.
+-- The two lists of diagnostics of a tree, over the list of all its paths, and the report for an entry.
 use Rattle.std.specs.Prelude.{ℕ, Bool, true, false, List, [], ◌∷◌, map, Option, Some, None}
 use Rattle.std.specs.declared.ops.Range.{Range}
 use Rattle.std.specs.List.{flat_map}
@@ -19,27 +19,27 @@ pub record Entry : Type 0 where
 abbrev pub warning_entry : List ℕ → WarningText → Entry
 warning_entry path w = record { path = path; is_error = false; sub_range = w.sub_range; message = w.message; hints = w.hints }
 
--- the entry of a content at a path, if it is an error
+-- the entry for a content at a path, if it is an error
 abbrev pub content_entries : List ℕ → Content → List Entry
 content_entries path (AsLeaf kind text) = []
 content_entries path (AsError text message hints) = record { path = path; is_error = true; sub_range = None; message = message; hints = hints } ∷ []
 content_entries path (AsInner kind bound) = []
 
--- the entry of the node at a path, if it is an error
+-- the entry for the node at a path, if it is an error
 abbrev pub error_there : List ℕ → Option Tree → List Entry
 error_there path None = []
 error_there path (Some t) = content_entries path t.label.content
 
--- the entries of the warnings of the node at a path, outermost first
+-- the entries for the warnings of the node at a path, outermost first
 abbrev pub warnings_there : List ℕ → Option Tree → List Entry
 warnings_there path None = []
 warnings_there path (Some t) = map (warning_entry path) t.label.warnings
 
--- the errors of a tree: what its paths list one after the other, in preorder
+-- the errors of a tree: those at its paths, in preorder
 abbrev pub error_entries : Tree → List Entry
 error_entries t = flat_map (λ path. error_there path (at path t)) (paths t)
 
--- the warnings of a tree: what its paths list one after the other, in preorder
+-- the warnings of a tree: those at its paths, in preorder
 abbrev pub warning_entries : Tree → List Entry
 warning_entries t = flat_map (λ path. warnings_there path (at path t)) (paths t)
 
@@ -47,7 +47,7 @@ abbrev pub span_there : Option Tree → SpanParts
 span_there None = detached
 span_there (Some t) = t.label.span
 
--- what a diagnostic tells of an entry: its place is the span of the entry's node, with the entry's sub-range
+-- the report for an entry: its place is the span of the entry's node, with the entry's sub-range
 abbrev pub told : Tree → Entry → Report
 told t e = record {
   is_error = e.is_error;

@@ -1,10 +1,8 @@
 -- Equality of trees as a test.
-use Rattle.std.specs.Prelude.{◌≡◌, ◌↔◌, Option, Some, None, Bool, true, false, ◌&&◌, ◌==◌, refl}
-use Rattle.std.specs.Option.{option_copied, option_eq}
+use Rattle.std.specs.Prelude.{◌≡◌, Bool, true, false, ◌&&◌, ◌==◌, refl}
 use Rattle.std.proofs.Common.{ap, sym, ◌∙◌, eq-eqb}
 use Rattle.std.specs.Cmp.{IsEquivalence, IsPartialEquivalence, partial_equiv_from_equiv, both_ways}
 use base.Stored.{Gv, gnil, gnum, gcons}
-use denote.Ref.{Bor}
 use Rattle.typst_node.specs.Tree.{Tree}
 use Rattle.typst_node.specs.Codes.{tree_code}
 
@@ -56,13 +54,6 @@ tree_same t u e = tree_code.inj t u (gv_same (tree_code.code t) (tree_code.code 
 pub tree_eq_same : (t u : Tree) → t ≡ u → tree_eq t u ≡ true
 unfolding tree_eq
 tree_eq_same t u e = ap (λ v. gv_eq (tree_code.code t) (tree_code.code v)) (sym e) ∙ gv_eq_refl (tree_code.code t)
-
--- two nodes that may be missing are equal if they are the same trees, spans and bounds included, or neither is there
-pub same_nodes : (o p : Option (Bor Tree)) → (option_eq (λ x y. tree_eq x.now y.now) o p ≡ true) ↔ (option_copied o ≡ option_copied p)
-same_nodes None None = (λ e. refl, λ e. refl)
-same_nodes None (Some y) = (λ e. cc, λ e. cc)
-same_nodes (Some x) None = (λ e. cc, λ e. cc)
-same_nodes (Some x) (Some y) = (λ e. ap Some (tree_same x.now y.now e), λ e. tree_eq_same x.now y.now (cc))
 
 pub tree_eq_equivalence : IsEquivalence tree_eq
 tree_eq_equivalence = record {

@@ -1,5 +1,6 @@
 -- The first window with room.
-use Rattle.std.specs.Prelude.{ℕ, ◌+◌, ◌-◌, ◌^◌, ◌<◌, ◌≤◌, length, max}
+use Rattle.std.specs.Prelude.{ℕ, ◌+◌, ◌-◌, ◌<◌, ◌≤◌, length, max}
+use Rattle.typst_node.specs.BinaryDigits.{binary_digits}
 use Rattle.typst_node.specs.Window.{Site, reach}
 use Rattle.typst_node.specs.Room.{HasRoom, new_count}
 
@@ -7,7 +8,7 @@ use Rattle.typst_node.specs.Room.{HasRoom, new_count}
 abbrev pub HoldsAll : Site → ℕ → Type 0
 HoldsAll s w = (length s.before ≤ w) × (length s.behind ≤ w)
 
--- window k is the first one with room, among those up to the first that holds all children
+-- window k is the first window with room, among the windows up to the first that holds all children
 pub record IsFirst (s : Site) (k : ℕ) : Type 0 where
   pub room : HasRoom s (reach k)
   pub least : (j : ℕ) → j < k → ¬ (HasRoom s (reach j))
@@ -17,10 +18,11 @@ pub record IsFirst (s : Site) (k : ℕ) : Type 0 where
 abbrev pub HasNoFirst : Site → Type 0
 HasNoFirst s = (k : ℕ) → ¬ (IsFirst s k)
 
--- At most 2 and the binary digits of the larger number of neighbours were tried: of any number of digits that holds it.
+-- the number of tried windows is at most 2 plus the binary digits of the larger number of neighbours
 abbrev pub IsFoundSoon : Site → ℕ → Type 0
-IsFoundSoon s tried = (digits : ℕ) → max (length s.before) (length s.behind) < 2 ^ digits → tried ≤ 2 + digits
+IsFoundSoon s tried = tried ≤ 2 + binary_digits (max (length s.before) (length s.behind))
 
--- the open numbers of the whole parent, after its own and below its bound, are fewer than its new nodes, and those are more than itself
+-- the open numbers of the whole parent, after its own number and below its bound, are fewer than its nodes after the
+-- edit, and it has children then
 abbrev pub IsCrowded : Site → Type 0
 IsCrowded s = (s.end - s.first < new_count s) × (1 < new_count s)

@@ -15,25 +15,25 @@ error_tree message text = record {
 abbrev pub hint_for : Option (Range ℕ) → List ℕ → HintText
 hint_for sub_range text = record { text = text; sub_range = sub_range }
 
--- the hints with these texts and without sub-ranges
+-- hints with these texts and without sub-ranges
 abbrev pub plain_hints : List (List ℕ) → List HintText
 plain_hints texts = map (hint_for None) texts
 
--- only an error or a node under a warning takes hints
+-- only an error or a node with a warning takes hints
 abbrev pub CanHint : Label → Type 0
 CanHint l = IsTrue (is_error l || is_warned l)
 
--- an error with these hints after its own
+-- an error with these hints after its other hints
 abbrev pub hinted_content : List HintText → Content → Content
 hinted_content more (AsLeaf kind text) = AsLeaf kind text
 hinted_content more (AsError text message hints) = AsError text message (hints ++ more)
 hinted_content more (AsInner kind bound) = AsInner kind bound
 
--- a warning with these hints after its own
+-- a warning with these hints after its other hints
 abbrev pub hint_one : List HintText → WarningText → WarningText
 hint_one more w = record { sub_range = w.sub_range; message = w.message; hints = w.hints ++ more }
 
--- the warnings, of which the outermost has these hints after its own
+-- the warnings, with these hints after the other hints of the outermost one
 abbrev pub hint_outermost : List HintText → List WarningText → List WarningText
 hint_outermost more [] = []
 hint_outermost more (w ∷ ws) = hint_one more w ∷ ws
@@ -42,6 +42,6 @@ abbrev pub hinted_label : List WarningText → List HintText → Label → Label
 hinted_label [] more l = record l { content = hinted_content more l.content }
 hinted_label (w ∷ ws) more l = record l { warnings = hint_outermost more (w ∷ ws) }
 
--- the tree with these hints after those of its node's outermost warning, or without one after those of the error
+-- the tree with these hints after those of its node's outermost warning; without a warning, after those of the error
 abbrev pub hinted : List HintText → Tree → Tree
 hinted more t = record t { label = hinted_label t.label.warnings more t.label }

@@ -1,9 +1,10 @@
--- Numbers in order as intervals one inside the other: the working form of `IsNumberedFor`.
+-- Numbers in order as nested intervals: the working form of `IsNumberedFor`.
 use Rattle.std.specs.Prelude.{ℕ, ◌≡◌, ◌+◌, ◌≤◌}
 use Rattle.typst_node.specs.Tree.{Forest, none, tree, Tree}
 use Rattle.typst_node.specs.Labels.{number, bound}
 
--- These trees are numbered for the file, one after the other from a number up to another: each has its number first, then its children up to its bound.
+-- These trees are numbered for the file, one after the other, from a number up to another. Each tree has its own number
+-- first, then the numbers of its children up to its bound.
 abbrev pub IsWithin : ℕ → ℕ → ℕ → Forest → Type 0
 IsWithin file start end none = start ≤ end
 IsWithin file start end (tree l c r) =

@@ -11,6 +11,6 @@ bound_of (AsLeaf kind text) n = n + 1
 bound_of (AsError text message hints) n = n + 1
 bound_of (AsInner kind bound) n = bound
 
--- an inner node's bound; that of a leaf or an error is its number plus one
+-- an inner node's bound; for a leaf or an error it is its number plus one
 abbrev pub bound : Label → ℕ
 bound l = bound_of l.content (number l)

@@ -5,6 +5,7 @@ pub mod Count
 pub mod Diagnosis
 pub mod Labels
 pub mod Numbered
+pub mod Numbering
 pub mod Interval
 pub mod OpenNumbers
 pub mod Plain
@@ -15,6 +16,7 @@ pub mod Smaller
 pub mod Sums
 pub mod Views
 pub mod Equal
+pub mod EqualReports
 pub mod Paths
 pub mod PlainEdit
 pub mod ChangedChildren
@@ -23,11 +25,13 @@ pub mod WindowNumbers
 pub mod Room
 pub mod FirstWindow
 pub mod Renumbering
+pub mod Edit
 pub mod Refusals
 pub mod EditBelow
 pub mod Errand
 pub mod Sites
 pub mod Stale
+pub mod BinaryDigits
 pub mod Change
 pub mod Outside
 pub mod Warnings
@@ -36,7 +40,9 @@ pub mod Synthesized
 pub mod Diagnostics
 pub mod Entries
 pub mod Tells
+pub mod Accepted
 pub mod Hashed
+pub mod HashedReports
 pub mod Reported
 pub mod Converted
 pub mod Mapped
@@ -44,3 +50,5 @@ pub mod MappedForest
 pub mod Ends
 pub mod ChildEnds
 pub mod EndsLength
+pub mod Children
+pub mod Items

@@ -1,4 +1,4 @@
--- Trees with the places of mapped bytes, child after child: the working form of `Mapped`.
+-- Trees with the places of their mapped bytes, child after child: the working form of `Mapped`.
 use Rattle.std.specs.Prelude.{ℕ, ◌+◌, List, [], ◌∷◌, length, map}
 use Rattle.std.specs.declared.ops.Range.{Range}
 use Rattle.typst_base.specs.Mapping.{Mapping}
@@ -8,7 +8,7 @@ use Rattle.typst_node.specs.Mapped.{bytes_from, mapped_label, mapped_warning}
 use Rattle.typst_node.specs.View.{shown_warnings}
 use Rattle.typst_node.specs.declared.node.Warning.{Warning}
 
--- the trees whose joined text begins at this offset, each node with the place of its bytes
+-- adjacent trees whose joined text begins at this offset, each node with the place of its bytes
 abbrev pub mapped_forest : Mapping → ℕ → ℕ → Forest → Forest
 mapped_forest m id start none = none
 mapped_forest m id start (tree l c r) =
@@ -22,11 +22,11 @@ mapped_tree m id start t = record {
   children = mapped_forest m id (start + length (own_text t.label)) t.children;
 }
 
--- the same for a list of trees, one after the other
+-- the same for a list of trees
 abbrev pub mapped_trees : Mapping → ℕ → ℕ → List Tree → List Tree
 mapped_trees m id start [] = []
 mapped_trees m id start (t ∷ ts) = mapped_tree m id start t ∷ mapped_trees m id (start + length (text t)) ts
 
--- the warnings as they are seen, mapped
+-- the warnings in the order of the tree, mapped
 abbrev pub mapped_warnings : Mapping → Range ℕ → List Warning → List WarningText
 mapped_warnings m bytes ws = map (mapped_warning m bytes) (shown_warnings ws)

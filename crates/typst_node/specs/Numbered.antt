@@ -5,22 +5,23 @@ use Rattle.typst_node.specs.Tree.{Label, Forest, none, tree, Tree}
 use Rattle.typst_node.specs.Preorder.{preorder, nodes}
 use Rattle.typst_node.specs.Labels.{number, bound}
 
--- each number is below all later ones
+-- each number is below all numbers after it
 abbrev pub Rise : List ℕ → Type 0
 Rise [] = Unit {0}
 Rise (x ∷ xs) = AllByRecursion (λ y. x < y) xs × Rise xs
 
--- a node's span is of the file, with a number of 2..2^47
+-- a node's span is of the file, with a number in 2..2^47
 abbrev pub IsNumberOf : ℕ → Label → Type 0
 IsNumberOf file l = (l.span.file ≡ file) × (2 ≤ number l) × (number l < 2 ^ 47)
 
--- at most the number of the first of these nodes, if there is one
+-- the number is at most that of the first of these nodes, if there is one
 abbrev pub IsAtMostFirst : ℕ → List Label → Type 0
 IsAtMostFirst n [] = Unit {0}
 IsAtMostFirst n (l ∷ ls) = n ≤ number l
 
--- The bounds of these trees. `limits` are the bounds of their ancestors and 2^47, and `behind` are the nodes after all of them in preorder.
--- Each bound is above every number of its subtree, at most the number of the first node after the subtree, and at most each limit.
+-- The bounds of these trees hold. `limits` are the bounds of their ancestors and 2^47. `behind` are the nodes after all
+-- of them in preorder. Each bound is above every number of its subtree. It is at most the number of the first node
+-- after the subtree, and at most each limit.
 abbrev pub BoundsHold : List ℕ → List Label → Forest → Type 0
 BoundsHold limits behind none = Unit {0}
 BoundsHold limits behind (tree l c r) =
@@ -30,8 +31,9 @@ BoundsHold limits behind (tree l c r) =
     × BoundsHold (bound l ∷ limits) (preorder r ++ behind) c
     × BoundsHold limits behind r
 
--- A tree that is numbered for a file: every span is of the file with a number of 2..2^47, numbers strictly increase in preorder,
--- and each bound is above its subtree, at most what comes after it, and at most each ancestor's bound and 2^47.
+-- A tree that is numbered for a file. Every span is of the file, with a number in 2..2^47. The numbers strictly
+-- increase in preorder. Each bound is above the numbers of its subtree. It is at most the next number after the
+-- subtree, and at most each ancestor's bound and 2^47.
 pub record IsNumberedFor (file : ℕ) (t : Tree) : Type 0 where
   pub in_file : AllByRecursion (IsNumberOf file) (nodes t)
   pub in_order : Rise (map number (nodes t))
@@ -41,10 +43,10 @@ pub record IsNumberedFor (file : ℕ) (t : Tree) : Type 0 where
 abbrev pub IsNumbered : Tree → Type 0
 IsNumbered t = (file : ℕ) × (1 ≤ file) × IsNumberedFor file t
 
--- all numbers of the tree are at least the first and below the second
+-- all numbers of the tree are at least the first number and below the second
 abbrev pub AllIn : ℕ → ℕ → Tree → Type 0
 AllIn start end t = AllByRecursion (λ l. (start ≤ number l) × (number l < end)) (nodes t)
 
--- where the first half of a range ends
+-- the end of the first half of a range
 abbrev pub halfway : ℕ → ℕ → ℕ
 halfway start end = start + (end - start) / 2

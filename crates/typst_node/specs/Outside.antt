@@ -1,32 +1,35 @@
--- Which nodes a replacement leaves alone, and where they stood before.
+-- The nodes that a replacement leaves alone, and their places before it.
 use Rattle.std.specs.Prelude.{ℕ, ◌≡◌, ◌+◌, ◌-◌, ◌<◌, ◌≤◌, ◌==◌, nat_lt, if◌then◌else◌, List, [], ◌∷◌, length}
 use Rattle.typst_node.specs.Tree.{Tree, trees}
 use Rattle.typst_node.specs.Paths.{IsPath, tree_at}
 use Rattle.typst_node.specs.declared.node.replace.Renumbered.{Renumbered}
 
--- a path leads into the subtrees of a window: of the children from one index up to another of the node at a path
+-- a path leads into a window: into a subtree of the children from one index up to another of the node at another path
 abbrev pub IsInWindow : List ℕ → ℕ → ℕ → List ℕ → Type 0
 IsInWindow [] from to [] = ⊥
 IsInWindow [] from to (j ∷ q) = (from ≤ j) × (j < to)
 IsInWindow (i ∷ p) from to [] = ⊥
 IsInWindow (i ∷ p) from to (j ∷ q) = (i ≡ j) × IsInWindow p from to q
 
--- The index that a child had before: after the window it differs by the change in the number of children, from `old` to `new`.
+-- The index that a child had before. After the window it differs by the change in the number of children, from `old` to
+-- `new`.
 abbrev pub old_index : ℕ → ℕ → ℕ → ℕ → ℕ
 old_index to old new j = if nat_lt j to then j else j + old - new
 
--- The place in the old tree of a path of the new one. It is the same path, but for the index of a child of the edited node.
+-- The place that a path of the new tree had in the old tree. It is the same path, except for the index of a child of
+-- the edited node.
 abbrev pub old_place : List ℕ → ℕ → ℕ → ℕ → List ℕ → List ℕ
 old_place [] to old new [] = []
 old_place [] to old new (j ∷ q) = old_index to old new j ∷ q
 old_place (i ∷ p) to old new [] = []
 old_place (i ∷ p) to old new (j ∷ q) = j ∷ (if i == j then old_place p to old new q else q)
 
--- the place in the old tree t of a path of the new tree u, after a replacement at the path p
+-- the place in the old tree t for a path of the new tree u, after a replacement at the path p
 abbrev pub place_before : List ℕ → Renumbered → Tree → Tree → List ℕ → List ℕ
 place_before p r t u q = old_place p r.window.end (length (trees (tree_at p t).children)) (length (trees (tree_at p u).children)) q
 
--- Each node of the new tree u that is in no subtree of the window has the label, and so the span and the bound, that it had at its place in the old tree t.
+-- Each node of the new tree u outside the window's subtrees has the label that it had at its place in the old tree t.
+-- So it has the same span and the same bound.
 abbrev pub KeepsOutside : List ℕ → Renumbered → Tree → Tree → Type 0
 KeepsOutside p r t u =
     (q : List ℕ) → IsPath q u → ¬ (IsInWindow p r.window.start r.window.end q)

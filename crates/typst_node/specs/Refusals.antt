@@ -1,21 +1,26 @@
--- Edits that are refused for want of numbers, whatever memory there is.
-use Rattle.std.specs.Prelude.{ℕ, ◌≡◌, ◌⊎◌, List}
-use Rattle.typst_node.specs.Tree.{Tree, IsInner}
-use Rattle.typst_node.specs.Count.{SumsFit}
-use Rattle.typst_node.specs.Paths.{IsInnerAt, tree_at}
-use Rattle.typst_node.specs.PlainEdit.{edited_at, spliced, TreeFits}
-use Rattle.typst_node.specs.Window.{site_of}
-use Rattle.typst_node.specs.FirstWindow.{HasNoFirst}
+-- The reasons to refuse an edit that fits.
+use Rattle.std.specs.Prelude.{◌-◌, ◌<◌, ◌⊎◌, length}
+use Rattle.typst_node.specs.Tree.{Tree}
+use Rattle.typst_node.specs.Paths.{tree_at}
+use Rattle.typst_node.specs.PlainEdit.{TreeFits}
+use Rattle.typst_node.specs.Edit.{Edit, Fits, IsUnfiled, edited_by, site_by}
+use Rattle.typst_node.specs.FirstWindow.{HasNoFirst, IsCrowded}
+use Rattle.typst_node.specs.declared.node.replace.ReplaceError.{ReplaceError}
+use Rattle.typst_node.specs.declared.node.replace.ReplaceError.TheVariants.{Unnumberable, Overflow, Memory}
 
--- the node has no file id, or no window with room for others in the place of some children
-abbrev pub HasNoRoom : ℕ → ℕ → List Tree → Tree → Type 0
-HasNoRoom from to others t = (t.label.span.file ≡ 0) ⊎ HasNoFirst (site_of from to others t)
+-- the edited node has no file id; or no window of its children has room, and its open numbers are fewer than its nodes
+-- after the edit
+abbrev pub LacksNumbers : Edit → Tree → Type 0
+LacksNumbers e t = IsUnfiled (tree_at e.path t) ⊎ (HasNoFirst (site_by e t) × IsCrowded (site_by e t))
 
--- it is an inner node whose sums fit after the edit, and it has no room
-abbrev pub LacksNumbers : ℕ → ℕ → List Tree → Tree → Type 0
-LacksNumbers from to others t = IsInner t.label.content × SumsFit (spliced from to others t) × HasNoRoom from to others t
-
--- the path leads to an inner node that has no room, and the whole tree's sums fit after the edit
-abbrev pub LacksNumbersAt : List ℕ → ℕ → ℕ → List Tree → Tree → Type 0
-LacksNumbersAt path from to others t =
-    IsInnerAt path t × TreeFits (edited_at path from to others t) × HasNoRoom from to others (tree_at path t)
+-- `Overflow` if the sums don't fit after the edit, else `Unnumberable` if numbers are lacking, else `Memory`, and that
+-- only if the number of children grows
+abbrev pub IsRefusedBy : ReplaceError → Edit → Tree → Type 0
+IsRefusedBy Overflow e t = Fits e t × ¬ (TreeFits (edited_by e t))
+IsRefusedBy Unnumberable e t = Fits e t × TreeFits (edited_by e t) × LacksNumbers e t
+IsRefusedBy Memory e t =
+    Fits e t
+    × TreeFits (edited_by e t)
+    × ¬ (IsUnfiled (tree_at e.path t))
+    × ¬ (HasNoFirst (site_by e t))
+    × (e.to - e.from < length e.others)

@@ -1,4 +1,4 @@
--- What a diagnostic says.
+-- The content of a diagnostic.
 use Rattle.std.specs.Prelude.{map, string_bytes, String}
 use Rattle.std.specs.declared.alloc.Global.{Global}
 use Rattle.typst_base.specs.DiagSpan.{DiagPlace}
@@ -9,7 +9,7 @@ use Rattle.typst_node.specs.declared.node.diagnostics.SyntaxDiagnostic.{SyntaxDi
 abbrev pub placed_hint : Spanned (String Global) DiagPlace → PlacedHint
 placed_hint h = record { text = string_bytes h.v; place = h.span }
 
--- the report that a diagnostic is
+-- the report of a diagnostic
 abbrev pub report : SyntaxDiagnostic → Report
 report d = record {
   is_error = d.is_error;

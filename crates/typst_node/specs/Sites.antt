@@ -1,20 +1,21 @@
--- What the program says of an edit, of the numbers for a window and of the first window.
+-- What the program records of a row of children, of the numbers for a window and of the first window.
 use Rattle.std.specs.Prelude.{ℕ, ◌≡◌, ◌-◌, ◌*◌, ◌≤◌}
 use Rattle.typst_node.specs.Count.{count_of_all}
 use Rattle.typst_node.specs.Window.{Site, reach, trees_in}
 use Rattle.typst_node.specs.WindowNumbers.{open_start, open_count}
 use Rattle.typst_node.specs.Room.{HasRoom}
 use Rattle.typst_node.specs.FirstWindow.{IsFirst}
-use Rattle.typst_node.specs.declared.node.window.Edit.{Edit}
+use Rattle.typst_node.specs.declared.node.window.Row.{Row}
 use Rattle.typst_node.specs.declared.node.window.Numbering.{Numbering}
 use Rattle.typst_node.specs.declared.node.window.Found.{Found}
 
--- the site that an edit speaks of
-abbrev pub site : Edit → Site
+-- the site that a row of children describes
+abbrev pub site : Row → Site
 site e = record { before = e.before.now; changed = e.changed.now; behind = e.behind.now; first = e.first; end = e.end }
 
--- the window with at most w neighbours on each side has room, and these numbers for it fit: in the first half of the open ones, where those are enough
-pub record IsNumbering (s : Site) (w : ℕ) (n : Numbering) : Type 0 where
+-- the window with at most w neighbours on each side has room, and these numbers for it fit; if the open numbers are at
+-- least twice its nodes, the numbers for it are in the first half of the open numbers
+pub record AreNumbersFor (s : Site) (w : ℕ) (n : Numbering) : Type 0 where
   pub room : HasRoom s w
   pub start : n.start ≡ open_start s w
   pub positive : 1 ≤ n.stride
@@ -26,4 +27,4 @@ pub record IsFound (s : Site) (f : Found) : Type 0 where
   pub first : IsFirst s (f.tried - 1)
   pub tried : 1 ≤ f.tried
   pub width : f.width ≡ reach (f.tried - 1)
-  pub numbering : IsNumbering s f.width f.numbering
+  pub numbering : AreNumbersFor s f.width f.numbering

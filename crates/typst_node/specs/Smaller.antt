@@ -10,7 +10,7 @@ use Rattle.typst_node.specs.declared.node.Node.{Node}
 use Rattle.typst_node.specs.declared.node.Node.TheVariants.{Short, Long, Leaf, Inner, Error}
 use Rattle.typst_node.specs.declared.node.SyntaxNode.TheDeep.{deep-Node}
 
--- no tree of a list has more nodes than all of them together
+-- no tree of a list has more nodes than all trees of the list together
 pub most_le-count : (ts : List Tree) → most (λ t. count t + 1) ts ≤ suc (count_of_all ts)
 most_le-count [] = omega arith
 most_le-count (t ∷ ts) = omega (arith, most_le-count ts, length-append (preorder t.children) (preorder (forest ts)))

@@ -1,4 +1,4 @@
--- Trees whose nodes all have one span.
+-- Trees with one span at all nodes.
 use Rattle.std.specs.Prelude.{ℕ, map, None}
 use Rattle.typst_base.specs.Span.{SpanParts}
 use Rattle.typst_node.specs.Tree.{HintText, WarningText, Content, AsLeaf, AsError, AsInner, Label, Forest, none, tree, Tree}
@@ -11,7 +11,7 @@ whole_hint h = record { text = h.text; sub_range = None }
 abbrev pub whole_warning : WarningText → WarningText
 whole_warning w = record { sub_range = None; message = w.message; hints = map whole_hint w.hints }
 
--- an error's hints are about the whole node, and an inner node's bound is this number
+-- the content with an error's hints about the whole node, and with this number as an inner node's bound
 abbrev pub synthesized_content : ℕ → Content → Content
 synthesized_content n (AsLeaf kind text) = AsLeaf kind text
 synthesized_content n (AsError text message hints) = AsError text message (map whole_hint hints)

@@ -1,4 +1,4 @@
--- What a tree tells, whatever its spans and bounds.
+-- What a tree tells apart from its spans and bounds.
 use Rattle.std.specs.Prelude.{ℕ, ◌≡◌, List, length, option_map}
 use Rattle.typst_node.specs.Tree.{Tree}
 use Rattle.typst_node.specs.Preorder.{at}
@@ -8,8 +8,8 @@ use Rattle.typst_node.specs.Diagnosis.{has_error, has_warning}
 use Rattle.typst_node.specs.Entries.{error_entries, warning_entries}
 use Rattle.typst_node.specs.Plain.{plain}
 
--- The trees have one text, one length, one node count, one diagnosis, and the same lists of errors and of warnings, and at each path
--- they have both no node, or nodes with one plain tree.
+-- The trees have the same text, length, node count and diagnosis, and the same lists of errors and of warnings. Each
+-- path leads to a node in both trees or in none, and the two nodes have the same plain tree.
 pub record TellsAs (t u : Tree) : Type 0 where
   pub text : text_of t ≡ text_of u
   pub length : length (text_of t) ≡ length (text_of u)

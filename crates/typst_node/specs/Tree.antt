@@ -1,4 +1,4 @@
--- The syntax tree that a node stands for: a plain tree whose nodes are labelled with spans and bounds.
+-- The syntax tree of a node: a plain tree whose nodes are labelled with spans and bounds.
 use Rattle.std.specs.Prelude.{ℕ, ◌≢◌, List, [], ◌∷◌, Option}
 use Rattle.std.specs.declared.ops.Range.{Range}
 use Rattle.typst_base.specs.Span.{SpanParts, detached}
@@ -16,7 +16,8 @@ pub record WarningText : Type 0 where
   pub message : List ℕ
   pub hints : List HintText
 
--- what a node is without its children: a leaf of a kind with a text, an error with its text, message and hints, or an inner node of a kind with a bound
+-- a node without its children: a leaf of a kind with a text, an error with its text, message and hints, or an inner
+-- node of a kind with a bound
 pub data Content : Type 0 where
   AsLeaf : SyntaxKind → List ℕ → Content
   AsError : List ℕ → List ℕ → List HintText → Content
@@ -28,7 +29,7 @@ pub record Label : Type 0 where
   pub warnings : List WarningText
   pub content : Content
 
--- trees side by side: none, or the first tree's label and children, and the trees after it
+-- adjacent trees: none, or the first tree's label and children, and the trees after it
 pub data Forest : Type 0 where
   none : Forest
   tree : Label → Forest → Forest → Forest
@@ -43,7 +44,7 @@ abbrev pub trees : Forest → List Tree
 trees none = []
 trees (tree l c r) = record { label = l; children = c } ∷ trees r
 
--- the list's trees side by side
+-- the trees of the list as adjacent trees
 abbrev pub forest : List Tree → Forest
 forest [] = none
 forest (t ∷ ts) = tree t.label t.children (forest ts)
@@ -54,7 +55,7 @@ kind_of (AsLeaf kind text) = kind
 kind_of (AsError text message hints) = kinds.Error
 kind_of (AsInner kind bound) = kind
 
--- inner nodes have a list of children, which may be empty
+-- an inner node has a list of children, which may be empty
 abbrev pub IsInner : Content → Type 0
 IsInner (AsLeaf kind text) = ⊥
 IsInner (AsError text message hints) = ⊥

@@ -1,4 +1,4 @@
--- What a node is seen as, and what is kept in it.
+-- The tree that a node represents, and what is kept in the node.
 use Rattle.std.specs.Prelude.{◌≡◌, ◌≢◌, ◌≤◌, ℕ, suc, List, [], length, map, take, reverse, string_bytes, IsUtf8}
 use Rattle.std.specs.List.{list_any}
 use Rattle.typst_base.specs.declared.kind.SyntaxKind.TheVariants as kinds
@@ -21,7 +21,7 @@ hint_text h = record { text = string_bytes h.text; sub_range = h.sub_range }
 abbrev pub warning_text : Warning → WarningText
 warning_text w = record { sub_range = w.sub_range; message = string_bytes w.message; hints = map hint_text w.hints.items }
 
--- the warnings as they are seen, outermost first
+-- the warnings in the order of the tree, outermost first
 abbrev pub shown_warnings : List Warning → List WarningText
 shown_warnings ws = reverse (map warning_text ws)
 
@@ -32,7 +32,7 @@ content (Leaf kind b) = AsLeaf kind (string_bytes b.value.text)
 content (Inner kind len b) = AsInner kind b.value.upper
 content (Error b) = AsError (string_bytes b.value.text) (string_bytes b.value.message) (map hint_text b.value.hints.items)
 
--- the warnings as they are kept, innermost first
+-- the warnings in the order in which they are kept, innermost first
 abbrev pub warnings_in : Node → List Warning
 warnings_in (Short kind len bytes) = []
 warnings_in (Long kind b) = []
@@ -61,7 +61,7 @@ pub record IsMeasured (inner : InnerNode) : Type 0 where
   pub warnings : inner.extras.diagnosis.warnings ≡ list_any is_warned (preorder (forest inner.children.items))
   pub ends : AreEnds inner.extras.ends inner.children.items
 
--- so many of the bytes are a text that fits a leaf itself
+-- the first `len` bytes are a text that a leaf itself can hold
 pub record IsShort (len : ℕ) (bytes : List ℕ) : Type 0 where
   pub fits : len ≤ 21
   pub text : IsUtf8 (take len bytes)

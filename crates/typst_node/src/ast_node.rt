@@ -11,22 +11,22 @@ use typst_base::{Span, SyntaxKind};
 /// A typed view of a node whose kind lies in the view's class, or a placeholder, which has no node.
 ///
 /// A view is a reference, so it is copied freely and lives as long as the tree's borrow.
-/// Accessors of a view whose node lacks a part answer the part's placeholder, so reading a tree never fails.
+/// An accessor whose node lacks a part answers the placeholder of that part, so reading a tree never fails.
 pub trait AstNode<'a>: Copy {
-    // The kinds of the nodes that it views.
+    // The kinds of the nodes that the view can show.
     ghost class: { SyntaxKind → Bool };
 
-    // The node that it views, spans and bounds included; none for a placeholder.
+    // The node of the view, with its spans and bounds. A placeholder has none.
     ghost node_of: { Self → Option Tree };
 
-    // Its kind.
+    // The kind of the view.
     ghost view_kind: { Self → SyntaxKind };
 
-    // The kind of its placeholder.
+    // The kind of the type's placeholder.
     ghost blank: { SyntaxKind };
 
-    // Whether it is the form that this node or placeholder is given,
-    // where a type has several forms of one node.
+    // Whether the view is the form that its node or placeholder has. It matters only for a type with several forms of
+    // one node.
     ghost proper: { Self → Bool } = { λ _. true };
 
     /// The view of a node, if the node's kind lies in the class.
@@ -34,19 +34,19 @@ pub trait AstNode<'a>: Copy {
         ensures in_class { IsSome result ↔ (class (node_kind node.now) ≡ true) }
         ensures view { IfSome result (IsViewOf node_of view_kind proper blank (Some node.now)) };
 
-    /// The node; none for a placeholder.
+    /// The node, or `None` for a placeholder.
     fn to_untyped(self) -> Option<&'a SyntaxNode>
         ensures { option_copied result ≡ node_of self };
 
-    /// The node's span; a detached one for a placeholder.
+    /// The node's span, or a detached span for a placeholder.
     fn span(self) -> Span
         ensures { result ≡ span_or_detached (node_of self) };
 
-    /// The node's kind; for a placeholder the kind that it stands for, which lies in the class.
+    /// The node's kind. For a placeholder it is the kind of the missing node, which lies in the class.
     fn kind(self) -> SyntaxKind
         ensures { result ≡ view_kind self };
 
-    /// The view that stands for a missing node.
+    /// The placeholder, which is the view of a missing node.
     fn placeholder() -> Self
         ensures { IsViewOf node_of view_kind proper blank None result };
 
@@ -57,7 +57,7 @@ pub trait AstNode<'a>: Copy {
     ghost kind_is_node_kind: { (v : Self) → IfSome (node_of v) (λ node. view_kind v ≡ node_kind node) };
 }
 
-/// The node's span, or a detached one where there is no node: what `AstNode::span` answers.
+/// The node's span, or a detached span if there is no node: the answer of `AstNode::span`.
 pub fn span_of(node: Option<&SyntaxNode>) -> Span
     ensures { result ≡ span_or_detached (option_copied node.entry) }
 {

@@ -3,9 +3,9 @@ ghost use Rattle.std.specs.Prelude.{◌≡◌, ◌||◌, ◌&&◌, true, false};
 /// Whether a subtree holds an error, and whether it holds a warning.
 #[derive(Clone, Copy, Debug, PartialEq, Eq, Hash)]
 pub struct Diagnosis {
-    /// Whether the tree has an error at any node.
+    /// Whether any node of the tree is an error.
     pub errors: bool,
-    /// Whether the tree has a warning at any node.
+    /// Whether any node of the tree has a warning.
     pub warnings: bool,
 }
 
@@ -24,7 +24,7 @@ impl Diagnosis {
         self.errors && self.warnings
     }
 
-    /// What two subtrees hold together, member by member.
+    /// The diagnosis of two subtrees together, member by member.
     pub fn or(self, other: Diagnosis) -> Diagnosis
         ensures errors { result.errors ≡ (self.errors || other.errors) }
         ensures warnings { result.warnings ≡ (self.warnings || other.warnings) }

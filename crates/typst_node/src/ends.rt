@@ -1,4 +1,4 @@
-//! Where texts end that stand side by side.
+//! The ends of adjacent texts.
 ghost use Rattle.std.specs.Prelude.{ℕ, ◌∷◌, ◌≡◌, ◌+◌, ◌-◌, ◌*◌, ◌%◌, ◌/◌, ◌^◌, ◌<◌, ◌≤◌, ◌++◌, map, length, take, drop, slice_index, slice_set, replicate, IfOk, IsOk, OnOk, OnErr};
 ghost use Rattle.typst_node.specs.Ends.{ends_seen, moved, starts_in, IsTight};
 
@@ -12,15 +12,16 @@ const BLOCK: usize = 256;
 /// Below this length each end is its own lower 32 bits.
 pub(crate) const LIMIT: usize = 0x1_0000_0000;
 
-/// Where texts end that stand side by side: of each end the lower 32 bits. In contracts it is the list of these numbers.
+/// The ends of adjacent texts. Only the lower 32 bits of each end are kept. In contracts it is the list of these
+/// numbers.
 ///
-/// The ends stand in blocks, and where the blocks begin is kept as ends are. So after a change of a length the rest of
-/// one block is written, and that of one in each layer above it.
+/// The ends are kept in blocks, and the starts of the blocks are kept in the same way. So a change of a length rewrites
+/// only the rest of one block, and the rest of one block in each layer above it.
 #[derive(Drop)]
 pub(crate) struct Ends {
-    // At each place the end, counted from where its block begins.
+    // Each end, counted from the start of its block.
     within: Vec<u32>,
-    // Where the blocks after the first begin, if there are any. Sums wrap, so one may stand for a number below 0.
+    // The starts of the blocks after the first, if there are any. Sums wrap, so a start may represent a number below 0.
     starts: Option<Box<Ends>>,
 }
 
@@ -60,11 +61,12 @@ fn start_of(starts: &Option<Box<Ends>>, block: usize) -> u32
     }
 }
 
-/// Adds a number to those from `from` up to `to`. Sums wrap.
+/// Adds a number to the entries from `from` up to `to`. Sums wrap.
 pub(crate) fn raise(numbers: &mut [u32], from: usize, to: usize, by: u32)
     requires window { from ≤ to }
     requires inside { to ≤ length numbers.old }
-    ensures raised { (k : ℕ) → from ≤ k → k < to → slice_index numbers.new k ≡ (slice_index numbers.old k + by) % 2 ^ 32 }
+    ensures raised { (k : ℕ) → from ≤ k → k < to → slice_index numbers.new k
+        ≡ (slice_index numbers.old k + by) % 2 ^ 32 }
     ensures before { (k : ℕ) → k < from → slice_index numbers.new k ≡ slice_index numbers.old k }
     ensures behind { (k : ℕ) → to ≤ k → slice_index numbers.new k ≡ slice_index numbers.old k }
 {
@@ -73,7 +75,7 @@ pub(crate) fn raise(numbers: &mut [u32], from: usize, to: usize, by: u32)
     }
 }
 
-/// Adds a number to where blocks begin, from one on. Sums wrap.
+/// Adds a number to the starts of the blocks from `from` on. Sums wrap.
 #[cycle(add)]
 fn raise_starts(starts: &mut Option<Box<Ends>>, from: usize, by: u32)
     requires tight { IsTight starts.old }
@@ -81,15 +83,16 @@ fn raise_starts(starts: &mut Option<Box<Ends>>, from: usize, by: u32)
     ensures tight { IsTight starts.new }
     ensures len { length (starts_in starts.new) ≡ length (starts_in starts.old) }
     ensures before { (k : ℕ) → k < from → slice_index (starts_in starts.new) k ≡ slice_index (starts_in starts.old) k }
-    ensures behind { (k : ℕ) → from ≤ k → k < length (starts_in starts.old) → slice_index (starts_in starts.new) k ≡ (slice_index (starts_in starts.old) k + by) % 2 ^ 32 }
+    ensures behind { (k : ℕ) → from ≤ k → k < length (starts_in starts.old)
+        → slice_index (starts_in starts.new) k ≡ (slice_index (starts_in starts.old) k + by) % 2 ^ 32 }
 {
     if let Some(starts) = starts {
         starts.add(from, by);
     }
 }
 
-/// Counts the ends from `to` on, which stood from `from` on before they moved, from where the blocks begin in which they
-/// stand now. It writes only those that passed into another block.
+/// Corrects the ends from index `to` on, which were at the indices from `from` on before they moved. Each end is then
+/// counted from the start of the block that it is in now. It writes only the ends that moved into another block.
 fn recount(within: &mut [u32], starts: &Option<Box<Ends>>, to: usize, from: usize)
     requires inside { to ≤ length within.old }
     requires now { length within.old / 256 ≤ length (starts_in starts.now) }
@@ -114,12 +117,13 @@ fn recount(within: &mut [u32], starts: &Option<Box<Ends>>, to: usize, from: usiz
     }
 }
 
-/// Adds blocks that begin at 0, until so many are after the first.
+/// Adds blocks that begin at 0, until there are `many` after the first.
 #[cycle(grow)]
 fn grow(starts: &mut Option<Box<Ends>>, alloc: Global, many: usize) -> Result<(), AllocError>
     requires { IsTight starts.old }
     ensures tight { IsTight starts.new }
-    ensures ok { OnOk result (starts_in starts.new ≡ starts_in starts.old ++ replicate (many - length (starts_in starts.old)) 0) }
+    ensures ok { OnOk result (starts_in starts.new ≡ starts_in starts.old
+        ++ replicate (many - length (starts_in starts.old)) 0) }
     ensures err { OnErr result (starts_in starts.new ≡ starts_in starts.old) }
     ensures succeeds { many ≤ length (starts_in starts.old) → IsOk result }
 {
@@ -137,7 +141,7 @@ fn grow(starts: &mut Option<Box<Ends>>, alloc: Global, many: usize) -> Result<()
     Ok(())
 }
 
-/// Keeps where the first blocks after the very first begin, so many.
+/// Keeps the starts of the first `many` blocks after the very first block.
 #[cycle(keep)]
 fn keep(starts: &mut Option<Box<Ends>>, many: usize)
     requires { many ≤ length (starts_in starts.old) }
@@ -152,7 +156,7 @@ fn keep(starts: &mut Option<Box<Ends>>, many: usize)
 }
 
 impl Ends {
-    /// These ends.
+    /// The given ends, kept in blocks.
     pub(crate) fn new(ends: Vec<u32>) -> Result<Ends, AllocError>
         ensures { IfOk result (λ e. e ≡ ends.items) }
     {
@@ -164,7 +168,7 @@ impl Ends {
         })
     }
 
-    /// The end at a place. It takes one addition for each layer.
+    /// The end at an index. It takes one addition for each layer.
     #[cycle(get)]
     pub(crate) fn get(&self, index: usize) -> u32
         requires { index < length self.now }
@@ -173,7 +177,7 @@ impl Ends {
         start_of(&self.starts, index / BLOCK).wrapping_add(self.within[index])
     }
 
-    /// Writes the end at a place.
+    /// Writes the end at an index.
     pub(crate) fn set(&mut self, index: usize, end: u32)
         requires { index < length self.old }
         ensures { self.new ≡ slice_set self.old index end }
@@ -182,13 +186,14 @@ impl Ends {
         self.within[index] = end.wrapping_sub(start);
     }
 
-    /// Adds a number to all from a place on. Sums wrap.
+    /// Adds a number to all ends from an index on. Sums wrap.
     #[cycle(add)]
     fn add(&mut self, from: usize, by: u32)
         requires { from ≤ length self.old }
         ensures len { length self.new ≡ length self.old }
         ensures before { (k : ℕ) → k < from → slice_index self.new k ≡ slice_index self.old k }
-        ensures behind { (k : ℕ) → from ≤ k → k < length self.old → slice_index self.new k ≡ (slice_index self.old k + by) % 2 ^ 32 }
+        ensures behind { (k : ℕ) → from ≤ k → k < length self.old
+            → slice_index self.new k ≡ (slice_index self.old k + by) % 2 ^ 32 }
     {
         let block = from / BLOCK;
         let stop = self.within.len().min((block + 1) * BLOCK);
@@ -196,7 +201,7 @@ impl Ends {
         raise_starts(&mut self.starts, block, by);
     }
 
-    /// Moves the ends from one on by the difference of two lengths. Sums wrap.
+    /// Moves the ends from an index on by the difference of two lengths. Sums wrap.
     pub(crate) fn shift(&mut self, from: usize, gone: usize, added: usize)
         requires { from ≤ length self.old }
         ensures before { take from self.new ≡ take from self.old }
@@ -205,7 +210,7 @@ impl Ends {
         self.add(from, low(added).wrapping_sub(low(gone)));
     }
 
-    /// Writes 0 at each place from one on.
+    /// Writes 0 at each index from `from` on.
     fn clear(&mut self, from: usize)
         requires { from ≤ length self.old }
         ensures { self.new ≡ take from self.old ++ replicate (length self.old - from) 0 }
@@ -215,7 +220,7 @@ impl Ends {
         }
     }
 
-    /// Keeps the first ones, so many.
+    /// Keeps the first `many` ends.
     #[cycle(keep)]
     fn truncate(&mut self, many: usize)
         ensures { self.new ≡ take many self.old }
@@ -225,7 +230,7 @@ impl Ends {
         keep(&mut self.starts, blocks);
     }
 
-    /// Adds zeros, until there are so many.
+    /// Adds zeros until there are `many` ends.
     #[cycle(grow)]
     fn extend(&mut self, many: usize) -> Result<(), AllocError>
         ensures ok { OnOk result (self.new ≡ self.old ++ replicate (many - length self.old) 0) }
@@ -243,8 +248,8 @@ impl Ends {
         Ok(())
     }
 
-    /// Makes place for `many` ends where those from `from` up to `to` stand: those before and after stay. It takes memory
-    /// only where there are more ends then, and leaves them as they were where that is refused.
+    /// Makes room for `many` ends in place of those from `from` up to `to`. The ends before and after them stay. It
+    /// takes memory only if there are more ends then. If memory is refused, the ends are unchanged.
     pub(crate) fn make_place(
         &mut self,
         from: usize,
@@ -267,7 +272,7 @@ impl Ends {
         let count = self.within.len();
         let blocks = (count - (to - from) + many) / BLOCK;
         if to == count && blocks == count / BLOCK {
-            // None stands behind, and no block begins or goes.
+            // No end comes after these, and the number of blocks stays.
             let _ = self.within.resize(from + many, 0);
             return Ok(());
         }
@@ -278,7 +283,7 @@ impl Ends {
         Ok(())
     }
 
-    /// The same ends.
+    /// A copy of these ends.
     #[inline(never)]
     pub(crate) fn copy(&self) -> Result<Ends, AllocError>
         ensures { IfOk result (λ e. e ≡ self.now) }

@@ -39,10 +39,10 @@ mod trim;
 pub mod warn;
 mod window;
 
-/// A node of a syntax tree: a leaf, an inner node or an error, under any number of warnings.
+/// A node of a syntax tree: a leaf, an inner node or an error, with any number of warnings.
 ///
-/// In contracts it is the tree that it stands for, with its spans and bounds. Lengths, node counts, diagnoses and
-/// the ends of children are kept in inner nodes, and no contract speaks of them: they are what the tree measures.
+/// In contracts it is the tree whose root it is, with its spans and bounds. Inner nodes keep lengths, node counts,
+/// diagnoses and the ends of children. No contract speaks of these: they are what the tree measures.
 #[cycle(node)]
 pub struct SyntaxNode {
     node: Node,
@@ -53,20 +53,22 @@ pub struct SyntaxNode {
 #[cycle(node)]
 #[derive(Drop)]
 enum Node {
-    // A leaf without warnings that holds its text itself: how many of the bytes are the text's, and the bytes. They stand here one
-    // by one, not in a struct of their own, since the compiler then moves a node as a whole, and else by moves that overlap.
+    // A leaf without warnings that holds its text itself: the number of bytes of the text, and the bytes. These are
+    // separate fields and not a struct, because the compiler then moves a node as a whole. It would move a struct by
+    // moves that overlap.
     Short(SyntaxKind, u8, [u8; LONGEST]),
-    // A leaf without warnings whose text is longer.
+    // A leaf without warnings that has a longer text.
     Long(SyntaxKind, Box<String>),
-    // A leaf that got warnings. The kinds of leaves and inner nodes stand here, at one place, so that they are read without a box.
+    // A leaf with warnings. The kinds of leaves and inner nodes are here, at one place, so that reading them reads no
+    // box.
     Leaf(SyntaxKind, Box<LeafNode>),
-    // The length of the text in bytes stands here, so that it is read without the box.
+    // The length of the text in bytes is here, so that reading it reads no box.
     Inner(SyntaxKind, usize, Box<InnerNode>),
     Error(Box<ErrorNode>),
 }
 
-/// An inner node without its kind and the length of its text. The number of nodes, the diagnosis and the ends are those of its
-/// children.
+/// An inner node without its kind and the length of its text. The number of nodes, the diagnosis and the ends agree
+/// with its children.
 #[cycle(node)]
 #[derive(Drop)]
 struct InnerNode {
@@ -75,7 +77,7 @@ struct InnerNode {
     // The bound: above every number of the subtree, once it is numbered.
     upper: u64,
     children: Vec<SyntaxNode>,
-    // The diagnosis, where the texts of the children end, unless they are few, and the warnings.
+    // The diagnosis, the ends of the children's texts, unless there are few children, and the warnings.
     extras: Extras,
 }
 
@@ -87,7 +89,7 @@ struct LeafNode {
     warnings: Vec<Warning>,
 }
 
-/// What is said of a text that is no syntax.
+/// A text that is not syntax, with the error about it.
 #[derive(Drop)]
 struct ErrorNode {
     text: String,
@@ -97,7 +99,7 @@ struct ErrorNode {
     warnings: Vec<Warning>,
 }
 
-/// What is said of a node that is syntax, but dubious.
+/// A message about a node that is syntax, but dubious.
 #[derive(Drop)]
 struct Warning {
     sub_range: Option<SubRange>,
@@ -105,7 +107,7 @@ struct Warning {
     hints: Vec<Hint>,
 }
 
-/// How to mend an error or what a warning is about.
+/// A suggestion for fixing an error or the cause of a warning.
 #[derive(Drop)]
 struct Hint {
     text: String,
@@ -134,7 +136,7 @@ impl Model for SyntaxNode {
     ghost size_decreases = { λ a h. children_are_smaller a.node };
 }
 
-// By hand, so that crates above call this one and don't each prove how a whole tree is let go.
+// By hand, so that crates above call this one and don't each prove how a whole tree is dropped.
 impl Drop for SyntaxNode {
     #[cycle(drop_node)]
     fn drop(self) {
@@ -153,8 +155,8 @@ impl Drop for SyntaxNode {
     }
 }
 
-// What a box holds is taken out of it when it goes. These calls have that on their own stack, so that a level of a deep tree
-// takes less while it is dropped.
+// These calls move what a box holds onto their own stack before they drop it. So a level of a deep tree takes less
+// stack while the tree is dropped.
 impl InnerNode {
     #[cycle(drop_node)]
     #[inline(never)]
@@ -174,7 +176,7 @@ impl ErrorNode {
     fn let_go(self: Box<Self>) {}
 }
 
-/// The joined length of trees that fit a usize together.
+/// The joined length of trees. It fits a usize.
 fn joined_len(nodes: &[SyntaxNode]) -> usize
     requires { length (text_of_all nodes.now) < 2 ^ 64 }
     ensures { result ≡ length (text_of_all nodes.now) }
@@ -187,8 +189,8 @@ fn joined_len(nodes: &[SyntaxNode]) -> usize
 }
 
 impl InnerNode {
-    /// Where the text of a child ends, of children that are `len` bytes long together: it is read where it is kept whole, and
-    /// else counted from the nearer end of the list.
+    /// Where the text of a child ends, if the children are `len` bytes long together. It reads the end if the whole end
+    /// is kept. Otherwise it counts from the nearer end of the list.
     fn child_end(&self, len: usize, index: usize) -> usize
         requires len { len ≡ length (text_of_all self.now.children.items) }
         requires measured { IsMeasured self.now }
@@ -204,7 +206,7 @@ impl InnerNode {
 }
 
 impl Node {
-    /// The warnings round the node, from the innermost to the outermost.
+    /// The warnings about the node, from the innermost to the outermost.
     fn warnings(&self) -> &[Warning]
         ensures { result.now ≡ warnings_in self.now }
     {
@@ -219,16 +221,16 @@ impl Node {
 
 /// # What the node is
 impl SyntaxNode {
-    /// The node's kind, whatever its warnings. It is `Error` for errors alone.
+    /// The node's kind, with or without warnings. Only an error has the kind `Error`.
     pub fn kind(&self) -> SyntaxKind
         ensures kind { result ≡ kind_of self.now.label.content }
         ensures error { (result ≡ Error) ↔ IsTrue (is_error self.now.label) }
     {
         match &self.node {
-            Node::Short(kind, ..) => *kind,
-            Node::Long(kind, _) => *kind,
-            Node::Leaf(kind, _) => *kind,
-            Node::Inner(kind, _, _) => *kind,
+            Node::Short(kind, ..)
+            | Node::Long(kind, _)
+            | Node::Leaf(kind, _)
+            | Node::Inner(kind, _, _) => *kind,
             Node::Error(_) => SyntaxKind::Error,
         }
     }
@@ -251,15 +253,15 @@ impl SyntaxNode {
         matches!(&self.node, Node::Inner(..))
     }
 
-    /// The node's span: detached until the tree is numbered or synthesized.
+    /// The node's span. It is detached until the tree is numbered or synthesized.
     pub fn span(&self) -> Span
         ensures { result ≡ self.now.label.span }
     {
         self.span
     }
 
-    /// An inner node's bound, a node number above those of its subtree, and of a leaf or an error its own number
-    /// plus one.
+    /// An inner node's bound: a node number above those of its subtree. For a leaf or an error it is the node's own
+    /// number plus one.
     pub fn upper(&self) -> u64
         ensures { result ≡ bound self.now.label }
     {
@@ -272,7 +274,7 @@ impl SyntaxNode {
     }
 }
 
-/// # What stands at the node and below it
+/// # The node and the nodes below it
 impl SyntaxNode {
     /// The length of the text of all leaves and errors, in bytes. It takes constant time.
     pub fn len(&self) -> usize
@@ -312,7 +314,7 @@ impl SyntaxNode {
         self.measures().diagnosis
     }
 
-    /// The text of a leaf or an error, and an empty one for an inner node.
+    /// The text of a leaf or an error, and an empty text for an inner node.
     pub fn leaf_text(&self) -> &str
         ensures { result.now ≡ own_text self.now.label }
     {
@@ -325,7 +327,7 @@ impl SyntaxNode {
         }
     }
 
-    /// The text of all leaves and errors in order. It fails only where memory runs out.
+    /// The text of all leaves and errors in order. It fails only if memory runs out.
     pub fn full_text(&self, alloc: Global) -> Result<String, AllocError>
         ensures { IfOk result (λ s. string_bytes s ≡ text self.now) }
     {
@@ -339,28 +341,28 @@ impl SyntaxNode {
         ensures { OnOk result (string_bytes out.new ≡ string_bytes out.old ++ text self.now) }
     {
         match &self.node {
-            Node::Short(_, len, bytes) => out.push_str(text_in(*len, bytes)),
-            Node::Long(_, text) => out.push_str(text.as_str()),
-            Node::Leaf(_, leaf) => out.push_str(leaf.text.as_str()),
+            Node::Short(..) | Node::Long(..) | Node::Leaf(..) | Node::Error(_) => {
+                out.push_str(self.leaf_text())
+            }
             Node::Inner(_, _, inner) => {
                 for child in &inner.children {
                     child.push_text(out)?;
                 }
                 Ok(())
             }
-            Node::Error(error) => out.push_str(error.text.as_str()),
         }
     }
 
-    /// The node's children in order, from either end. A leaf or an error has none.
+    /// The node's children in order. They can be read from both ends. A leaf or an error has none.
     pub fn children(&self) -> slice::Iter<'_, SyntaxNode>
-        ensures { iter_rest result ≡ trees self.now.children }
+        ensures children { iter_rest result ≡ trees self.now.children }
+        ensures inner_only { ¬ (IsInner self.now.label.content) → iter_rest result ≡ [] }
     {
         self.child_slice().iter()
     }
 
-    /// The node's children in order, side by side in memory. A leaf or an error has none. A child is read by its
-    /// index in constant time.
+    /// The node's children in order, as a slice. A leaf or an error has none. Reading a child by its index takes
+    /// constant time.
     #[tactic(auto, using(crate::proofs::Trees::trees_of_forest))]
     pub fn child_slice(&self) -> &[SyntaxNode]
         ensures children { result.now ≡ trees self.now.children }
@@ -372,10 +374,12 @@ impl SyntaxNode {
         }
     }
 
-    /// Where the text of a child ends, in bytes from the beginning of this node's text: the joined length of the
-    /// children up to and with that one. `index` is a child index. In a node of up to ten children it is counted from the
-    /// nearer end of the list, over at most five lengths. In one of more an end is read, with one addition, two from 256
-    /// children on, and three from 65,536 on; where the node's text has 4 GB or more it is counted there, too.
+    /// Where the text of a child ends, in bytes from the beginning of this node's text. This is the joined length of
+    /// the children up to and including that child. `index` is a child index.
+    ///
+    /// In a node of up to ten children it is counted from the nearer end of the list, over at most five lengths. In a
+    /// node of more children it is read, with one addition. From 256 children on, it takes two additions, and from
+    /// 65,536 on, three. If the node's text has 4 GB or more, it is counted in such a node, too.
     #[tactic(auto, using(crate::proofs::Trees::trees_of_forest))]
     pub fn child_end(&self, index: usize) -> usize
         requires { index < length (trees self.now.children) }

@@ -5,7 +5,7 @@ ghost use Rattle.typst_node.specs.View.{IsShort};
 /// The length of the longest short text in bytes.
 pub(crate) const LONGEST: usize = 21;
 
-/// The bytes of a text of at most `LONGEST` bytes, with zeros behind them.
+/// The bytes of a text of at most `LONGEST` bytes, with zeros after them.
 pub(crate) fn bytes_of(text: &str) -> [u8; LONGEST]
     requires { length text.now ≤ 21 }
     ensures { take (length text.now) result ≡ text.now }
@@ -15,7 +15,7 @@ pub(crate) fn bytes_of(text: &str) -> [u8; LONGEST]
     bytes
 }
 
-/// The text that so many of the bytes are. Those after them say nothing.
+/// The text in the first `len` bytes. The bytes after them have no meaning.
 pub(crate) fn text_in(len: u8, bytes: &[u8; LONGEST]) -> &str
     requires { IsShort len bytes.now }
     ensures { result.now ≡ take len bytes.now }
@@ -23,7 +23,7 @@ pub(crate) fn text_in(len: u8, bytes: &[u8; LONGEST]) -> &str
     unsafe { std::str::from_utf8_unchecked(&bytes[..len as usize]) }
 }
 
-/// The length in bytes of the text that so many of the bytes are.
+/// The length in bytes of the text in the first `len` bytes.
 pub(crate) fn len_in(len: u8, bytes: &[u8; LONGEST]) -> usize
     requires { IsShort len bytes.now }
     ensures { result ≡ length (take len bytes.now) }

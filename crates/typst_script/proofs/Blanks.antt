@@ -1,4 +1,4 @@
--- Where the first blank of a text parts it, and that numbers have none.
+-- Where the first blank of a text splits it, and that numbers have no blank.
 use Rattle.std.specs.Prelude.{ℕ, ◌≡◌, ◌≢◌, ◌<◌, List, ◌∷◌, Option, None, Some, IfSome, IsSomeAnd, Contains, true, not, ◌==◌, length, [], codes, refl, zero, suc}
 use Rattle.std.specs.List.{list_all}
 use Rattle.std.specs.Str.Parse.{AllDigits}
@@ -13,7 +13,7 @@ use Rattle.std.proofs.lemmas.Str.Pattern.{IsSplitOnceResult, split_parts, split_
 use Rattle.typst_script.specs.Path.{dot, IsIndices, IsPathWord}
 use Rattle.typst_script.specs.Word.{blank, IsSplit, IsSplitAt}
 
--- a list that has a byte at no index has none
+-- a list that has a byte at no index doesn't contain it
 has_none : (byte : ℕ) (xs : List ℕ) → ((i : ℕ) → i < length xs → get_or xs i 0 ≢ byte) → ¬ (Contains xs byte)
 has_none byte xs h (i, within, is) = h i within (get_or_default xs i 0 byte within ∙ is)
 
@@ -45,7 +45,7 @@ no_dot_in_digits word digits = has_none 46 word (λ i within is. omega (arith, d
 pub no_blank_in_digits : (word : List ℕ) → AllDigits 10 word → ¬ (Contains word blank)
 no_blank_in_digits word digits = has_no_blank word (λ i within is. omega (arith, digit_at word i digits within, is))
 
--- a word that is written out has no blank where a test of its bytes finds none
+-- a word that is written out has no blank if a test of its bytes finds none
 pub no_blank_by_test : (word : List ℕ) → list_all (λ byte. not (byte == blank)) word ≡ true → ¬ (Contains word blank)
 no_blank_by_test word test (i, within, is) = grind (arith, common_steps, AllPass-from_list_all (λ byte. not (byte == blank)) word test i blank within, is)
 
@@ -53,7 +53,7 @@ no_blank_by_test word test (i, within, is) = grind (arith, common_steps, AllPass
 pub blank_of_split : (text word rest : List ℕ) → IsSplit text word rest → Contains text blank
 blank_of_split text word rest (is, none) = rw is (length word, omega (arith, length-append word (blank ∷ rest)), get_or-append_seam word blank rest blank)
 
--- a blank after a dot stands further on
+-- a blank after a dot has a higher index
 no_blank_behind_dot : (others : List ℕ) → ¬ (Contains others blank) → ¬ (Contains (dot ∷ others) blank)
 no_blank_behind_dot others none (zero, within, is) = omega (arith, is)
 no_blank_behind_dot others none (suc i, within, is) = none (i, omega (arith, within), is)

@@ -1,5 +1,5 @@
 -- Words that are numbers joined by dots.
-use Rattle.std.specs.Prelude.{ℕ, ◌≡◌, List, [], ◌∷◌, length, refl, Contains, Option, Some, None, IfSome, IsSome}
+use Rattle.std.specs.Prelude.{ℕ, ◌≡◌, ◌<◌, List, [], ◌∷◌, length, refl, Contains, Option, Some, None, IfSome, IsSome}
 use Rattle.std.proofs.Common.{arith, length-append}
 use Rattle.std.proofs.lemmas.Grind.{common_steps}
 use Rattle.std.proofs.Math.Seq.{get_or-append_seam}
@@ -18,7 +18,7 @@ single_index (n ∷ m ∷ more) word none (first, others, joined, number, rest) 
 dot_of_split : (word first rest : List ℕ) → IsSplitAt dot word first rest → Contains word dot
 dot_of_split word first rest (is, none) = rw is (length first, omega (arith, length-append first (dot ∷ rest)), get_or-append_seam first dot rest dot)
 
--- the part before the first dot is the first number, and what stands after it is the others
+-- the part before the first dot is the first number, and the part after the dot is the others
 pub first_index : (indices word first rest : List ℕ) → IsSplitAt dot word first rest
     → ((f r : List ℕ) → IsSplitAt dot word f r → (first ≡ f) × (rest ≡ r)) → IsIndices indices word
     → (n : ℕ) × (more : List ℕ) × (indices ≡ n ∷ more) × IsNumber first n × IsIndices more rest
@@ -34,7 +34,11 @@ pub joined_indices : (more word first rest : List ℕ) (n : ℕ) → IsSplitAt d
 joined_indices [] word first rest n split number h = absurd h
 joined_indices (m ∷ more) word first rest n split number h = (first, rest, split.0, number, h)
 
--- an answer that is there has what every answer has
+-- the part after the first dot is shorter than the word
+pub shorter_rest : (word first rest : List ℕ) → IsSplitAt dot word first rest → length rest < length word
+shorter_rest word first rest (is, none) = rw is (omega (arith, length-append first (dot ∷ rest)))
+
+-- what holds for every answer holds for an answer that is there
 pub value_of : (P : ℕ → Type 0) (answer : Option ℕ) → IfSome answer P → IsSome answer → (n : ℕ) × P n
 value_of P None has there = absurd (grind (arith, common_steps, there))
 value_of P (Some n) has there = (n, has)

@@ -1,4 +1,3 @@
-pub mod FaultsApart
 pub mod Blanks
 pub mod Indices
 pub mod KindTable

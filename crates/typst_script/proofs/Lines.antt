@@ -1,4 +1,4 @@
--- What follows from that a line is a command's.
+-- What follows if a line is the line of a command.
 use Rattle.std.specs.Prelude.{ℕ, ◌≡◌, ◌≢◌, ◌<◌, ◌≤◌, List, ◌∷◌, ◌++◌, codes, refl}
 use Rattle.std.proofs.Common.{arith, ap, drop, get_or}
 use Rattle.typst_base.specs.declared.kind.SyntaxKind.{SyntaxKind}
@@ -144,14 +144,14 @@ replace_rest Root rest is = absurd (other_second _ _ is (omega arith))
 replace_rest (Number file low high) rest (word, from, to, is, number, low_number, high_number, low_fits, high_fits) = absurd (other_head _ _ is (omega arith))
 replace_rest (Replace path start end count) rest (from, to, other, is, a_path, start_number, end_number, count_number) =
     record {
-      path = path.now;
+      path = path.word.now;
       from = from;
       to = to;
       other = other;
       start = start;
       end_ = end;
       count = count;
-      split = (ap (drop 8) is, no_blank_in_path path.now a_path);
+      split = (ap (drop 8) is, no_blank_in_path path.word.now a_path);
       split_range = (refl, no_blank_in_digits from start_number.0.1);
       split_end = (refl, no_blank_in_digits to end_number.0.1);
       a_path = a_path;
@@ -198,7 +198,7 @@ find_rest (Find file num) rest (word, other, is, number, num_number, low_fits, h
 find_rest Run rest is = absurd (other_head _ _ is (omega arith))
 find_rest Show rest is = absurd (other_head _ _ is (omega arith))
 
--- the first word of a line that is a command's is the command's, where the line has a blank
+-- if a line is a command's and has a blank, its first word is the command's
 pub no_other_word : (command : Command) (line word rest : List ℕ)
     → ((w r : List ℕ) → IsSplit line w r → (word ≡ w) × (rest ≡ r)) → IsSplit line word rest
     → word ≢ codes "leaf" → word ≢ codes "error" → word ≢ codes "warn" → word ≢ codes "inner" → word ≢ codes "number" → word ≢ codes "replace" → word ≢ codes "find" → ¬ (IsLineOf command line)
@@ -223,7 +223,7 @@ no_other_word Run line word rest only split no_leaf no_error no_warn no_inner no
 no_other_word Show line word rest only split no_leaf no_error no_warn no_inner no_number no_replace no_find is =
     no_blank_by_test (codes "show") refl (rw is at (blank_of_split line word rest split))
 
--- a line without a blank that is a command's is one of three words
+-- if a line is a command's and has no blank, it is one of three words
 pub lone_line : (P : Type 0) (command : Command) (line : List ℕ) → ((w r : List ℕ) → IsSplit line w r → ⊥)
     → (line ≡ codes "root" → P) → (line ≡ codes "run" → P) → (line ≡ codes "show" → P) → IsLineOf command line → P
 lone_line P (Leaf kind text) line lone root run show (k, is, number) = absurd (lone (codes "leaf") _ (is, no_blank_by_test (codes "leaf") refl))

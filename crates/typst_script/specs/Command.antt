@@ -21,8 +21,8 @@ IsLineOf (Number file low high) line =
     × IsFileNumber word file × IsNumber from low × IsNumber to high × (2 ≤ low) × (high ≤ 2 ^ 47)
 IsLineOf (Replace path start end count) line =
     (from : List ℕ) × (to : List ℕ) × (other : List ℕ)
-    × (line ≡ codes "replace " ++ path.now ++ blank ∷ (from ++ blank ∷ (to ++ blank ∷ other)))
-    × IsPathWord path.now × IsNumber from start × IsNumber to end × IsNumber other count
+    × (line ≡ codes "replace " ++ path.word.now ++ blank ∷ (from ++ blank ∷ (to ++ blank ∷ other)))
+    × IsPathWord path.word.now × IsNumber from start × IsNumber to end × IsNumber other count
 IsLineOf (Find file number) line =
     (word : List ℕ) × (other : List ℕ) × (line ≡ codes "find " ++ word ++ blank ∷ other)
     × IsFileNumber word file × IsNumber other number × (2 ≤ number) × (number < 2 ^ 47)

@@ -1,8 +1,7 @@
--- What a command does with the stack of nodes, with the tree and with the queue.
-use Rattle.std.specs.Prelude.{ℕ, ◌≡◌, ◌-◌, ◌<◌, ◌≤◌, ◌≢◌, ◌⊎◌, List, [], ◌∷◌, ◌++◌, length, take, drop, IsSome, IsSomeAnd, None, ⊤}
-use Rattle.typst_node.specs.Count.{count}
-use Rattle.typst_node.specs.Numbered.{IsNumbered, IsNumberedFor, AllIn}
-use Rattle.typst_node.specs.Plain.{plain}
+-- What a command does with the stack of nodes, the tree and the queue.
+use Rattle.std.specs.Prelude.{ℕ, ◌≡◌, ◌-◌, ◌≤◌, ◌≢◌, List, [], ◌∷◌, ◌++◌, length, take, drop, IsSome, IsSomeAnd, None, ⊤}
+use Rattle.typst_node.specs.Numbered.{IsNumbered}
+use Rattle.typst_node.specs.Numbering.{IsNumbering, IsTooShort}
 use Rattle.typst_node.specs.Tree.{Tree, leaf_tree, inner_tree}
 use Rattle.typst_base.specs.Span.{numbered}
 use Rattle.typst_node.specs.Hints.{error_tree}
@@ -16,17 +15,12 @@ use Rattle.typst_script.specs.declared.command.Command.{Command}
 use Rattle.typst_script.specs.declared.command.Command.TheVariants.{Leaf, Error, Warn, Inner, Root, Number, Replace, Find, Run, Show}
 use Rattle.typst_script.specs.declared.interpreter.Interpreter.{Interpreter}
 
--- the range is empty, or has fewer numbers than the tree has nodes
-abbrev pub IsTooShort : Tree → ℕ → ℕ → Type 0
-IsTooShort tree low high = (high ≤ low) ⊎ (high - low < count tree)
+-- the tree is numbered for the file within the range, or stays as it was if the range is too short
+abbrev pub NumbersOrStays : ℕ → ℕ → ℕ → Tree → Tree → Type 0
+NumbersOrStays file low high old new =
+    (IsTooShort old low high → new ≡ old) × (¬ (IsTooShort old low high) → IsNumbering file low high old new)
 
--- the tree is numbered for the file within the range, spans and bounds aside the same, or as it was for too short a range
-abbrev pub IsNumbering : ℕ → ℕ → ℕ → Tree → Tree → Type 0
-IsNumbering file low high old new =
-    (IsTooShort old low high → new ≡ old)
-    × (¬ (IsTooShort old low high) → IsNumberedFor file new × AllIn low high new × (plain new ≡ plain old))
-
--- the slot asks for these nodes in place of the children from one index to another at a path
+-- the slot asks that these nodes replace the children from one index to another at a path
 abbrev pub AsksReplace : List ℕ → ℕ → ℕ → List Tree → Slot → Type 0
 AsksReplace word start end nodes (Ask (AskReplace path range others)) =
     IsPathOf path.items word × (range.start ≡ start) × (range.end ≡ end) × (others.items ≡ nodes)
@@ -55,13 +49,13 @@ IsDone Root old new =
     × (new.queue.items ≡ old.queue.items)
 IsDone (Number file low high) old new =
     (new.stack.items ≡ old.stack.items)
-    × IsSomeAnd old.tree (λ before. IsSomeAnd new.tree (λ after. IsNumbering file low high before after))
+    × IsSomeAnd old.tree (λ before. IsSomeAnd new.tree (λ after. NumbersOrStays file low high before after))
     × (new.queue.items ≡ old.queue.items)
 IsDone (Replace path start end popped) old new =
     let rest = length old.stack.items - popped in
     (popped ≤ length old.stack.items) × (new.stack.items ≡ take rest old.stack.items) × (new.tree ≡ old.tree)
     × ((slot : Slot) × (new.queue.items ≡ old.queue.items ++ slot ∷ [])
-    × AsksReplace path.now start end (drop rest old.stack.items) slot)
+    × AsksReplace path.word.now start end (drop rest old.stack.items) slot)
 IsDone (Find file number) old new =
     (new.stack.items ≡ old.stack.items) × (new.tree ≡ old.tree)
     × (new.queue.items ≡ old.queue.items ++ Ask (AskFind (numbered file number)) ∷ [])

@@ -2,8 +2,6 @@
 use Rattle.std.specs.Prelude.{ℕ, ◌≡◌, ◌⊎◌}
 use Rattle.typst_script.specs.declared.fault.Fault.{Fault}
 use Rattle.typst_script.specs.declared.fault.Fault.TheVariants.{BadCommand, Read, Write, Memory, Overflow}
-use Rattle.typst_node.specs.declared.node.build.InnerError.{InnerError}
-use Rattle.typst_node.specs.declared.node.build.InnerError.TheVariants.{Overflow as TooLarge, Memory as NoMemory}
 
 -- the status is 2 after a line that can't be done, and 1 after every other fault
 abbrev pub status_of : Fault → ℕ
@@ -13,15 +11,10 @@ status_of Write = 1
 status_of Memory = 1
 status_of Overflow = 1
 
--- what a script ends with where an inner node can't be made
-abbrev pub fault_of : InnerError → Fault
-fault_of TooLarge = Overflow
-fault_of NoMemory = Memory
-
--- a fault of writing, or want of memory
+-- a fault of writing, or of memory
 abbrev pub IsWriteFault : Fault → Type 0
 IsWriteFault fault = (fault ≡ Write) ⊎ (fault ≡ Memory)
 
--- a fault of reading, or want of memory
+-- a fault of reading, or of memory
 abbrev pub IsReadFault : Fault → Type 0
 IsReadFault fault = (fault ≡ Read) ⊎ (fault ≡ Memory)

@@ -1,4 +1,5 @@
 pub mod Command
+pub mod CommandError
 pub mod Done
 pub mod Fails
 pub mod Fault

@@ -2,7 +2,7 @@
 use Rattle.std.specs.Prelude.{ℕ, ◌≡◌, ◌⊎◌, List, [], ◌∷◌, ◌++◌, codes}
 use Rattle.typst_script.specs.Word.{IsNumber}
 
--- what parts the child indices of a path
+-- the byte between the child indices of a path
 abbrev pub dot : ℕ
 dot = 46
 
@@ -13,7 +13,11 @@ IsIndices (n ∷ []) word = IsNumber word n
 IsIndices (n ∷ m ∷ more) word =
     (first : List ℕ) × (others : List ℕ) × (word ≡ first ++ dot ∷ others) × IsNumber first n × IsIndices (m ∷ more) others
 
--- the word is the path with these child indices, or `-` for that of the root
+-- the word is child indices joined by dots
+abbrev pub AreIndices : List ℕ → Type 0
+AreIndices word = (indices : List ℕ) × IsIndices indices word
+
+-- the word is the path with these child indices, or `-` for the path of the root
 abbrev pub IsPathOf : List ℕ → List ℕ → Type 0
 IsPathOf path word = ((path ≡ []) × (word ≡ codes "-")) ⊎ IsIndices path word
 

@@ -5,11 +5,11 @@ use Rattle.typst_base.specs.KindNumber.{number_of}
 use Rattle.typst_base.specs.declared.kind.SyntaxKind.{SyntaxKind}
 use Rattle.typst_base.specs.declared.kind.SyntaxKind.TheVariants.{Error}
 
--- what parts the words of a line
+-- the byte between the words of a line
 abbrev pub blank : ℕ
 blank = 32
 
--- what parts the message of an error from its text
+-- the byte between the message of an error and its text
 abbrev pub tab : ℕ
 tab = 9
 

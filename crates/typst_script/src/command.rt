@@ -1,26 +1,27 @@
-// The commands of a script, each read from one line.
+//! The commands of a script, each read from one line.
 ghost use Rattle.std.specs.Prelude.{◌≡◌, ◌++◌, Some, IfSome, IsSome, codes};
 ghost use Rattle.typst_script.specs.Command.{IsLineOf};
 ghost use Rattle.typst_script.specs.declared.command.Command.{Command};
 ghost use Rattle.typst_script.specs.declared.command.Command.TheVariants.{Root, Run, Show};
 
+use crate::path::Path;
 use crate::words;
 use typst_tree::{FileId, SyntaxKind};
 
-/// What one line asks for.
+/// The command that one line asks for.
 #[derive(Clone, Copy, Debug, PartialEq, Eq)]
 pub enum Command<'a> {
-    /// `leaf K TEXT`: pushes a leaf. The text is all that stands after the second blank.
+    /// `leaf K TEXT`: pushes a leaf. The text is everything after the second blank.
     Leaf {
         kind: SyntaxKind,
         text: &'a str,
     },
-    /// `error MESSAGE<tab>TEXT`: pushes an error. The text is all that stands after the first tab.
+    /// `error MESSAGE<tab>TEXT`: pushes an error. The text is everything after the first tab.
     Error {
         message: &'a str,
         text: &'a str,
     },
-    /// `warn M`: puts a warning round the newest node. The message is all that stands after the first blank.
+    /// `warn M`: puts a warning around the newest node. The message is everything after the first blank.
     Warn {
         message: &'a str,
     },
@@ -37,10 +38,10 @@ pub enum Command<'a> {
         low: u64,
         high: u64,
     },
-    /// `replace PATH A B N`: pops N nodes and queues that they come for the children A..B of the node at the path.
+    /// `replace PATH A B N`: pops N nodes and queues a request that they replace the children A..B of the node at the
+    /// path.
     Replace {
-        /// `-` for the root, or child indices joined by `.`.
-        path: &'a str,
+        path: Path<'a>,
         start: u64,
         end: u64,
         count: u64,
@@ -50,17 +51,17 @@ pub enum Command<'a> {
         file: FileId,
         number: u64,
     },
-    /// `run`: serves the queue on the tree, prints one line a reply, and empties the queue.
+    /// `run`: serves the queue on the tree, prints one line for each reply, and empties the queue.
     Run,
     /// `show`: prints the tree.
     Show,
 }
 
-/// One past the greatest number that a node may have.
+/// The number after the highest number that a node may have.
 const NUMBERS_END: u64 = 1 << 47;
 
 impl<'a> Command<'a> {
-    /// The command that a line without its end asks for. None where it is no command, as an empty line.
+    /// The command that a line, without its end, asks for. None if the line is no command, such as an empty line.
     pub fn parse(line: &'a str) -> Option<Command<'a>>
         ensures reads { IfSome result (λ command. IsLineOf command line.now) }
         ensures every { (command : Command) → IsLineOf command line.now → IsSome result }
@@ -80,6 +81,7 @@ impl<'a> Command<'a> {
         }
     }
 
+    /// The command of a line that is one word.
     fn lone(line: &'a str) -> Option<Command<'a>>
         ensures root { line.now ≡ codes "root" → result ≡ Some Root }
         ensures run { line.now ≡ codes "run" → result ≡ Some Run }
@@ -94,6 +96,7 @@ impl<'a> Command<'a> {
         }
     }
 
+    /// Reads what follows `leaf` as a command.
     fn leaf(rest: &'a str) -> Option<Command<'a>>
         ensures reads { IfSome result (λ command. IsLineOf command (codes "leaf " ++ rest.now)) }
         ensures every { (command : Command) → IsLineOf command (codes "leaf " ++ rest.now) → IsSome result }
@@ -103,6 +106,7 @@ impl<'a> Command<'a> {
         Some(Command::Leaf { kind, text })
     }
 
+    /// Reads what follows `error` as a command.
     fn error(rest: &'a str) -> Option<Command<'a>>
         ensures reads { IfSome result (λ command. IsLineOf command (codes "error " ++ rest.now)) }
         ensures every { (command : Command) → IsLineOf command (codes "error " ++ rest.now) → IsSome result }
@@ -111,6 +115,7 @@ impl<'a> Command<'a> {
         Some(Command::Error { message, text })
     }
 
+    /// Reads what follows `inner` as a command.
     fn inner(rest: &'a str) -> Option<Command<'a>>
         ensures reads { IfSome result (λ command. IsLineOf command (codes "inner " ++ rest.now)) }
         ensures every { (command : Command) → IsLineOf command (codes "inner " ++ rest.now) → IsSome result }
@@ -121,6 +126,7 @@ impl<'a> Command<'a> {
         Some(Command::Inner { kind, count })
     }
 
+    /// Reads what follows `number` as a command.
     fn number(rest: &'a str) -> Option<Command<'a>>
         ensures reads { IfSome result (λ command. IsLineOf command (codes "number " ++ rest.now)) }
         ensures every { (command : Command) → IsLineOf command (codes "number " ++ rest.now) → IsSome result }
@@ -136,6 +142,7 @@ impl<'a> Command<'a> {
         Some(Command::Number { file, low, high })
     }
 
+    /// Reads what follows `replace` as a command.
     fn replace(rest: &'a str) -> Option<Command<'a>>
         ensures reads { IfSome result (λ command. IsLineOf command (codes "replace " ++ rest.now)) }
         ensures every { (command : Command) → IsLineOf command (codes "replace " ++ rest.now) → IsSome result }
@@ -146,9 +153,7 @@ impl<'a> Command<'a> {
         let start = words::number(start)?;
         let end = words::number(end)?;
         let count = words::number(count)?;
-        if !words::is_path(path) {
-            return None;
-        }
+        let path = Path::parse(path)?;
         Some(Command::Replace {
             path,
             start,
@@ -157,6 +162,7 @@ impl<'a> Command<'a> {
         })
     }
 
+    /// Reads what follows `find` as a command.
     fn find(rest: &'a str) -> Option<Command<'a>>
         ensures reads { IfSome result (λ command. IsLineOf command (codes "find " ++ rest.now)) }
         ensures every { (command : Command) → IsLineOf command (codes "find " ++ rest.now) → IsSome result }

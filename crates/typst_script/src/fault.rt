@@ -1,19 +1,18 @@
-// What stops a script, and how the program then ends.
+//! What stops a script, and how the program then ends.
 ghost use Rattle.std.specs.Prelude.{◌≡◌, ◌≢◌};
 ghost use Rattle.std.specs.IoError.{error_kind};
-ghost use Rattle.typst_script.specs.Fault.{status_of, fault_of, IsWriteFault};
+ghost use Rattle.typst_script.specs.Fault.{status_of, IsWriteFault};
 ghost use Rattle.typst_script.specs.declared.fault.Fault.TheVariants.{Memory, Read, Write};
 
 use std::alloc::{AllocError, AllocFailed};
 use std::io;
 use std::io::ErrorKind;
 use thiserror::Error;
-use typst_tree::InnerError;
 
 /// What stops a script.
 #[derive(Clone, Copy, Debug, PartialEq, Eq, Error)]
 pub enum Fault {
-    /// A line that is no command, or asks for nodes or a tree that aren't there. Lines count from 1.
+    /// A line is no command, or asks for nodes or a tree that aren't there. Lines count from 1.
     #[error("line {line}: bad command")]
     BadCommand { line: u64 },
     /// The reader failed, a line isn't UTF-8, or the script is too long.
@@ -25,7 +24,7 @@ pub enum Fault {
     /// A request for memory was refused.
     #[error("no memory")]
     Memory,
-    /// The text length or the node count of a new node passes a `usize`.
+    /// The text length or the node count of a new node doesn't fit in a `usize`.
     #[error("overflow")]
     Overflow,
 }
@@ -78,16 +77,5 @@ impl<T: Drop> From<AllocFailed<T>> for Fault {
 
     fn from(_: AllocFailed<T>) -> Fault {
         Fault::Memory
-    }
-}
-
-impl From<InnerError> for Fault {
-    ghost from_gives = { λ error fault. fault ≡ fault_of error };
-
-    fn from(error: InnerError) -> Fault {
-        match error {
-            InnerError::Overflow => Fault::Overflow,
-            InnerError::Memory => Fault::Memory,
-        }
     }
 }

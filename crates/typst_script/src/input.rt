@@ -1,4 +1,4 @@
-// The lines of a reader, one by one.
+//! The lines of a reader, one by one.
 ghost use Rattle.std.specs.Prelude.{◌≡◌, ◌≢◌, ◌⊎◌, [], IfErr, IfOk, OnOk, IfSome, IsTrue, string_bytes};
 ghost use Rattle.std.specs.Io.BufRead.{first_piece, DropsThrough};
 ghost use Rattle.std.specs.Io.KnownBytes.{IsAtEnd};
@@ -8,13 +8,13 @@ ghost use Rattle.typst_script.specs.Fault.{IsReadFault};
 use crate::fault::Fault;
 use std::io::{BufRead, Take};
 
-/// How many bytes a script may have.
+/// The most bytes that a script may have.
 pub const MOST_BYTES: u64 = 1 << 40;
 
-/// Reads the next line into `text`, without its end. False at the end of input.
+/// Reads the next line, without its end, into `text`. Returns false at the end of input.
 ///
-/// `Read` comes from the reader, from a line that isn't UTF-8, and where the limit is used up; `Memory` where memory runs
-/// out.
+/// The error is `Read` if the reader fails, if a line isn't UTF-8, or if the limit is used up. It is `Memory` if memory
+/// runs out.
 pub fn read_line<R: BufRead>(input: &mut Take<R>, text: &mut String) -> Result<bool, Fault>
     ensures line { OnOk result (IfSome (take_remaining R.remaining input.old)
         (λ bytes. string_bytes text.new ≡ first_piece 10 bytes)) }

@@ -1,56 +1,53 @@
-// Carries out the commands of a script.
-ghost use Rattle.std.specs.Prelude.{ℕ, ◌≡◌, ◌≢◌, ◌<◌, ◌≤◌, ◌^◌, ◌⊎◌, ◌↔◌, List, [], length, OnOk, IfErr, IsErrOf, IsNone, IsSomeAnd, IsOk, Err};
+//! Carries out the commands of a script.
+ghost use Rattle.std.specs.Prelude.{ℕ, ◌≡◌, ◌≢◌, ◌<◌, ◌≤◌, ◌^◌, ◌↔◌, List, [], length, OnOk, IfErr, IsErrOf, IsNone, IsSomeAnd, IsOk, Err};
 ghost use Rattle.typst_base.specs.declared.kind.SyntaxKind.TheVariants.{Error as ErrorKind};
 ghost use Rattle.typst_node.specs.Numbered.{IsNumbered};
 ghost use Rattle.typst_script.specs.Command.{IsLineOf};
-ghost use Rattle.typst_script.specs.Path.{IsPathWord};
 ghost use Rattle.typst_script.specs.declared.command.Command.{Command};
 ghost use Rattle.typst_script.specs.declared.command.Command.TheVariants.{Leaf, Error, Warn, Inner, Root, Number, Replace, Find, Run};
+ghost use Rattle.typst_script.specs.declared.command_error.CommandError.TheVariants.{Bad};
 ghost use Rattle.typst_script.specs.declared.fault.Fault.TheVariants.{BadCommand};
 
 use crate::command::Command;
+use crate::command_error::CommandError;
 use crate::fault::Fault;
+use crate::path::Path;
 use crate::reply::print_replies;
 use crate::show::show;
 use crate::tree::ScriptTree;
-use crate::words;
 use std::alloc::Global;
 use std::io::Write;
 use typst_tree::session::{Request, Slot};
 use typst_tree::{FileId, Span, SpanNumber, SyntaxKind, SyntaxNode};
 
-/// The nodes that a script has built, its tree, and what it will ask of it.
+/// The nodes that a script has built, its tree, and its queue of requests for the tree.
 #[derive(Drop)]
 pub struct Interpreter {
     /// The newest node is the last.
     pub stack: Vec<SyntaxNode>,
     pub tree: Option<ScriptTree>,
-    /// What the next `run` serves.
+    /// The requests that the next `run` serves.
     pub queue: Vec<Slot>,
-    /// The line at work, from 1.
-    pub line: u64,
 }
 
 impl Interpreter {
     ghost use Rattle.typst_script.specs.Done.{IsDone, CanBeDone};
-    ghost use Rattle.typst_script.specs.Fails.{IsFaultIn, IsFaultOf};
+    ghost use Rattle.typst_script.specs.Fails.{IsErrorOf, IsFaultIn};
 
     /// An empty stack, no tree, and an empty queue.
     pub fn new(alloc: Global) -> Interpreter
         ensures stack { result.stack.items ≡ [] }
         ensures tree { IsNone result.tree }
         ensures queue { result.queue.items ≡ [] }
-        ensures line { result.line ≡ 1 }
     {
         Interpreter {
             stack: Vec::new(alloc),
             tree: None,
             queue: Vec::new(alloc),
-            line: 1,
         }
     }
 
-    /// Carries out the line with this number, which stands without its end. An empty one is skipped.
+    /// Carries out the line with this number, given without its end. An empty line is skipped.
     pub fn obey<W: Write>(
         &mut self,
         alloc: Global,
@@ -66,38 +63,32 @@ impl Interpreter {
             → ((command : Command) → IsLineOf command text.now → ¬ (CanBeDone command self.old))
             → result ≡ Err (BadCommand line) }
         ensures err { IfErr result (IsFaultIn line text.now self.old) }
-        ensures line { self.new.line ≡ line }
     {
-        self.line = line;
         if text.is_empty() {
             return Ok(());
         }
         let Some(command) = Command::parse(text) else {
-            return Err(self.bad());
+            return Err(Fault::BadCommand { line });
         };
-        self.carry_out(alloc, command, out)
+        if let Err(error) = self.carry_out(alloc, &command, out) {
+            return Err(error.at(line));
+        }
+        Ok(())
     }
 
-    /// That the line at work can't be done.
-    fn bad(&self) -> Fault
-        ensures { result ≡ BadCommand self.now.line }
-    {
-        Fault::BadCommand { line: self.line }
-    }
-
+    /// Carries out a command.
     fn carry_out<W: Write>(
         &mut self,
         alloc: Global,
-        command: Command<'_>,
+        command: &Command<'_>,
         out: &mut W,
-    ) -> Result<(), Fault>
-        requires { (line : List ℕ) × IsLineOf command line }
-        ensures done { OnOk result (IsDone command.entry self.old self.new) }
-        ensures bad { IsErrOf result (BadCommand self.old.line) ↔ ¬ (CanBeDone command.entry self.old) }
-        ensures err { IfErr result (IsFaultOf self.old.line command.entry self.old) }
-        ensures line { self.new.line ≡ self.old.line }
+    ) -> Result<(), CommandError>
+        requires { (line : List ℕ) × IsLineOf command.now line }
+        ensures done { OnOk result (IsDone command.now self.old self.new) }
+        ensures bad { IsErrOf result Bad ↔ ¬ (CanBeDone command.now self.old) }
+        ensures err { IfErr result (IsErrorOf command.now self.old) }
     {
-        match command {
+        match *command {
             Command::Leaf { kind, text } => self.leaf(alloc, kind, text),
             Command::Error { message, text } => self.error(alloc, message, text),
             Command::Warn { message } => self.warn(alloc, message),
@@ -112,89 +103,89 @@ impl Interpreter {
             } => self.replace(alloc, path, start, end, count),
             Command::Find { file, number } => self.find(file, number),
             Command::Run => self.run(alloc, out),
-            Command::Show => show(out, self.tree.as_ref().ok_or(self.bad())?.root()),
+            Command::Show => Ok(show(out, self.tree.as_ref().ok_or(CommandError::Bad)?.root())?),
         }
     }
 
-    fn leaf(&mut self, alloc: Global, kind: SyntaxKind, text: &str) -> Result<(), Fault>
+    /// Pushes a leaf.
+    fn leaf(&mut self, alloc: Global, kind: SyntaxKind, text: &str) -> Result<(), CommandError>
         requires { kind ≢ ErrorKind }
         ensures done { OnOk result (IsDone (Leaf kind text.entry) self.old self.new) }
-        ensures err { IfErr result (IsFaultOf self.old.line (Leaf kind text.entry) self.old) }
-        ensures line { self.new.line ≡ self.old.line }
+        ensures err { IfErr result (IsErrorOf (Leaf kind text.entry) self.old) }
     {
         self.stack.push(SyntaxNode::leaf(alloc, kind, text)?)?;
         Ok(())
     }
 
-    fn error(&mut self, alloc: Global, message: &str, text: &str) -> Result<(), Fault>
+    /// Pushes an error.
+    fn error(&mut self, alloc: Global, message: &str, text: &str) -> Result<(), CommandError>
         ensures done { OnOk result (IsDone (Error message.entry text.entry) self.old self.new) }
-        ensures err { IfErr result (IsFaultOf self.old.line (Error message.entry text.entry) self.old) }
-        ensures line { self.new.line ≡ self.old.line }
+        ensures err { IfErr result (IsErrorOf (Error message.entry text.entry) self.old) }
     {
         self.stack.push(SyntaxNode::error(alloc, message, text)?)?;
         Ok(())
     }
 
-    fn warn(&mut self, alloc: Global, message: &str) -> Result<(), Fault>
+    /// Puts a warning around the top node.
+    fn warn(&mut self, alloc: Global, message: &str) -> Result<(), CommandError>
         ensures done { OnOk result (IsDone (Warn message.entry) self.old self.new) }
-        ensures bad { IsErrOf result (BadCommand self.old.line) ↔ (self.old.stack.items ≡ []) }
-        ensures err { IfErr result (IsFaultOf self.old.line (Warn message.entry) self.old) }
-        ensures line { self.new.line ≡ self.old.line }
+        ensures bad { IsErrOf result Bad ↔ (self.old.stack.items ≡ []) }
+        ensures err { IfErr result (IsErrorOf (Warn message.entry) self.old) }
     {
         let Some(mut node) = self.stack.pop() else {
-            return Err(self.bad());
+            return Err(CommandError::Bad);
         };
         node.warn(alloc, message)?;
         self.stack.push(node)?;
         Ok(())
     }
 
-    fn inner(&mut self, alloc: Global, kind: SyntaxKind, count: u64) -> Result<(), Fault>
+    /// Pops so many nodes, and pushes their parent.
+    fn inner(&mut self, alloc: Global, kind: SyntaxKind, count: u64) -> Result<(), CommandError>
         requires { kind ≢ ErrorKind }
         ensures done { OnOk result (IsDone (Inner kind count) self.old self.new) }
-        ensures bad { IsErrOf result (BadCommand self.old.line) ↔ (length self.old.stack.items < count) }
-        ensures err { IfErr result (IsFaultOf self.old.line (Inner kind count) self.old) }
-        ensures line { self.new.line ≡ self.old.line }
+        ensures bad { IsErrOf result Bad ↔ (length self.old.stack.items < count) }
+        ensures err { IfErr result (IsErrorOf (Inner kind count) self.old) }
     {
         let start = self
             .stack
             .len()
             .checked_sub(count as usize)
-            .ok_or(self.bad())?;
+            .ok_or(CommandError::Bad)?;
         let children = self.stack.split_off(start)?;
         self.stack.push(SyntaxNode::inner(alloc, kind, children)?)?;
         Ok(())
     }
 
-    fn root(&mut self) -> Result<(), Fault>
+    /// Makes the only node of the stack the tree.
+    fn root(&mut self) -> Result<(), CommandError>
         ensures done { OnOk result (IsDone Root self.old self.new) }
-        ensures bad { IsErrOf result (BadCommand self.old.line) ↔ (length self.old.stack.items ≢ 1) }
-        ensures err { IfErr result (IsFaultOf self.old.line Root self.old) }
-        ensures line { self.new.line ≡ self.old.line }
+        ensures bad { IsErrOf result Bad ↔ (length self.old.stack.items ≢ 1) }
+        ensures err { IfErr result (IsErrorOf Root self.old) }
     {
         if self.stack.len() != 1 {
-            return Err(self.bad());
+            return Err(CommandError::Bad);
         }
         self.tree = self.stack.pop().map(ScriptTree::from);
         Ok(())
     }
 
+    /// Numbers the tree, or prints `refused` if the range is too short.
     fn number<W: Write>(
         &mut self,
         out: &mut W,
         file: FileId,
         low: u64,
         high: u64,
-    ) -> Result<(), Fault>
+    ) -> Result<(), CommandError>
         requires low { 2 ≤ low }
         requires high { high ≤ 2 ^ 47 }
         ensures done { OnOk result (IsDone (Number file low high) self.old self.new) }
-        ensures bad { IsErrOf result (BadCommand self.old.line) ↔ IsNone self.old.tree }
-        ensures err { IfErr result (IsFaultOf self.old.line (Number file low high) self.old) }
-        ensures line { self.new.line ≡ self.old.line }
+        ensures bad { IsErrOf result Bad ↔ IsNone self.old.tree }
+        ensures err { IfErr result (IsErrorOf (Number file low high) self.old) }
     {
         let Some(tree) = self.tree.take() else {
-            return Err(self.bad());
+            return Err(CommandError::Bad);
         };
         match tree.number(file, low..high) {
             Ok(tree) => {
@@ -203,33 +194,31 @@ impl Interpreter {
             }
             Err(tree) => {
                 self.tree = Some(tree);
-                out.write_all(b"refused\n").map_err(Fault::of_writing)
+                Ok(out.write_all(b"refused\n")?)
             }
         }
     }
 
+    /// Pops so many nodes, and queues a replacement by them.
     fn replace(
         &mut self,
         alloc: Global,
-        path: &str,
+        path: Path<'_>,
         start: u64,
         end: u64,
         count: u64,
-    ) -> Result<(), Fault>
-        requires { IsPathWord path.now }
+    ) -> Result<(), CommandError>
         ensures done { OnOk result (IsDone (Replace path.entry start end count) self.old self.new) }
-        ensures bad { IsErrOf result (BadCommand self.old.line) ↔ (length self.old.stack.items < count) }
-        ensures err { IfErr result (IsFaultOf self.old.line (Replace path.entry start end count) self.old) }
-        ensures line { self.new.line ≡ self.old.line }
+        ensures bad { IsErrOf result Bad ↔ (length self.old.stack.items < count) }
+        ensures err { IfErr result (IsErrorOf (Replace path.entry start end count) self.old) }
     {
         let rest = self
             .stack
             .len()
             .checked_sub(count as usize)
-            .ok_or(self.bad())?;
-        let path = words::path(alloc, path)?;
+            .ok_or(CommandError::Bad)?;
         let request = Request::Replace {
-            path,
+            path: path.indices(alloc)?,
             range: start as usize..end as usize,
             replacement: self.stack.split_off(rest)?,
         };
@@ -237,32 +226,32 @@ impl Interpreter {
         Ok(())
     }
 
-    fn find(&mut self, file: FileId, number: u64) -> Result<(), Fault>
+    /// Queues a search.
+    fn find(&mut self, file: FileId, number: u64) -> Result<(), CommandError>
         requires low { 2 ≤ number }
         requires high { number < 2 ^ 47 }
         ensures done { OnOk result (IsDone (Find file number) self.old self.new) }
-        ensures err { IfErr result (IsFaultOf self.old.line (Find file number) self.old) }
-        ensures line { self.new.line ≡ self.old.line }
+        ensures err { IfErr result (IsErrorOf (Find file number) self.old) }
     {
         let span = Span::from_number(file, SpanNumber(number));
         self.queue.push(Slot::Ask(Request::Find(span)))?;
         Ok(())
     }
 
-    fn run<W: Write>(&mut self, alloc: Global, out: &mut W) -> Result<(), Fault>
+    /// Serves the queue, and prints the replies.
+    fn run<W: Write>(&mut self, alloc: Global, out: &mut W) -> Result<(), CommandError>
         ensures done { OnOk result (IsDone Run self.old self.new) }
-        ensures bad { IsErrOf result (BadCommand self.old.line) ↔ ¬ (IsSomeAnd self.old.tree IsNumbered) }
-        ensures err { IfErr result (IsFaultOf self.old.line Run self.old) }
-        ensures line { self.new.line ≡ self.old.line }
+        ensures bad { IsErrOf result Bad ↔ ¬ (IsSomeAnd self.old.tree IsNumbered) }
+        ensures err { IfErr result (IsErrorOf Run self.old) }
     {
         let Some(tree) = self.tree.take() else {
-            return Err(self.bad());
+            return Err(CommandError::Bad);
         };
         let mut tree = match tree.into_numbered() {
             Ok(tree) => tree,
             Err(tree) => {
                 self.tree = Some(tree);
-                return Err(self.bad());
+                return Err(CommandError::Bad);
             }
         };
         tree.run(alloc, &mut self.queue);

@@ -1,15 +1,15 @@
 //! The tree of a script.
 ghost use Rattle.std.specs.Prelude.{◌≡◌, ◌≤◌, ◌^◌, ◌↔◌, IfErr, IfOk, IsErr, IsOk};
-ghost use Rattle.typst_node.specs.Numbered.{AllIn, IsNumbered, IsNumberedFor};
-ghost use Rattle.typst_node.specs.Plain.{plain};
+ghost use Rattle.typst_node.specs.Numbered.{IsNumbered};
+ghost use Rattle.typst_node.specs.Numbering.{IsNumbering, IsTooShort};
 
 use std::marker::Model;
 use std::ops::Range;
 use typst_tree::{FileId, NumberedTree, SyntaxNode};
 
-/// A tree that remembers, once it was numbered or tested, that it is numbered: no later run tests it again.
+/// A tree that remembers that it is numbered, once it was numbered or tested. So no later run tests it again.
 ///
-/// In contracts it is its root.
+/// In contracts the value is the root.
 #[derive(Drop)]
 pub struct ScriptTree {
     state: State,
@@ -39,7 +39,7 @@ impl Model for ScriptTree {
 
 /// # From a tree and back
 impl ScriptTree {
-    /// The root, to be read.
+    /// The root, for reading.
     pub fn root(&self) -> &SyntaxNode
         ensures { result.now ≡ self.now }
     {
@@ -49,7 +49,7 @@ impl ScriptTree {
         }
     }
 
-    /// The root itself.
+    /// The root, taken out of the tree.
     pub fn into_root(self) -> SyntaxNode
         ensures { result ≡ self }
     {
@@ -59,18 +59,22 @@ impl ScriptTree {
         }
     }
 
-    /// The numbered tree, or the tree itself where it isn't numbered.
+    /// The numbered tree, or the tree itself if it isn't numbered.
     ///
-    /// It takes time in proportion to the nodes where the tree was neither numbered nor tested before, and no memory.
+    /// If the tree was neither numbered nor tested before, this takes time in proportion to the nodes. It takes no
+    /// memory.
     pub fn into_numbered(self) -> Result<NumberedTree, ScriptTree>
         ensures numbered { IsOk result ↔ IsNumbered self }
         ensures same { IfOk result (λ tree. tree ≡ self) }
         ensures back { IfErr result (λ same. same ≡ self) }
     {
         match self.state {
-            State::Built(root) => Ok(NumberedTree::from_numbered(root)?),
+            State::Built(root) => match NumberedTree::from_numbered(root) {
+                Ok(tree) => Ok(tree),
+                Err(error) => Err(error.tree.into()),
+            },
             State::Numbered(tree) => {
-                // Read for the proof: the tree is numbered.
+                // This is read for the proof: the tree is numbered.
                 let _root = tree.root();
                 Ok(tree)
             }
@@ -80,23 +84,22 @@ impl ScriptTree {
 
 /// # Numbering
 impl ScriptTree {
-    ghost use Rattle.typst_script.specs.Done.{IsTooShort};
-
-    /// Numbers the tree, as [`SyntaxNode::numberize`] does. Where there are fewer numbers than nodes, it comes back as it
-    /// was.
+    /// Numbers the tree, as [`SyntaxNode::numberize`] does. If there are fewer numbers than nodes, the tree comes back
+    /// as it was.
     ///
-    /// `within` lies in `Span::FULL`. It takes time in proportion to the nodes, and no memory.
+    /// `within` lies in `Span::FULL`. This takes time in proportion to the nodes, and no memory.
     pub fn number(self, file: FileId, within: Range<u64>) -> Result<ScriptTree, ScriptTree>
-        requires low { 2 ≤ within.start }
-        requires high { within.end ≤ 2 ^ 47 }
+        requires starts_in_span_full { 2 ≤ within.start }
+        requires ends_in_span_full { within.end ≤ 2 ^ 47 }
         ensures refused { IsErr result ↔ IsTooShort self within.start within.end }
         ensures back { IfErr result (λ same. same ≡ self) }
-        ensures numbered { IfOk result (IsNumberedFor file) }
-        ensures within { IfOk result (AllIn within.start within.end) }
-        ensures plain { IfOk result (λ tree. plain tree ≡ plain self) }
+        ensures numbering { IfOk result (IsNumbering file within.start within.end self) }
     {
         match self.state {
-            State::Built(root) => Ok(NumberedTree::number(root, file, within)?.into()),
+            State::Built(root) => match NumberedTree::number(root, file, within) {
+                Ok(tree) => Ok(tree.into()),
+                Err(error) => Err(error.tree.into()),
+            },
             State::Numbered(mut tree) => match tree.renumber(file, within) {
                 Ok(()) => Ok(tree.into()),
                 Err(_) => Err(tree.into()),

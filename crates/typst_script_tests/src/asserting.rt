@@ -1,28 +1,28 @@
-// Assertions. A message that is made costs the proof of a test some seconds, so messages are made here alone.
+//! Assertions. Each message that is made adds some seconds to the proof of a test, so messages are made only here.
 use std::process::Abort;
 use typst_script::Fault;
 
-/// Asserts that bytes are the wanted ones, and says what they show.
+/// Asserts that bytes are the expected ones, and says what they show.
 pub(crate) fn assert_bytes(rt: &impl Abort, shows: &str, bytes: &[u8], wanted: &[u8]) {
     assert_eq!(rt; bytes, wanted, "{shows}");
 }
 
-/// Asserts that a text is the wanted one, and says what it shows.
+/// Asserts that a text is the expected one, and says what it shows.
 pub(crate) fn assert_text(rt: &impl Abort, shows: &str, text: &str, wanted: &str) {
     assert_eq!(rt; text, wanted, "{shows}");
 }
 
-/// Asserts that a status is the wanted one, and says what it shows.
+/// Asserts that a status is the expected one, and says what it shows.
 pub(crate) fn assert_status(rt: &impl Abort, shows: &str, status: u8, wanted: u8) {
     assert_eq!(rt; status, wanted, "{shows}");
 }
 
-/// Asserts what holds after so many calls, or of so many bytes.
+/// Asserts a fact that holds after so many calls, or of so many bytes.
 pub(crate) fn assert_after(rt: &impl Abort, count: usize, holds: bool) {
     assert!(rt; holds, "after {count}");
 }
 
-/// Asserts that a script ended as is wanted where a call failed after so many.
+/// Asserts that a script ended as expected when a call failed after so many calls.
 pub(crate) fn assert_done(
     rt: &impl Abort,
     calls: usize,
@@ -32,7 +32,7 @@ pub(crate) fn assert_done(
     assert_eq!(rt; done, wanted, "after {calls} calls");
 }
 
-/// Asserts that a script wrote what is wanted where a call failed after so many.
+/// Asserts that a script wrote what is expected when a call failed after so many calls.
 pub(crate) fn assert_out(rt: &impl Abort, calls: usize, out: &[u8], wanted: &[u8]) {
     assert_eq!(rt; out, wanted, "after {calls} calls");
 }

@@ -1,8 +1,8 @@
-// A reader and a writer that fail at one of their calls.
+//! A reader and a writer that fail at one of their calls, and a reader that gives many letters.
 use std::io;
 use std::io::{ErrorKind, Read, Write};
 
-/// Which calls fail: one of them alone, or all that follow it too.
+/// Which calls fail: one call only, or also all calls after it.
 #[derive(Clone, Copy)]
 pub(crate) struct Failure {
     /// How many calls succeed before the one that fails.
@@ -13,6 +13,7 @@ pub(crate) struct Failure {
 }
 
 impl Failure {
+    /// The failure of the call after so many calls.
     pub(crate) fn after(calls_left: usize, recovers: bool) -> Failure {
         Failure {
             calls_left,
@@ -21,7 +22,7 @@ impl Failure {
         }
     }
 
-    /// Counts a call, and answers whether it fails.
+    /// Counts a call, and returns whether it fails.
     fn hits(&mut self) -> bool {
         if self.has_failed {
             return !self.recovers;
@@ -39,7 +40,7 @@ impl Failure {
     }
 }
 
-/// Gives its bytes one a call, but where a call fails.
+/// Gives one of its bytes in each call, unless the call fails.
 #[derive(Drop)]
 pub(crate) struct FailingReader<'a> {
     pub(crate) bytes: &'a [u8],
@@ -63,7 +64,24 @@ impl Read for FailingReader<'_> {
     }
 }
 
-/// Takes one byte a call, but where a call fails.
+/// Gives so many letters, which are stored nowhere before they are read.
+#[derive(Drop)]
+pub(crate) struct Letters {
+    pub(crate) left: usize,
+}
+
+impl Read for Letters {
+    fn read(&mut self, buf: &mut [u8]) -> io::Result<usize> {
+        let given = self.left.min(buf.len());
+        for index in 0..given {
+            buf[index] = b'a';
+        }
+        self.left -= given;
+        Ok(given)
+    }
+}
+
+/// Takes one byte in each call, unless the call fails.
 #[derive(Drop)]
 pub(crate) struct FailingWriter<'a> {
     pub(crate) written: &'a mut Vec<u8>,

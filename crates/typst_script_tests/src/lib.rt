@@ -1,10 +1,13 @@
-//! Tests of `typst_script`, in a crate of their own, so that the code is proved without them.
+//! Tests of `typst_script`, and of the lists of `typst_answers`. They have a crate of their own, so that the code is
+//! proved without them.
 #![tactic(auto)]
 
 #[cfg(test)]
 mod asserting;
 #[cfg(test)]
 mod fakes;
+#[cfg(test)]
+mod lists;
 #[cfg(test)]
 mod replies;
 #[cfg(test)]

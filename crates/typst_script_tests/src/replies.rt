@@ -1,4 +1,4 @@
-// The lines of replies.
+//! Tests of the lines of replies.
 use crate::asserting::assert_bytes;
 use std::alloc::Global;
 use std::test::Fail;
@@ -35,11 +35,17 @@ const TOLD: [(Reply, &str); 7] = [
 ];
 
 /// Paths and offsets of nodes that were found, and the lines.
-const FOUND: [(&[usize], usize, &str); 4] = [
+const FOUND: [(&[usize], usize, &str); 6] = [
     (&[], 0, "found - offset 0\n"),
     (&[7], 4, "found 7 offset 4\n"),
     (&[0, 1], 1, "found 0.1 offset 1\n"),
     (&[0, 1, 0], 1, "found 0.1.0 offset 1\n"),
+    (&[0, 1, 2, 3, 4, 5, 6], 9, "found 0.1.2.3.4.5.6 offset 9\n"),
+    (
+        &[10; 40],
+        70_000,
+        "found 10.10.10.10.10.10.10.10.10.10.10.10.10.10.10.10.10.10.10.10.10.10.10.10.10.10.10.10.10.10.10.10.10.10.10.10.10.10.10.10 offset 70000\n",
+    ),
 ];
 
 #[test]

@@ -1,8 +1,8 @@
-// Scripts as a user would run them, and readers and writers that fail.
+//! Tests of scripts as a user would run them, and of readers and writers that fail.
 use crate::asserting::{
     assert_after, assert_bytes, assert_done, assert_out, assert_status, assert_text,
 };
-use crate::fakes::{FailingReader, FailingWriter, Failure};
+use crate::fakes::{FailingReader, FailingWriter, Failure, Letters};
 use crate::vectors::VECTORS;
 use std::alloc::Global;
 use std::test::Fail;
@@ -13,16 +13,18 @@ use typst_script::script::{run, run_within, tree_of};
 /// A tree of two leaves, numbered and shown.
 const NUMBERED: &[u8] = b"leaf 6 ab\nleaf 6 c\ninner 5 2\nroot\nnumber 1 2 14\nshow\n";
 
+/// How a numbered tree is shown.
 const NUMBERED_SHOWN: &[u8] = b"5 3 14 3\n  6 5 6 2 ab\n  6 7 8 1 c\n";
 
 /// Four replacements and a search.
 const EDITED: &[u8] =
     b"leaf 55 *\nleaf 6 b\ninner 5 1\nleaf 55 *\ninner 13 3\nleaf 6 c\ninner 5 2\nroot\nnumber 1 2 30\nleaf 6 x\nleaf 6 y\ninner 5 2\nreplace 0 1 2 1\nfind 1 15\nleaf 6 x\nleaf 6 y\nreplace 0.1 0 1 2\nreplace 5 0 0 0\nreplace 1 0 0 0\nrun\nshow\n";
 
+/// What those requests print.
 const EDITED_SHOWN: &[u8] =
     b"done window 0..3 tried 2\nfound 1 offset 4\nrefused\nmisfit\nmisfit\n5 3 30 5\n  13 4 14 4\n    55 5 6 1 *\n    5 6 9 2\n      6 7 8 1 x\n      6 8 9 1 y\n    55 9 10 1 *\n  6 15 16 1 c\n";
 
-/// What a script prints, and how it ends: the text on standard error without its line's end, and the status.
+/// What a script prints, and how it ends: the text on standard error without its line end, and the status.
 #[derive(Drop)]
 struct Outcome {
     stdout: Vec<u8>,
@@ -30,6 +32,7 @@ struct Outcome {
     status: u8,
 }
 
+/// What a script prints, and how it ends.
 fn outcome_of(alloc: Global, script: &[u8]) -> Result<Outcome, Fail> {
     let mut stdout: Vec<u8> = Vec::new(alloc);
     let done = run(alloc, script, &mut stdout);
@@ -44,7 +47,7 @@ fn outcome_of(alloc: Global, script: &[u8]) -> Result<Outcome, Fail> {
     })
 }
 
-/// What a script wrote whose reader or writer failed, and how it ended.
+/// What a script wrote when its reader or writer failed, and how it ended.
 #[derive(Drop)]
 struct Broken {
     out: Vec<u8>,
@@ -62,7 +65,7 @@ fn written(alloc: Global, script: &[u8], failure: Failure) -> Broken {
     Broken { out, done }
 }
 
-/// What a script writes that comes from a reader that fails.
+/// What a script writes when it comes from a reader that fails.
 fn read(alloc: Global, bytes: &[u8], failure: Failure) -> Broken {
     let mut out: Vec<u8> = Vec::new(alloc);
     let done = run(alloc, FailingReader { bytes, failure }, &mut out);
@@ -80,13 +83,13 @@ fn replays_the_vectors(rt: HostRuntime) -> Result<(), Fail> {
     Ok(())
 }
 
-/// What is shown, a script, and what it prints.
+/// What a test shows, a script, and what the script prints.
 const BUILT: [(&str, &[u8], &[u8]); 5] = [
     ("numbered", NUMBERED, NUMBERED_SHOWN),
     (
-        "two blanks a level, however deep",
-        b"leaf 6 a\ninner 5 1\ninner 5 1\ninner 5 1\ninner 5 1\ninner 5 1\nroot\nshow\n",
-        b"5 1 0 1\n  5 1 0 1\n    5 1 0 1\n      5 1 0 1\n        5 1 0 1\n          6 1 2 1 a\n",
+        "two blanks a level, in a tree of twenty levels",
+        b"leaf 6 a\ninner 5 1\ninner 5 1\ninner 5 1\ninner 5 1\ninner 5 1\ninner 5 1\ninner 5 1\ninner 5 1\ninner 5 1\ninner 5 1\ninner 5 1\ninner 5 1\ninner 5 1\ninner 5 1\ninner 5 1\ninner 5 1\ninner 5 1\ninner 5 1\ninner 5 1\nroot\nshow\n",
+        b"5 1 0 1\n  5 1 0 1\n    5 1 0 1\n      5 1 0 1\n        5 1 0 1\n          5 1 0 1\n            5 1 0 1\n              5 1 0 1\n                5 1 0 1\n                  5 1 0 1\n                    5 1 0 1\n                      5 1 0 1\n                        5 1 0 1\n                          5 1 0 1\n                            5 1 0 1\n                              5 1 0 1\n                                5 1 0 1\n                                  5 1 0 1\n                                    5 1 0 1\n                                      6 1 2 1 a\n",
     ),
     (
         "a new tree is detached",
@@ -127,7 +130,7 @@ const BAD: [(&[u8], &str); 23] = [
     (b"leaf 6 a\nreplace - 0 0 2\n", "line 2: bad command\n"),
     (b"find 1 140737488355328\n", "line 1: bad command\n"),
     (b"leaf 6 x\ninner 5 2\n", "line 2: bad command\n"),
-    // Lines count from 1, the empty ones too.
+    // Lines count from 1, and empty ones count too.
     (b"\n\nleaf 6 a\n\n\ngrow\n", "line 6: bad command\n"),
     // Numbers that no node has, and no file.
     (
@@ -161,7 +164,7 @@ const BAD: [(&[u8], &str); 23] = [
     // No command, and a blank line that isn't empty.
     (b"grow\n", "line 1: bad command\n"),
     (b" \n", "line 1: bad command\n"),
-    // A bad line before one that isn't UTF-8 is the one that counts.
+    // A bad line counts if it is before a line that isn't UTF-8.
     (b"root\n\xff\n", "line 1: bad command\n"),
 ];
 
@@ -213,18 +216,27 @@ fn reads_no_more_than_the_bound(rt: HostRuntime) -> Result<(), Fail> {
     let mut out: Vec<u8> = Vec::new(alloc);
     assert_eq!(rt; run_within(alloc, NUMBERED, &mut out, len), Ok(()));
     assert_eq!(rt; out.as_slice(), NUMBERED_SHOWN);
-    // One byte more is a fault of reading, and the lines before it were done.
+    // One more byte is a fault of reading, and the lines before it were done.
     let longer = b"leaf 6 ab\nleaf 6 c\ninner 5 2\nroot\nnumber 1 2 14\nshow\n\n";
     let mut out: Vec<u8> = Vec::new(alloc);
     let done = run_within(alloc, longer.as_slice(), &mut out, len);
     assert_eq!(rt; done, Err(Fault::Read));
     assert_eq!(rt; out.as_slice(), NUMBERED_SHOWN);
-    // The line that passes the bound isn't done.
+    // The line that goes over the bound isn't done.
     let mut out: Vec<u8> = Vec::new(alloc);
     let done = run_within(alloc, NUMBERED, &mut out, len - 1);
     assert_eq!(rt; done, Err(Fault::Read));
     assert_eq!(rt; out.as_slice(), b"".as_slice());
     Ok(())
+}
+
+/// A line that is longer than most wrong bounds is read whole. It is bad, but not longer than what may be read.
+#[test]
+fn reads_lines_of_any_length(rt: HostRuntime) {
+    let letters = Letters { left: 65 << 20 };
+    let mut out: Vec<u8> = Vec::new(rt.alloc());
+    let done = run(rt.alloc(), letters, &mut out);
+    assert_eq!(rt; done, Err(Fault::BadCommand { line: 1 }));
 }
 
 #[test]
@@ -322,7 +334,7 @@ fn a_writer_may_fail_in_mid_run(rt: HostRuntime) -> Result<(), Fail> {
     let mut shown: Vec<u8> = Vec::new(alloc);
     script.extend_from_slice(NUMBERED)?;
     shown.extend_from_slice(NUMBERED_SHOWN)?;
-    // More than a buffer holds.
+    // This is more than a buffer holds.
     for _ in 0..300 {
         script.extend_from_slice(b"show\n")?;
         shown.extend_from_slice(NUMBERED_SHOWN)?;
@@ -338,7 +350,7 @@ fn a_writer_may_fail_in_mid_run(rt: HostRuntime) -> Result<(), Fail> {
     Ok(())
 }
 
-/// What is shown, a script, what it prints, and how it ends: the text on standard error and the status.
+/// What a test shows, a script, what the script prints, and how it ends: the text on standard error and the status.
 const ANSWERED: [(&str, &[u8], &[u8], &str, u8); 7] = [
     (
         "nodes two and three levels below the root",

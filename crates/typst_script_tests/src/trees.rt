@@ -5,7 +5,7 @@ use typst_tree::{FileId, SyntaxKind, SyntaxNode};
 
 #[test]
 fn a_tree_is_numbered_from_the_first_numbering_that_is_done(rt: HostRuntime) -> Result<(), Fail> {
-    let file = FileId::new(1).ok_or(Fault::Read)?;
+    let file = FileId::FIRST;
     let leaf = SyntaxNode::leaf(rt.alloc(), SyntaxKind::Text, "ab")?;
     let built = ScriptTree::from(leaf).into_numbered();
     let built = built.err().ok_or(Fault::Read)?;

@@ -1,4 +1,4 @@
-// The vectors of the folder vectors/ and the repository's examples, written by vectors/embed: change them there.
+//! The vectors of the folder vectors/ and the repository's examples, written by vectors/embed: change them there.
 
 /// A script, and what it prints and ends with.
 pub(crate) struct Vector {
@@ -9,7 +9,8 @@ pub(crate) struct Vector {
     pub(crate) status: u8,
 }
 
-pub(crate) const VECTORS: [Vector; 41] = [
+/// All vectors.
+pub(crate) const VECTORS: [Vector; 42] = [
     Vector {
         name: "a_blank_behind_a_word",
         script: b"leaf 6 a\nroot \n",
@@ -273,6 +274,13 @@ pub(crate) const VECTORS: [Vector; 41] = [
         name: "edited",
         script: b"leaf 55 *\nleaf 6 b\ninner 5 1\nleaf 55 *\ninner 13 3\nleaf 6 c\ninner 5 2\nroot\nnumber 1 2 30\nleaf 6 x\nleaf 6 y\ninner 5 2\nreplace 0 1 2 1\nfind 1 15\nleaf 6 x\nleaf 6 y\nreplace 0.1 0 1 2\nreplace 5 0 0 0\nreplace 1 0 0 0\nrun\nshow\n",
         stdout: b"done window 0..3 tried 2\nfound 1 offset 4\nrefused\nmisfit\nmisfit\n5 3 30 5\n  13 4 14 4\n    55 5 6 1 *\n    5 6 9 2\n      6 7 8 1 x\n      6 8 9 1 y\n    55 9 10 1 *\n  6 15 16 1 c\n",
+        stderr: "",
+        status: 0,
+    },
+    Vector {
+        name: "found",
+        script: b"leaf 6 ab\nleaf 6 c\ninner 5 2\nroot\nnumber 1 2 14\nshow\nleaf 6 x\nreplace - 1 1 1\nfind 1 6\nrun\n",
+        stdout: b"5 3 14 3\n  6 5 6 2 ab\n  6 7 8 1 c\ndone window 0..3 tried 2\nfound 2 offset 3\n",
         stderr: "",
         status: 0,
     },

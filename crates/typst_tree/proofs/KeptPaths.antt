@@ -21,7 +21,7 @@ same_tree old new p q t e there = (coe 1 0 (i. IsPath (e i) (t i)) there, λ i. 
 
 step_same : (request : Request) (reply : Reply) (old new : Tree) (p q : List ℕ) → Step old request reply new → GoesOnOver request reply old new p q → IsPath p old → SameAt old new p q
 step_same (Replace path range others) (Renumbered r) old new p q step on there =
-    (on.0, (step.1.outside q on.0 on.1).1 ∙ ap (λ place. (tree_at place old).label) on.2)
+    (on.0, (step.outside q on.0 on.1).1 ∙ ap (λ place. (tree_at place old).label) on.2)
 step_same (Replace path range others) Misfit old new p q step on there = same_tree old new p q step.1 on there
 step_same (Replace path range others) (Refused e) old new p q step on there = same_tree old new p q step.2 on there
 step_same (Replace path range others) (Found path' o l) old new p q step on there = absurd step

@@ -3,3 +3,4 @@ pub mod PlainRuns
 pub mod Runs
 pub mod KeptPaths
 pub mod Reading
+pub mod MisfitLemmas

@@ -8,7 +8,7 @@ use Rattle.typst_node.specs.Plain.{plain, plain_label}
 use Rattle.typst_node.specs.Paths.{no_tree}
 use Rattle.typst_node.specs.PlainEdit.{edited_at}
 use Rattle.typst_node.proofs.Plain.{forest_plain}
-use Rattle.typst_node.proofs.PathsAt.{kids_plain}
+use Rattle.typst_node.proofs.EditStep.{kids_plain}
 
 drop_map : {X Y : Type 0} (h : X → Y) (n : ℕ) (xs : List X) → drop n (map h xs) ≡ map h (drop n xs)
 drop_map h zero xs = refl

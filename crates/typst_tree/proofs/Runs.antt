@@ -42,7 +42,7 @@ rest_more olds news i d after l e h = drop-set-lt (i + 1) news i after (omega ar
 
 -- numbers stay in order, for the same file
 pub step_numbered : (file : ℕ) (t : Tree) (q : Request) (r : Reply) (u : Tree) → IsNumberedFor file t → Step t q r u → IsNumberedFor file u
-step_numbered file t (Replace path range others) (Renumbered r) u n s = subst (λ f. IsNumberedFor f u) n.in_file.0.0 s.1.numbered
+step_numbered file t (Replace path range others) (Renumbered r) u n s = subst (λ f. IsNumberedFor f u) n.in_file.0.0 s.numbered
 step_numbered file t (Replace path range others) Misfit u n s = subst (IsNumberedFor file) (sym s.1) n
 step_numbered file t (Replace path range others) (Refused e) u n s = subst (IsNumberedFor file) (sym s.2) n
 step_numbered file t (Replace path range others) (Found p o l) u n s = absurd s
@@ -62,7 +62,7 @@ answer_numbered file t (Told r) a u n s = subst (IsNumberedFor file) (sym s.1) n
 
 -- the plain tree is the plainly edited one where a replacement was done, and else stays
 step_plain : (t : Tree) (q : Request) (r : Reply) (u : Tree) → Step t q r u → plain u ≡ plain (edited_if_done q r t)
-step_plain t (Replace path range others) (Renumbered r) u s = s.1.plain
+step_plain t (Replace path range others) (Renumbered r) u s = s.plain
 step_plain t (Replace path range others) Misfit u s = ap plain s.1
 step_plain t (Replace path range others) (Refused e) u s = ap plain s.2
 step_plain t (Replace path range others) (Found p o l) u s = absurd s

@@ -11,8 +11,8 @@ use Rattle.typst_tree.specs.declared.session.Reply.TheVariants.{Renumbered, Misf
 use Rattle.typst_tree.specs.declared.session.Slot.{Slot}
 use Rattle.typst_tree.specs.declared.session.Slot.TheVariants.{Ask, Told}
 
--- Over a replacement that was done a path goes on as the path outside the window's subtrees whose place in the old tree it is.
--- Over any other step it goes on as itself.
+-- A replacement that was done takes the path p to the path q. The path q leads to a node outside the window's subtrees,
+-- and p is that node's place in the old tree. Any other step leaves the path as it is.
 abbrev pub GoesOnOver : Request → Reply → Tree → Tree → List ℕ → List ℕ → Type 0
 GoesOnOver (Replace path range others) (Renumbered r) old new p q =
     IsPath q new × ¬ (IsInWindow path.items r.window.start r.window.end q) × (place_before path.items r old new q ≡ p)
@@ -28,7 +28,7 @@ GoesOn (Ask request) (Told reply) old new p q = GoesOnOver request reply old new
 GoesOn (Ask request) (Ask again) old new p q = q ≡ p
 GoesOn (Told told) after old new p q = q ≡ p
 
--- a path of the first tree goes on over each slot, and is q at the end
+-- the path p of the first tree goes on over each slot, and is q at the end
 abbrev pub IsKept : Tree → List Slot → List Slot → Tree → List ℕ → List ℕ → Type 0
 IsKept old [] [] new p q = (new ≡ old) × (q ≡ p)
 IsKept old (before ∷ befores) (after ∷ afters) new p q =
@@ -36,6 +36,6 @@ IsKept old (before ∷ befores) (after ∷ afters) new p q =
 IsKept old [] (after ∷ afters) new p q = ⊥
 IsKept old (before ∷ befores) [] new p q = ⊥
 
--- the second path leads to a node of the new tree that has the label of the one that the first leads to in the old tree
+-- the path q leads to a node of the new tree, and its label is that of the node at p in the old tree
 abbrev pub KeepsLabel : List ℕ → List ℕ → Tree → Tree → Type 0
 KeepsLabel p q old new = IsPath q new × ((tree_at q new).label ≡ (tree_at p old).label)

@@ -3,3 +3,4 @@ pub mod Found
 pub mod Run
 pub mod Kept
 pub mod Reads
+pub mod Edits

@@ -1,7 +1,7 @@
 -- Whole runs: one step for each request, in order.
 use Rattle.std.specs.Prelude.{◌≡◌, List, [], ◌∷◌}
 use Rattle.typst_node.specs.Tree.{Tree}
-use Rattle.typst_node.specs.PlainEdit.{edited_at}
+use Rattle.typst_node.specs.Edit.{edit_of, edited_by as plainly_edited_by}
 use Rattle.typst_tree.specs.Step.{Step}
 use Rattle.typst_tree.specs.declared.session.Request.{Request}
 use Rattle.typst_tree.specs.declared.session.Request.TheVariants.{Replace, Find}
@@ -16,16 +16,16 @@ Answers old (Ask request) (Told reply) new = Step old request reply new
 Answers old (Ask request) (Ask again) new = ⊥
 Answers old (Told told) after new = (after ≡ Told told) × (new ≡ old)
 
--- one slot after the other, each from the tree that the one before it left
+-- the steps run one after the other, each on the tree that the one before it left
 abbrev pub Run : Tree → List Slot → List Slot → Tree → Type 0
 Run old [] [] new = new ≡ old
 Run old (before ∷ befores) (after ∷ afters) new = (mid : Tree) × Answers old before after mid × Run mid befores afters new
 Run old [] (after ∷ afters) new = ⊥
 Run old (before ∷ befores) [] new = ⊥
 
--- the plain edit of a request, if its reply says that it was done
+-- the tree after the plain edit of a request, if its reply says that the edit was done
 abbrev pub edited_if_done : Request → Reply → Tree → Tree
-edited_if_done (Replace path range others) (Renumbered r) t = edited_at path.items range.start range.end others.items t
+edited_if_done (Replace path range others) (Renumbered r) t = plainly_edited_by (edit_of path.items range others.items) t
 edited_if_done (Replace path range others) Misfit t = t
 edited_if_done (Replace path range others) (Refused e) t = t
 edited_if_done (Replace path range others) (Found p o l) t = t
@@ -38,7 +38,7 @@ edited_by_slot (Ask request) (Told reply) t = edited_if_done request reply t
 edited_by_slot (Ask request) (Ask again) t = t
 edited_by_slot (Told told) after t = t
 
--- the tree with the plain edits of all requests that were done, in order, and of no other
+-- the tree after the plain edits of all requests that were done, in order, and of no others
 abbrev pub edited_by : List Slot → List Slot → Tree → Tree
 edited_by [] afters t = t
 edited_by (before ∷ befores) [] t = t

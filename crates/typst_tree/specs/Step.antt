@@ -1,20 +1,13 @@
--- What a request does to a tree, and which reply it gets.
-use Rattle.std.specs.Prelude.{ℕ, ◌≡◌, ◌-◌, ◌<◌, List, [], length, Some, None}
+-- What a request does to a numbered tree, and which reply it gets.
+use Rattle.std.specs.Prelude.{◌≡◌, [], Some, None}
 use Rattle.typst_base.specs.Span.{SpanParts}
 use Rattle.typst_base.specs.SpanKind.{span_kind_of}
-use Rattle.typst_node.specs.Tree.{Tree, trees}
+use Rattle.typst_node.specs.Tree.{Tree}
 use Rattle.typst_node.specs.Text.{offset}
-use Rattle.typst_node.specs.Plain.{plain}
-use Rattle.typst_node.specs.Numbered.{IsNumberedFor}
 use Rattle.typst_node.specs.Paths.{tree_at}
-use Rattle.typst_node.specs.PlainEdit.{edited_at, FitsInner, TreeFits}
-use Rattle.typst_node.specs.Window.{site_of}
-use Rattle.typst_node.specs.FirstWindow.{HasNoFirst, IsFoundSoon, IsCrowded}
-use Rattle.typst_node.specs.Renumbering.{IsRenumbering}
-use Rattle.typst_node.specs.Outside.{KeepsOutside}
-use Rattle.typst_node.specs.declared.node.replace.Renumbered.{Renumbered as Window}
-use Rattle.typst_node.specs.declared.node.replace.ReplaceError.{ReplaceError}
-use Rattle.typst_node.specs.declared.node.replace.ReplaceError.TheVariants.{Unnumberable, Overflow, Memory}
+use Rattle.typst_node.specs.Edit.{Edit, Fits, IsUnfiled, edit_of}
+use Rattle.typst_node.specs.Accepted.{IsAccepted}
+use Rattle.typst_node.specs.Refusals.{IsRefusedBy}
 use Rattle.typst_linked.specs.Place.{Place}
 use Rattle.typst_linked.specs.Finds.{FindsSpan, AreLooksForSpan, HasLookEachStepFor}
 use Rattle.typst_tree.specs.declared.session.Request.{Request}
@@ -22,44 +15,22 @@ use Rattle.typst_tree.specs.declared.session.Request.TheVariants.{Replace, Find}
 use Rattle.typst_tree.specs.declared.session.Reply.{Reply}
 use Rattle.typst_tree.specs.declared.session.Reply.TheVariants.{Renumbered, Misfit, Refused, Found, NotFound, NoMemory}
 
--- An accepted replacement: the tree is the plainly edited one, numbered for the file of the old one. The first window was
--- numbered anew, and all nodes outside it keep their labels.
-pub record IsAccepted (path : List ℕ) (from to : ℕ) (others : List Tree) (old : Tree) (r : Window) (new : Tree) : Type 0 where
-  pub fits : TreeFits (edited_at path from to others old)
-  pub plain : plain new ≡ plain (edited_at path from to others old)
-  pub numbered : IsNumberedFor old.label.span.file new
-  pub window : IsRenumbering (site_of from to others (tree_at path old)) r (trees (tree_at path new).children)
-  pub tried : IsFoundSoon (site_of from to others (tree_at path old)) r.tried
-  pub outside : KeepsOutside path r old new
-
--- why a replacement is refused: its sums, else want of numbers, else want of memory, which comes only where the children grow in number
-abbrev pub IsRefusedBy : ReplaceError → List ℕ → ℕ → ℕ → List Tree → Tree → Type 0
-IsRefusedBy Overflow path from to others old = ¬ (TreeFits (edited_at path from to others old))
-IsRefusedBy Unnumberable path from to others old =
-    TreeFits (edited_at path from to others old)
-    × HasNoFirst (site_of from to others (tree_at path old))
-    × IsCrowded (site_of from to others (tree_at path old))
-IsRefusedBy Memory path from to others old =
-    TreeFits (edited_at path from to others old)
-    × ¬ (HasNoFirst (site_of from to others (tree_at path old)))
-    × (to - from < length others)
-
--- a replacement is a misfit, refused or accepted, and the first two change nothing
-abbrev pub ReplaceStep : List ℕ → ℕ → ℕ → List Tree → Tree → Reply → Tree → Type 0
-ReplaceStep path from to others old Misfit new = ¬ (FitsInner path from to old) × (new ≡ old)
-ReplaceStep path from to others old (Refused e) new =
-    FitsInner path from to old × IsRefusedBy e path from to others old × (new ≡ old)
-ReplaceStep path from to others old (Renumbered r) new =
-    FitsInner path from to old × IsAccepted path from to others old r new
-ReplaceStep path from to others old (Found p o l) new = ⊥
-ReplaceStep path from to others old (NotFound l) new = ⊥
-ReplaceStep path from to others old NoMemory new = ⊥
+-- A replacement is a misfit, refused or accepted, and the first two change nothing. It isn't refused for lack of a file
+-- id.
+abbrev pub ReplaceStep : Edit → Tree → Reply → Tree → Type 0
+ReplaceStep e old Misfit new = ¬ (Fits e old) × (new ≡ old)
+ReplaceStep e old (Refused why) new = IsRefusedBy why e old × ¬ (IsUnfiled (tree_at e.path old)) × (new ≡ old)
+ReplaceStep e old (Renumbered r) new = IsAccepted e old r new
+ReplaceStep e old (Found p o l) new = ⊥
+ReplaceStep e old (NotFound l) new = ⊥
+ReplaceStep e old NoMemory new = ⊥
 
 -- the place of a tree's root
 abbrev pub root_of : Tree → Place
 root_of t = record { root = t; path = [] }
 
--- a search answers the plain search from the root, with its looks, or that memory was refused, and changes nothing
+-- A search gives the answer of the plain search from the root, with its looks, or says that memory was refused. It
+-- changes nothing.
 abbrev pub FindStep : SpanParts → Tree → Reply → Tree → Type 0
 FindStep span old (Found path o looks) new =
     (new ≡ old)
@@ -74,7 +45,7 @@ FindStep span old Misfit new = ⊥
 FindStep span old (Refused e) new = ⊥
 FindStep span old (Renumbered r) new = ⊥
 
--- from old, a request may get this reply and leave new
+-- a request on the tree `old` may get this reply and leave the tree `new`
 abbrev pub Step : Tree → Request → Reply → Tree → Type 0
-Step old (Replace path range others) reply new = ReplaceStep path.items range.start range.end others.items old reply new
+Step old (Replace path range others) reply new = ReplaceStep (edit_of path.items range others.items) old reply new
 Step old (Find span) reply new = FindStep span old reply new

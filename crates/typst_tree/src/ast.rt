@@ -1,6 +1,7 @@
-//! Typed views of a syntax tree, under the names that an evaluator, a formatter or a linter knows them by.
+// Written by bench/kinds.py from crates/kinds.txt: change that and run it.
+//! Typed views of a syntax tree, under the names that evaluators, formatters and linters know.
 //!
-//! A view is a node of its kinds, or a placeholder that stands for a missing node, so reading a tree never fails.
+//! A view is a node of its kinds, or a placeholder for a missing node. So reading a tree never fails.
 
 pub use typst_ast::Arg;
 pub use typst_ast::ArrayItem;
@@ -102,7 +103,6 @@ pub use typst_ast::views::WhileLoop;
 pub use typst_atoms::Assoc;
 pub use typst_atoms::BinOp;
 pub use typst_atoms::ImportItem;
-pub use typst_atoms::Items;
 pub use typst_atoms::MathAccess;
 pub use typst_atoms::MathTextKind;
 pub use typst_atoms::UnOp;
@@ -113,3 +113,4 @@ pub use typst_atoms::cast_last;
 pub use typst_atoms::try_cast_first;
 pub use typst_atoms::try_cast_last;
 pub use typst_node::AstNode;
+pub use typst_node::Items;

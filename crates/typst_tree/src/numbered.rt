@@ -1,12 +1,13 @@
-// Trees that stay numbered, whatever is asked of them.
-ghost use Rattle.std.specs.Prelude.{◌≡◌, ◌+◌, ◌-◌, ◌*◌, ◌/◌, ◌^◌, ◌<◌, ◌≤◌, ◌⊎◌, ◌↔◌, ℕ, List, Some, IsErr, IsOk, IfErr, IfOk, OnErr, OnOk};
+//! Trees that stay numbered, whatever calls are made.
+ghost use Rattle.std.specs.Prelude.{◌≡◌, ◌^◌, ◌≤◌, ◌↔◌, ℕ, List, Some, IsErr, IsOk, IfErr, IfOk, OnErr, OnOk};
+ghost use Rattle.typst_base.specs.DiagSpanKind.{diag_kind_of};
+ghost use Rattle.typst_linked.specs.DiagPlaces.{place_in};
 ghost use Rattle.typst_linked.specs.Search.{with_number};
-ghost use Rattle.typst_node.specs.Count.{count};
-ghost use Rattle.typst_node.specs.Labels.{bound, number};
-ghost use Rattle.typst_node.specs.Numbered.{AllIn, IsNumbered, IsNumberedFor, halfway};
+ghost use Rattle.typst_node.specs.Labels.{number};
+ghost use Rattle.typst_node.specs.Numbered.{IsNumbered, IsNumberedFor};
+ghost use Rattle.typst_node.specs.Numbering.{IsNumbering, IsTooShort};
 ghost use Rattle.typst_node.specs.Paths.{IsPath, tree_at};
 ghost use Rattle.typst_node.specs.Plain.{plain};
-ghost use Rattle.typst_node.specs.Tree.{IsInner};
 ghost use Rattle.typst_tree.specs.Kept.{IsKept, KeepsLabel};
 ghost use Rattle.typst_tree.specs.Reads.{ReadsAs};
 ghost use Rattle.typst_tree.specs.Run.{Run, edited_by};
@@ -15,17 +16,43 @@ ghost use Rattle.typst_tree.specs.declared.session.Request.TheVariants.{Find};
 
 use crate::session::{self, Reply, Request, Slot};
 use std::alloc::Global;
+use std::fmt;
 use std::marker::Model;
 use std::ops::Range;
-use typst_base::{FileId, Span};
+use thiserror::Error;
+use typst_base::{DiagSpan, FileId, Span};
+use typst_linked::place_of;
 use typst_node::{SyntaxNode, Unnumberable};
 
-/// A syntax tree that is numbered, and stays so whatever is asked of it: what is served needs no test of the tree.
+/// A syntax tree that is numbered, and stays so whatever calls are made. So no call tests the tree.
 ///
 /// In contracts it is its root.
 #[derive(Drop)]
 pub struct NumberedTree {
-    root: SyntaxNode,
+    pub(crate) root: SyntaxNode,
+}
+
+/// A tree that couldn't be numbered, because the range has fewer numbers than the tree has nodes.
+#[derive(Debug, Drop, Error)]
+#[error("there are fewer numbers than nodes")]
+pub struct TooFewNumbers {
+    /// The tree, as it was.
+    pub tree: SyntaxNode,
+}
+
+/// A tree that isn't numbered: its nodes don't have numbers of one file in order.
+#[derive(Debug, Drop, Error)]
+#[error("the tree isn't numbered")]
+pub struct NotNumbered {
+    /// The tree, as it was.
+    pub tree: SyntaxNode,
+}
+
+impl fmt::Debug for NumberedTree {
+    /// Writes the root, as `SyntaxNode` does.
+    fn fmt<W: fmt::Write>(&self, f: &mut fmt::Formatter<W>) -> fmt::Result {
+        self.root.fmt(f)
+    }
 }
 
 impl Model for NumberedTree {
@@ -45,52 +72,45 @@ impl Model for NumberedTree {
 
 /// # From a node and back
 impl NumberedTree {
-    /// Numbers a tree as [`SyntaxNode::numberize`] does. Where there are fewer numbers than nodes, the tree comes back
-    /// as it was.
+    /// Numbers a tree as [`SyntaxNode::numberize`] does. If the range has fewer numbers than the tree has nodes, the
+    /// error holds the tree as it was.
     ///
-    /// `within` lies in `Span::FULL`. It takes time in proportion to the nodes, and no memory.
+    /// The range `within` lies in `Span::FULL`. It takes time in proportion to the nodes, and no memory.
     pub fn number(
         root: SyntaxNode,
         id: FileId,
         within: Range<u64>,
-    ) -> Result<NumberedTree, SyntaxNode>
-        requires low { 2 ≤ within.start }
-        requires high { within.end ≤ 2 ^ 47 }
-        ensures refused { IsErr result ↔ ((within.end ≤ within.start) ⊎ (within.end - within.start < count root)) }
-        ensures back { IfErr result (λ same. same ≡ root) }
-        ensures numbered { IfOk result (IsNumberedFor id) }
-        ensures within { IfOk result (AllIn within.start within.end) }
-        ensures bound { IfOk result (λ tree. IsInner root.label.content → bound tree.label ≡ within.end) }
-        ensures middle { IfOk result (λ tree. ¬ (IsInner root.label.content)
-            → number tree.label ≡ (within.start + within.end) / 2) }
-        ensures first_half { IfOk result (λ tree. IsInner root.label.content → 2 * count root ≤ within.end - within.start
-            → AllIn within.start (halfway within.start within.end) tree) }
-        ensures plain { IfOk result (λ tree. plain tree ≡ plain root) }
+    ) -> Result<NumberedTree, TooFewNumbers>
+        requires starts_in_span_full { 2 ≤ within.start }
+        requires ends_in_span_full { within.end ≤ 2 ^ 47 }
+        ensures refused { IsErr result ↔ IsTooShort root within.start within.end }
+        ensures back { IfErr result (λ error. error.tree ≡ root) }
+        ensures numbering { IfOk result (IsNumbering id within.start within.end root) }
     {
         // Read for the proof: the number of a file is at least 1.
         let _file = id.into_raw().get();
         let mut root = root;
         match root.numberize(id, within) {
             Ok(()) => Ok(NumberedTree { root }),
-            Err(Unnumberable) => Err(root),
+            Err(Unnumberable) => Err(TooFewNumbers { tree: root }),
         }
     }
 
-    /// Takes a tree that is numbered already, and gives any other one back. It takes time in proportion to the nodes,
-    /// and no memory.
-    pub fn from_numbered(root: SyntaxNode) -> Result<NumberedTree, SyntaxNode>
+    /// Takes a tree that is numbered already. For any other tree the error holds it as it was. It takes time in
+    /// proportion to the nodes, and no memory.
+    pub fn from_numbered(root: SyntaxNode) -> Result<NumberedTree, NotNumbered>
         ensures numbered { IsOk result ↔ IsNumbered root }
         ensures same { IfOk result (λ tree. tree ≡ root) }
-        ensures back { IfErr result (λ same. same ≡ root) }
+        ensures back { IfErr result (λ error. error.tree ≡ root) }
     {
         if root.is_numbered() {
             Ok(NumberedTree { root })
         } else {
-            Err(root)
+            Err(NotNumbered { tree: root })
         }
     }
 
-    /// The root, to be read.
+    /// The root, for reading.
     pub fn root(&self) -> &SyntaxNode
         ensures same { result.now ≡ self.now }
         ensures numbered { IsNumbered self.now }
@@ -98,7 +118,7 @@ impl NumberedTree {
         &self.root
     }
 
-    /// The root itself.
+    /// Gives the root back.
     pub fn into_root(self) -> SyntaxNode
         ensures same { result ≡ self }
         ensures numbered { IsNumbered result }
@@ -109,32 +129,25 @@ impl NumberedTree {
 
 /// # What is asked of the tree
 impl NumberedTree {
-    /// Numbers the tree anew, as [`SyntaxNode::numberize`] does. Where there are fewer numbers than nodes, it keeps those
-    /// that it has.
+    /// Numbers the tree anew, as [`SyntaxNode::numberize`] does. If the range has fewer numbers than the tree has
+    /// nodes, the tree keeps the numbers that it has.
     ///
-    /// `within` lies in `Span::FULL`. It takes time in proportion to the nodes, and no memory.
+    /// The range `within` lies in `Span::FULL`. It takes time in proportion to the nodes, and no memory.
     pub fn renumber(&mut self, id: FileId, within: Range<u64>) -> Result<(), Unnumberable>
-        requires low { 2 ≤ within.start }
-        requires high { within.end ≤ 2 ^ 47 }
-        ensures refused { IsErr result ↔ ((within.end ≤ within.start) ⊎ (within.end - within.start < count self.old)) }
+        requires starts_in_span_full { 2 ≤ within.start }
+        requires ends_in_span_full { within.end ≤ 2 ^ 47 }
+        ensures refused { IsErr result ↔ IsTooShort self.old within.start within.end }
         ensures err { OnErr result (self.new ≡ self.old) }
-        ensures numbered { OnOk result (IsNumberedFor id self.new) }
-        ensures within { OnOk result (AllIn within.start within.end self.new) }
-        ensures bound { OnOk result (IsInner self.old.label.content → bound self.new.label ≡ within.end) }
-        ensures middle { OnOk result (¬ (IsInner self.old.label.content)
-            → number self.new.label ≡ (within.start + within.end) / 2) }
-        ensures first_half { OnOk result (IsInner self.old.label.content → 2 * count self.old ≤ within.end - within.start
-            → AllIn within.start (halfway within.start within.end) self.new) }
-        ensures plain { plain self.new ≡ plain self.old }
+        ensures numbering { OnOk result (IsNumbering id within.start within.end self.old self.new) }
     {
         // Read for the proof: the number of a file is at least 1.
         let _file = id.into_raw().get();
         self.root.numberize(id, within)
     }
 
-    /// Serves one request, as [`session::run`] serves each: a replacement that is refused or doesn't fit changes nothing.
+    /// Serves one request as [`session::run`] does. A replacement that is refused or doesn't fit changes nothing.
     ///
-    /// It takes as long as [`SyntaxNode::replace_at`], or for a search as `LinkedNode::find`.
+    /// It takes as long as [`SyntaxNode::replace_at`], or for a search as long as `LinkedNode::find`.
     pub fn serve(&mut self, alloc: Global, request: Request) -> Reply
         ensures step { Step self.old request result self.new }
         ensures numbered { IsNumberedFor self.old.label.span.file self.new }
@@ -142,7 +155,7 @@ impl NumberedTree {
         session::serve(alloc, &mut self.root, request)
     }
 
-    /// Serves the requests in order, as [`session::run`] does: each `Ask` becomes the `Told` of its reply.
+    /// Serves the requests in order as [`session::run`] does. Each `Ask` becomes the `Told` of its reply.
     pub fn run(&mut self, alloc: Global, slots: &mut [Slot])
         ensures run { Run self.old slots.old slots.new self.new }
         ensures numbered { IsNumberedFor self.old.label.span.file self.new }
@@ -158,10 +171,20 @@ impl NumberedTree {
         session::run(alloc, &mut self.root, slots);
     }
 
-    /// The reply to a search by a span. It takes as long as `LinkedNode::find`, and memory for the path that it answers.
+    /// Searches for a span, and answers the reply. It takes as long as `LinkedNode::find`, and memory for the path that
+    /// it answers.
     pub fn find(&self, alloc: Global, span: Span) -> Reply
         ensures { Step self.now (Find span) result self.now }
     {
         session::find(alloc, &self.root, span)
+    }
+
+    /// The bytes of the text that a diagnostic is about, as [`place_of`] answers. It is `None` for a detached span, for
+    /// another file, for a number that no node has, and for a range that the text doesn't have. It goes down one path,
+    /// and takes no memory.
+    pub fn place_of(&self, span: &DiagSpan) -> Option<Range<usize>>
+        ensures { result ≡ place_in (diag_kind_of span.now) self.now }
+    {
+        place_of(&self.root, span)
     }
 }

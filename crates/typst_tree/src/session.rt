@@ -1,4 +1,4 @@
-// Runs of replacements and searches on one tree.
+//! Runs of replacements and searches on one tree.
 ghost use Rattle.std.specs.Prelude.{◌≡◌, ◌≢◌, ◌↔◌, ℕ, List, Some, IsTrue, MatchOption};
 ghost use Rattle.typst_linked.specs.Search.{with_number};
 ghost use Rattle.typst_node.specs.Labels.{number};
@@ -23,16 +23,16 @@ use typst_node::{Renumbered, ReplaceError, SyntaxNode};
 /// What is asked of a tree.
 #[derive(Debug, Drop)]
 pub enum Request {
-    /// To replace the children with an index in the range of the inner node that the path leads to.
+    /// Replace a range of the children of the inner node that the path leads to.
     Replace {
         /// Child indices from the root down.
         path: Vec<usize>,
-        /// Child indices of the edited node.
+        /// The range, in child indices of the edited node.
         range: Range<usize>,
-        /// The nodes that come for them. They are dropped unless the reply is `Renumbered`.
+        /// The nodes that replace them. They are dropped unless the reply is `Renumbered`.
         replacement: Vec<SyntaxNode>,
     },
-    /// To find the node with this span.
+    /// Find the node with this span.
     Find(Span),
 }
 
@@ -59,11 +59,11 @@ pub enum Reply {
         /// How many numbers the search read.
         looks: u64,
     },
-    /// The search, or the path of its answer, was refused memory. Nothing changed.
+    /// The search was refused memory, or the path of its answer was. Nothing changed.
     NoMemory,
 }
 
-/// A request, or the reply that it has got.
+/// A request, or the reply to it.
 #[derive(Debug, Drop)]
 pub enum Slot {
     /// A request that waits.
@@ -73,7 +73,7 @@ pub enum Slot {
 }
 
 impl Slot {
-    /// The reply, once the request was served.
+    /// The reply, or `None` as long as the request waits.
     pub fn reply(&self) -> Option<&Reply>
         ensures { MatchOption result ((reply : _) → self.now ≢ Told reply) (λ reply. self.now ≡ Told reply.now) }
     {
@@ -84,12 +84,12 @@ impl Slot {
     }
 }
 
-/// Serves the requests in order: each `Ask` becomes the `Told` of its reply, and a `Told` stays.
+/// Serves the requests in order. Each `Ask` becomes the `Told` of its reply, and a `Told` stays as it is.
 ///
-/// A refused replacement doesn't end the run. Memory is taken from `alloc`, and its want is told in a reply. The test
+/// A refused replacement doesn't end the run. Memory is taken from `alloc`; if it is refused, a reply says so. The test
 /// of the condition is `SyntaxNode::is_numbered`.
 pub fn run(alloc: Global, root: &mut SyntaxNode, slots: &mut [Slot])
-    requires { IsNumbered root.old }
+    requires numbered_ask_is_numbered { IsNumbered root.old }
     ensures run { Run root.old slots.old slots.new root.new }
     ensures numbered { IsNumberedFor root.old.label.span.file root.new }
     ensures plain { plain root.new ≡ plain (edited_by slots.old slots.new root.old) }
@@ -117,7 +117,7 @@ fn answer(alloc: Global, root: &mut SyntaxNode, slot: &mut Slot)
     };
 }
 
-/// The reply to one request, and its change of the tree.
+/// Serves one request: changes the tree, and answers the reply.
 #[tactic(auto, using(crate::proofs::Runs::step_numbered))]
 pub(crate) fn serve(alloc: Global, root: &mut SyntaxNode, request: Request) -> Reply
     requires { IsNumbered root.old }
@@ -134,7 +134,7 @@ pub(crate) fn serve(alloc: Global, root: &mut SyntaxNode, request: Request) -> R
     }
 }
 
-/// The reply to a replacement, and its change of the tree.
+/// Serves a replacement: changes the tree, and answers the reply.
 fn replace(
     alloc: Global,
     root: &mut SyntaxNode,
@@ -152,7 +152,7 @@ fn replace(
     }
 }
 
-/// The reply to a search.
+/// Serves a search.
 pub(crate) fn find(alloc: Global, root: &SyntaxNode, span: Span) -> Reply
     ensures { Step root.now (Find span) result root.now }
 {

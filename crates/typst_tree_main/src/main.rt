@@ -8,6 +8,7 @@ use std::io;
 use std::process::ExitCode;
 use typst_script::script;
 
+/// Carries out the script on standard input.
 fn main(rt: HostRuntime) -> ExitCode {
     match script::run(rt.alloc(), rt.reader(), io::writer(&rt)) {
         Ok(()) => ExitCode::SUCCESS,

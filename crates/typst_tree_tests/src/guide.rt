@@ -1,7 +1,10 @@
-//! The pieces of code that `docs/GUIDE.md` shows, as tests.
+//! The pieces of code that `docs/GUIDE.md` and the crates' own documents show, as tests.
 mod building;
+mod crates;
 mod diagnostics;
 mod editing;
+mod marks;
 mod memory;
 mod places;
 mod reading;
+mod source;

@@ -1,5 +1,5 @@
-//! Tests of `typst_tree`, in a crate of their own, so that the code is proved without them; of its guide's code; and of calls that
-//! find no memory.
+//! Tests of `typst_tree`, of its guide's code, and of calls that find no memory. They are in a crate of their own, so
+//! that the code is proved without them.
 #![tactic(auto)]
 
 #[cfg(test)]

@@ -1,4 +1,5 @@
-// Assertions of rows. A message that is made costs the proof of a test some seconds, so it is made here alone.
+//! Assertions of rows. Each place that makes a message costs the proof of a test some seconds, so messages are made
+//! only here.
 use std::process::Abort;
 
 /// Asserts that each row holds: what it shows, and whether it does.

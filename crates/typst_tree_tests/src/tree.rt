@@ -1,4 +1,6 @@
 //! Tests of `typst_tree`.
 mod asking;
+mod edits;
 mod numbered;
+mod places;
 mod runs;

@@ -1,3 +1,4 @@
+//! Which views read alike.
 use crate::rows::assert_all;
 use crate::trees::cast;
 use std::process::Abort;
@@ -6,7 +7,7 @@ use typst_ast::{is_alike, views as of};
 use typst_drawn::{drawn, drawn_all, numbered};
 use typst_node::{AstNode, SyntaxNode};
 
-// How views compare of an edited tree and of one that was built anew.
+/// How the views of an edited tree and those of a tree that was built anew compare.
 fn compare_edited(rt: &impl Abort, edited: &SyntaxNode, anew: &SyntaxNode) -> Result<(), Fail> {
     let view = cast::<of::Strong>(edited)?;
     let other = cast::<of::Strong>(anew)?;
@@ -31,7 +32,7 @@ fn views_of_an_edited_tree_read_as_those_of_the_tree_built_anew(
     compare_edited(&rt, &edited, &anew)
 }
 
-// How views compare of strong content: of `a`, of `a`, of `b`, and twice of nothing.
+/// How the views of strong content compare: of `a`, of `a`, of `b`, and twice of nothing.
 fn compare(rt: &impl Abort, nodes: &[SyntaxNode]) -> Result<(), Fail> {
     let [a, again, b, hollow, hollow_again] = nodes else {
         return Err("no nodes")?;
@@ -49,13 +50,9 @@ fn compare(rt: &impl Abort, nodes: &[SyntaxNode]) -> Result<(), Fail> {
             "placeholders are alike",
             is_alike(blank, of::Strong::placeholder()),
         ),
-        ("equal nodes are equal", view.is_equal(equal)),
-        ("another text is not equal", !view.is_equal(other)),
-        ("no node is not equal", !view.is_equal(blank)),
-        (
-            "placeholders are equal",
-            blank.is_equal(of::Strong::placeholder()),
-        ),
+        ("equal nodes are equal", view == equal),
+        ("another text is not equal", view != other),
+        ("no node is not equal", view != blank),
         ("hollow nodes are equal by ==", hollow == hollow_again),
         (
             "placeholders are equal by ==",

@@ -1,3 +1,4 @@
+//! The names that bindings and patterns bind.
 use crate::rows::assert_text;
 use crate::trees::view;
 use std::alloc::{AllocError, Global};
@@ -8,17 +9,17 @@ use typst_node::{AstNode, SyntaxNode};
 use typst_tree::ast;
 use typst_tree::session::{self, Reply, Request, Slot};
 
-// `let(a,b: c,..d)=v`.
+/// `let(a,b: c,..d)=v`.
 pub(crate) const BINDING: &str =
     "LetBinding[ Let:let Destructuring[ LeftParen:( Ident:a Comma:, Named[ Ident:b Colon:: Ident:c ] \
     Comma:, Spread[ Dots:.. Ident:d ] RightParen:) ] Eq:= Ident:v ]";
 
-// `((a,b: c,..d))`.
+/// `((a,b: c,..d))`.
 const GROUP: &str =
     "Parenthesized[ LeftParen:( Destructuring[ LeftParen:( Ident:a Comma:, Named[ Ident:b Colon:: Ident:c ] \
     Comma:, Spread[ Dots:.. Ident:d ] RightParen:) ] RightParen:) ]";
 
-// The names as one text, a comma after each; `-` for a placeholder.
+/// The names as one text, a comma after each; `-` for a placeholder.
 fn joined(alloc: Global, names: &[of::Ident]) -> Result<String, AllocError> {
     let mut all = String::new(alloc);
     for name in names {
@@ -37,10 +38,11 @@ enum As {
     LetBinding,
     Destructuring,
     Pattern,
-    /// A group as an expression that is a pattern, which by hand can be made.
+    /// A group as an expression that is a pattern, which can be made by hand.
     Grouped,
 }
 
+/// The names that a tree binds when it is viewed in this way.
 fn bound<'a>(
     alloc: Global,
     tree: Option<&'a SyntaxNode>,
@@ -54,6 +56,7 @@ fn bound<'a>(
     }
 }
 
+/// The names that a let binding binds.
 fn bound_by_let<'a>(
     alloc: Global,
     binding: of::LetBinding<'a>,
@@ -61,6 +64,7 @@ fn bound_by_let<'a>(
     binding.kind().bindings(alloc)
 }
 
+/// The names bound by a group that a caller made into a normal pattern.
 fn bound_by_group<'a>(
     alloc: Global,
     group: of::Parenthesized<'a>,
@@ -72,6 +76,7 @@ fn bound_by_group<'a>(
 /// the names that this binds.
 type Row = (&'static str, &'static str, As, &'static str);
 
+/// Which names are bound.
 const BOUND: [Row; 12] = [
     ("a let binding", BINDING, As::LetBinding, "a,c,d,"),
     ("a group", GROUP, As::Pattern, "a,c,d,"),
@@ -92,6 +97,7 @@ const BOUND: [Row; 12] = [
     ("a name", "Ident:x", As::Pattern, "x,"),
 ];
 
+/// The names that a drawn tree binds.
 fn names_of(alloc: Global, drawing: &str, it: As) -> Result<String, DrawingError> {
     let trees = drawn_all(alloc, drawing)?;
     let names = bound(alloc, trees.first(), it)?;
@@ -107,7 +113,7 @@ fn bindings_and_patterns_bind_names_in_order(rt: HostRuntime) -> Result<(), Fail
     Ok(())
 }
 
-// The window of children that a run's first reply says was numbered anew, and how many windows were tried.
+/// The window of children that a run's first reply says was numbered anew, and how many windows were tried.
 fn renumbered(slots: &[Slot]) -> Option<(usize, usize, usize)> {
     match slots.first()? {
         Slot::Told(Reply::Renumbered(it)) => Some((it.window.start, it.window.end, it.tried)),

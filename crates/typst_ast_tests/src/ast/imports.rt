@@ -1,3 +1,4 @@
+//! The stems of files, and the names that imports bring in.
 use crate::rows::{assert_row, assert_text};
 use crate::trees::view;
 use std::alloc::{AllocError, Global};
@@ -5,6 +6,7 @@ use std::test::Fail;
 use typst_ast::{file_stem, views as of};
 use typst_drawn::{DrawingError, drawn};
 
+/// Paths, and the stems of their files.
 const STEMS: [(&str, Option<&str>); 14] = [
     ("a/b.typ", Some("b")),
     (".x", Some(".x")),
@@ -37,6 +39,7 @@ enum Called {
     Refused,
 }
 
+/// What the reader of packages answers.
 fn answer_of(alloc: Global, package: Called) -> Result<Option<String>, AllocError> {
     match package {
         Called::Name(name) => Ok(Some(String::from_str(alloc, name)?)),
@@ -45,8 +48,8 @@ fn answer_of(alloc: Global, package: Called) -> Result<Option<String>, AllocErro
     }
 }
 
-/// The name that an import without one of its own binds, or the error that says why there is none. Each word fits a name,
-/// or none does, and each package is called the same.
+/// The name that an import without one of its own binds, or the error that says why there is none. Either each word
+/// fits a name or none does, and each package is called the same.
 fn named(
     alloc: Global,
     import: of::ModuleImport,
@@ -64,6 +67,7 @@ fn named(
 /// the placeholder.
 type Row = (&'static str, &'static str, bool, Called, &'static str);
 
+/// Which names imports bring in.
 const NAMED: [Row; 9] = [
     (
         "a path",
@@ -124,6 +128,7 @@ const NAMED: [Row; 9] = [
     ),
 ];
 
+/// The name that a drawn import brings in.
 fn named_by(
     alloc: Global,
     drawing: &str,

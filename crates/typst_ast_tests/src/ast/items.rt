@@ -1,4 +1,4 @@
-// What nodes are viewed as.
+//! What nodes are viewed as.
 use crate::ast::bindings::BINDING;
 use crate::rows::assert_all;
 use crate::trees::{shown, text, view};
@@ -25,7 +25,7 @@ fn not_in_is_one_operator(rt: HostRuntime) -> Result<(), Fail> {
     Ok(())
 }
 
-/// What a node is viewed as, or what is then read of the view.
+/// What a node is viewed as, or what is then read from the view.
 #[derive(Clone, Copy)]
 enum As {
     Arg,
@@ -39,7 +39,7 @@ enum As {
     Pattern,
 }
 
-/// The `Debug` text of a node's view, `-` for none; without a node that of the placeholder.
+/// The `Debug` text of a node's view, or `-` for none. Without a node it is that of the placeholder.
 fn told_as(alloc: Global, node: Option<&SyntaxNode>, it: As) -> Result<String, AllocError> {
     match node {
         Some(node) => told(alloc, node, it),
@@ -47,6 +47,7 @@ fn told_as(alloc: Global, node: Option<&SyntaxNode>, it: As) -> Result<String, A
     }
 }
 
+/// What a node is viewed as.
 fn told(alloc: Global, node: &SyntaxNode, it: As) -> Result<String, AllocError> {
     match it {
         As::Arg => shown(alloc, Arg::from_untyped(node)),
@@ -61,6 +62,7 @@ fn told(alloc: Global, node: &SyntaxNode, it: As) -> Result<String, AllocError> 
     }
 }
 
+/// What the placeholder is.
 fn told_blank(alloc: Global, it: As) -> Result<String, AllocError> {
     match it {
         As::Arg => shown(alloc, Some(Arg::placeholder())),
@@ -75,10 +77,12 @@ fn told_blank(alloc: Global, it: As) -> Result<String, AllocError> {
     }
 }
 
+/// What a binding binds.
 fn told_kind(alloc: Global, binding: of::LetBinding) -> Result<String, AllocError> {
     shown(alloc, Some(binding.kind()))
 }
 
+/// The value of a binding.
 fn told_value(alloc: Global, binding: of::LetBinding) -> Result<String, AllocError> {
     shown(alloc, binding.init())
 }
@@ -86,6 +90,7 @@ fn told_value(alloc: Global, binding: of::LetBinding) -> Result<String, AllocErr
 /// What is shown, a drawing of a node, or of none, what it is viewed as, and how the view's `Debug` text begins.
 type Row = (&'static str, &'static str, As, &'static str);
 
+/// What nodes are viewed as.
 const VIEWED: [Row; 31] = [
     ("a pair in a dictionary", "Named[ ]", As::DictItem, "Named("),
     ("a pair as an argument", "Named[ ]", As::Arg, "Named("),
@@ -225,11 +230,13 @@ const VIEWED: [Row; 31] = [
     ),
 ];
 
+/// What a drawn node is viewed as.
 fn told_of(alloc: Global, drawing: &str, it: As) -> Result<String, DrawingError> {
     let nodes = drawn_all(alloc, drawing)?;
     Ok(told_as(alloc, nodes.first(), it)?)
 }
 
+/// Asserts how a text begins.
 fn assert_begin(rt: &impl Abort, shows: &str, said: &str, wanted: &str) {
     assert!(rt; said.starts_with(wanted), "{shows}: {said}");
 }

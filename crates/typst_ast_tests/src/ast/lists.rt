@@ -1,4 +1,4 @@
-// Lists that are read from both ends.
+//! Lists that are read from both ends.
 use crate::rows::assert_text;
 use crate::trees::{shown, view};
 use std::alloc::{AllocError, Global};
@@ -20,6 +20,7 @@ const ARGUMENTS: &str =
 /// `Debug` texts of the items, `-` for none.
 type Row = (&'static str, &'static str, &'static str, &'static str);
 
+/// What is taken from either end.
 const TAKEN: [Row; 5] = [
     (
         "markup leaves out the space after a statement",
@@ -53,6 +54,7 @@ const TAKEN: [Row; 5] = [
     ),
 ];
 
+/// Writes an item.
 fn push_shown<T: Debug + Copy>(
     alloc: Global,
     item: Option<T>,
@@ -62,6 +64,7 @@ fn push_shown<T: Debug + Copy>(
     said.push(' ')
 }
 
+/// The expressions of markup, taken from these ends.
 fn exprs_taken(alloc: Global, markup: of::Markup, ends: &str) -> Result<String, AllocError> {
     let mut exprs = markup.exprs();
     let mut said = String::new(alloc);
@@ -76,6 +79,7 @@ fn exprs_taken(alloc: Global, markup: of::Markup, ends: &str) -> Result<String, 
     Ok(said)
 }
 
+/// The items of arguments in math, taken from these ends.
 fn items_taken(alloc: Global, arguments: of::MathArgs, ends: &str) -> Result<String, AllocError> {
     let mut items = arguments.content_items();
     let mut said = String::new(alloc);
@@ -90,6 +94,7 @@ fn items_taken(alloc: Global, arguments: of::MathArgs, ends: &str) -> Result<Str
     Ok(said)
 }
 
+/// What is taken from a drawn list.
 fn taken(alloc: Global, drawing: &str, ends: &str) -> Result<String, DrawingError> {
     let tree = drawn(alloc, drawing)?;
     Ok(if tree.kind() == SyntaxKind::Markup {
@@ -130,7 +135,7 @@ fn an_argument_may_end_in_a_semicolon(rt: HostRuntime) -> Result<(), Fail> {
     Ok(())
 }
 
-/// What the lists of expressions, of items and of arguments hint, and what copies hint that gave one.
+/// The size hints of the lists of expressions, of items and of arguments, and those of copies that gave one.
 fn hints(
     markup: of::Markup,
     arguments: of::MathArgs,
@@ -159,14 +164,14 @@ fn lists_hint_at_most_the_nodes_ahead(rt: HostRuntime) -> Result<(), Fail> {
     let markup = drawn(rt.alloc(), SPACED)?;
     let arguments = drawn(rt.alloc(), ARGUMENTS)?;
     let said = hints(view(Some(&markup)), view(Some(&arguments)))?;
-    // Of four and of seven children; before the first argument stand a paren and a hash.
+    // Of four and of seven children. A paren and a hash come before the first argument.
     let (four, seven) = ((0, Some(4)), (0, Some(7)));
     let (three, six) = ((0, Some(3)), (0, Some(6)));
     assert_eq!(rt; said, [four, seven, seven, three, six, four]);
     Ok(())
 }
 
-/// What the lists of expressions, of items and of arguments show after a step each.
+/// How the lists of expressions, of items and of arguments are shown after one step each.
 fn shown_ahead(
     alloc: Global,
     markup: of::Markup,
@@ -181,7 +186,7 @@ fn shown_ahead(
     format!(in alloc; "{exprs:?}\n{items:?}\n{args:?}")
 }
 
-/// Three lists after a step each, an entry a line.
+/// Three lists after one step each, one entry a line.
 const AHEAD: &str =
     r##"Exprs { nodes: KeptNodes { rest: [Space: " ", Text: "a"], drops: true, behind_stmt: true } }
 MathArgItems { nodes: MathItems { rest: [Hash: "#", Ident: "x", RightParen: ")"], behind_hash: false } }

@@ -20,7 +20,7 @@ const LITERALS: [SyntaxKind; 7] = [
     SyntaxKind::Str,
 ];
 
-/// The kinds of the other expressions that may stand after a hash.
+/// The kinds of the other expressions that may come after a hash.
 const AFTER_HASH: [SyntaxKind; 20] = [
     SyntaxKind::Ident,
     SyntaxKind::CodeBlock,
@@ -54,7 +54,7 @@ fn is_named(alloc: Global, view: Expr, kind: SyntaxKind) -> Result<bool, AllocEr
     Ok(view.kind() == kind && shown.as_str().starts_with(name.as_str()))
 }
 
-/// Whether an expression is a literal, and whether it may stand after a hash.
+/// Whether an expression is a literal, and whether it may come after a hash.
 fn told(expr: Expr) -> (bool, bool) {
     (expr.is_literal(), expr.hash())
 }

@@ -1,3 +1,4 @@
+//! A walk over the expressions of a document.
 use crate::trees::view;
 use std::alloc::{AllocError, Global};
 use std::test::Fail;
@@ -6,11 +7,11 @@ use typst_ast::views::Markup;
 use typst_drawn::drawn;
 use typst_node::AstNode;
 
-// `= Hi` and ` *there*`.
+/// `= Hi` and ` *there*`.
 const DOCUMENT: &str =
     "Markup[ Heading[ HeadingMarker:= Markup[ Text:Hi ] ] Space:~ Strong[ Markup[ Text:there ] ] ]";
 
-// The texts of headings and of strong content, each on a line.
+/// The texts of headings and of strong content, each on a line.
 fn texts(alloc: Global, markup: Markup) -> Result<String, AllocError> {
     let mut found = String::new(alloc);
     for expr in markup.exprs() {

@@ -1,3 +1,4 @@
+//! What accessors of single kinds answer.
 use crate::rows::{assert_all, assert_texts, assert_told};
 use crate::trees::{cast, got, is_missing};
 use std::alloc::Global;
@@ -11,7 +12,7 @@ use typst_base::{SyntaxKind, named_sets};
 use typst_drawn::{DrawingError, drawn, drawn_all};
 use typst_node::{AstNode, SyntaxNode};
 
-// The identifiers below, taken from the back, the front, the back, the front and the back.
+/// The identifiers below, taken from the back, the front, the back, the front and the back.
 fn taken<'a>(node: Option<&'a SyntaxNode>) -> [&'a str; 5] {
     let mut all = cast_all::<of::Ident>(node);
     let last = got(all.next_back());
@@ -70,7 +71,7 @@ fn views_tell_node_kind_and_span(rt: HostRuntime) -> Result<(), Fail> {
     Ok(())
 }
 
-// The characters that end a line.
+/// The characters that end a line.
 #[derive(Drop)]
 enum Ends {
     At(char),
@@ -78,6 +79,7 @@ enum Ends {
     Nowhere,
 }
 
+/// Whether raw text is a block for a reader of line ends.
 fn block(view: of::Raw, ends: Ends) -> bool {
     view.block(|c| match ends {
         Ends::At(end) => c == end,
@@ -86,14 +88,14 @@ fn block(view: of::Raw, ends: Ends) -> bool {
     })
 }
 
-// Raw text with a line end, which no drawing has.
+/// Raw text with a line end, which no drawing has.
 fn raw(alloc: Global) -> Result<SyntaxNode, DrawingError> {
     let mut children = drawn_all(alloc, "RawDelim:```")?;
     children.push(SyntaxNode::leaf(alloc, SyntaxKind::RawTrimmed, "x\n")?)?;
     Ok(SyntaxNode::inner(alloc, SyntaxKind::Raw, children)?)
 }
 
-// What line ends are, a caller says; the comparison has one reader for all its trees.
+/// A caller says what line ends are. The comparison has one reader for all its trees.
 #[test]
 fn a_block_of_raw_text_asks_its_reader_what_ends_a_line(rt: HostRuntime) -> Result<(), Fail> {
     let node = raw(rt.alloc())?;
@@ -109,18 +111,18 @@ fn a_block_of_raw_text_asks_its_reader_what_ends_a_line(rt: HostRuntime) -> Resu
     Ok(())
 }
 
-// A binary operator's text, its precedence, and whether it associates to the right.
-fn binary(op: BinOp) -> (&'static str, usize, bool) {
+/// A binary operator's text, its precedence, and whether it associates to the right.
+fn binary(op: BinOp) -> (&'static str, u8, bool) {
     (op.as_str(), op.precedence(), op.assoc() == Assoc::Right)
 }
 
-// The same of the binary operator of a kind.
-fn binary_of(kind: SyntaxKind) -> Option<(&'static str, usize, bool)> {
+/// The same of the binary operator of a kind.
+fn binary_of(kind: SyntaxKind) -> Option<(&'static str, u8, bool)> {
     Some(binary(BinOp::from_kind(kind)?))
 }
 
-// A unary operator's text and precedence.
-fn unary_of(kind: SyntaxKind) -> Option<(&'static str, usize)> {
+/// A unary operator's text and precedence.
+fn unary_of(kind: SyntaxKind) -> Option<(&'static str, u8)> {
     let op = UnOp::from_kind(kind)?;
     Some((op.as_str(), op.precedence()))
 }
@@ -160,7 +162,7 @@ fn operators_have_kinds_texts_and_precedences(rt: HostRuntime) {
     }
 }
 
-// Whether a kind is one of binary and of unary operators.
+/// Whether a kind is one of binary and of unary operators.
 fn is_operator(kind: SyntaxKind) -> (bool, bool) {
     (
         BinOp::from_kind(kind).is_some(),
@@ -168,7 +170,7 @@ fn is_operator(kind: SyntaxKind) -> (bool, bool) {
     )
 }
 
-// Whether a kind is in the sets of binary and of unary operators.
+/// Whether a kind is in the sets of binary and of unary operators.
 fn is_in_sets(kind: SyntaxKind) -> (bool, bool) {
     (
         named_sets::binary_op().contains(kind),

@@ -1,15 +1,16 @@
+//! The children that views pick.
 use crate::rows::{assert_all, assert_texts};
 use crate::trees::got;
 use std::alloc::AllocError;
 use std::test::Fail;
-use typst_atoms::casts::{first_in, last_in};
 use typst_atoms::nodes::{behind, children, first_of_kind, leaf_text};
-use typst_atoms::{Items, KeptNodes, MathItems, views as of};
+use typst_atoms::{KeptNodes, MathItems, cast_all, views as of};
 use typst_base::SyntaxKind;
 use typst_drawn::drawn;
-use typst_node::SyntaxNode;
+use typst_node::casts::{first_in, last_in};
+use typst_node::{AstNode, Items, SyntaxNode};
 
-// The pair `a: b`.
+/// The pair `a: b`.
 const PAIR: &str = "Named[ Ident:a Colon:: Space:~ Ident:b ]";
 
 #[test]
@@ -57,9 +58,36 @@ fn views_are_found_in_a_list_of_nodes(rt: HostRuntime) -> Result<(), Fail> {
     Ok(())
 }
 
-// What the lists of views, of kept nodes and of items in math hint, and what copies hint that gave their last one.
+#[test]
+fn children_are_cast_from_both_ends(rt: HostRuntime) -> Result<(), Fail> {
+    let pair = drawn(rt.alloc(), PAIR)?;
+    let mut items = pair.cast_all::<of::Ident>();
+    let first: of::Ident = pair.cast_first();
+    let last: of::Ident = pair.cast_last();
+    let missing: of::Int = pair.cast_first();
+    let none: of::Int = pair.cast_last();
+    let rows = [
+        ("the first", got(pair.try_cast_first::<of::Ident>()), "a"),
+        ("the last", got(pair.try_cast_last::<of::Ident>()), "b"),
+        ("all, from the back", got(items.next_back()), "b"),
+        ("the first itself", got(Some(first)), "a"),
+        ("the last itself", got(Some(last)), "b"),
+    ];
+    assert_texts(&rt, &rows);
+    let missing_ones = [
+        ("no first", pair.try_cast_first::<of::Int>().is_none()),
+        ("no last", pair.try_cast_last::<of::Int>().is_none()),
+        ("a placeholder", missing.to_untyped().is_none()),
+        ("a placeholder from the back", none.to_untyped().is_none()),
+    ];
+    assert_all(&rt, &missing_ones);
+    Ok(())
+}
+
+/// The size hints of the lists of views, of kept nodes and of items in math, and those of copies that gave their last
+/// one.
 fn hints(node: Option<&SyntaxNode>) -> Result<[(usize, Option<usize>); 6], AllocError> {
-    let views = Items::<of::Ident>::new(node);
+    let views = cast_all::<of::Ident>(node);
     let nodes = KeptNodes::of_all(node);
     let items = MathItems::new(node);
     let mut fewer_views = views.clone()?;
@@ -94,7 +122,7 @@ fn lists_hint_at_most_the_nodes_ahead(rt: HostRuntime) -> Result<(), Fail> {
 fn lists_show_the_nodes_ahead(rt: HostRuntime) -> Result<(), Fail> {
     let alloc = rt.alloc();
     let pair = drawn(alloc, PAIR)?;
-    let mut views = Items::<of::Ident>::new(Some(&pair));
+    let mut views = pair.cast_all::<of::Ident>();
     let mut nodes = KeptNodes::of_markup(Some(&pair));
     let mut items = MathItems::new(Some(&pair));
     let _view = views.next();

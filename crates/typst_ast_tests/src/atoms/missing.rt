@@ -1,3 +1,4 @@
+//! What placeholders answer.
 use crate::rows::{assert_all, assert_row};
 use crate::trees::{cast, is_missing};
 use std::test::Fail;

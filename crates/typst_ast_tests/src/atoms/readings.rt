@@ -1,4 +1,4 @@
-// What is read of leaves' texts.
+//! What is read from the texts of leaves.
 use std::alloc::Global;
 use std::fmt::Display;
 use std::process::Abort;
@@ -7,10 +7,10 @@ use typst_atoms::{MathTextKind, views as of};
 use typst_base::SyntaxKind;
 use typst_node::SyntaxNode;
 
-/// A text, and the words for what is read of a leaf with it.
+/// A text, and the words for what is read from a leaf with this text.
 type Row = (&'static str, &'static str);
 
-/// Two slashes at the begin are lost.
+/// Two slashes at the beginning are removed.
 const LINE_COMMENTS: [Row; 11] = [
     ("// a", " a"),
     ("//", ""),
@@ -25,7 +25,7 @@ const LINE_COMMENTS: [Row; 11] = [
     ("é//", "é//"),
 ];
 
-/// Both ends are lost, or none.
+/// Both ends are removed, or neither is.
 const BLOCK_COMMENTS: [Row; 13] = [
     ("/*/", "/*/"),
     ("/**/", ""),
@@ -42,7 +42,7 @@ const BLOCK_COMMENTS: [Row; 13] = [
     ("/*a*/ ", "/*a*/ "),
 ];
 
-/// A character, or a code, is named.
+/// An escape names a character or a code.
 const ESCAPES: [Row; 20] = [
     ("\\u{1F5FA}", "\u{1F5FA}"),
     ("\\u{}", "\0"),
@@ -66,7 +66,7 @@ const ESCAPES: [Row; 20] = [
     ("\\u{100000000000000041}", "\0"),
 ];
 
-/// The first character tells whether it is a number.
+/// The first character tells whether the text is a number.
 const MATH_TEXTS: [Row; 13] = [
     ("\u{B2}", "number"),
     ("\u{2167}", "number"),
@@ -134,7 +134,7 @@ const NUMBERS: [Row; 19] = [
     ("é12pt", "é12 Pt"),
 ];
 
-/// The quotes are lost, and escapes read.
+/// The quotes are removed, and escapes are read.
 const STRINGS: [Row; 22] = [
     ("\"a\\u{41}\\x\"", "aA\\x"),
     ("\"", "\""),
@@ -160,7 +160,7 @@ const STRINGS: [Row; 22] = [
     ("\"\\\\n\"", "\\n"),
 ];
 
-/// All angle brackets at the ends are lost.
+/// All angle brackets at the ends are removed.
 const LABELS: [Row; 15] = [
     ("<<a>>", "a"),
     ("<a>", "a"),
@@ -179,7 +179,7 @@ const LABELS: [Row; 15] = [
     (" <a>", " <a"),
 ];
 
-/// One character that each stands for.
+/// Each stands for one character.
 const SHORTHANDS: [Row; 12] = [
     ("...", "\u{2026}"),
     ("~", "\u{A0}"),
@@ -195,7 +195,7 @@ const SHORTHANDS: [Row; 12] = [
     (" -", "\0"),
 ];
 
-/// The same in math.
+/// Each stands for one character in math.
 const MATH_SHORTHANDS: [Row; 13] = [
     ("...", "\u{2026}"),
     ("-", "\u{2212}"),
@@ -212,7 +212,7 @@ const MATH_SHORTHANDS: [Row; 13] = [
     ("<<<<", "\0"),
 ];
 
-/// Of each kind of leaf, what is read of its texts.
+/// What is read from the texts of each kind of leaf.
 const READINGS: [(SyntaxKind, &[Row]); 10] = [
     (SyntaxKind::LineComment, &LINE_COMMENTS),
     (SyntaxKind::BlockComment, &BLOCK_COMMENTS),
@@ -226,6 +226,7 @@ const READINGS: [(SyntaxKind, &[Row]); 10] = [
     (SyntaxKind::MathShorthand, &MATH_SHORTHANDS),
 ];
 
+/// A value as it is printed.
 fn worded<T: Display + Drop>(alloc: Global, value: T) -> Option<String> {
     format!(in alloc; "{value}").ok()
 }
@@ -245,7 +246,7 @@ fn numeric(alloc: Global, view: of::Numeric) -> Option<String> {
     format!(in alloc; "{value} {unit:?}").ok()
 }
 
-/// The words for what is read of a leaf by the view of its kind.
+/// The words for what is read from a leaf by the view of its kind.
 fn reading(alloc: Global, leaf: &SyntaxNode) -> Option<String> {
     match leaf.kind() {
         SyntaxKind::LineComment => worded(alloc, leaf.cast::<of::LineComment>()?.text()),
@@ -262,7 +263,7 @@ fn reading(alloc: Global, leaf: &SyntaxNode) -> Option<String> {
     }
 }
 
-/// What is read of a leaf of this kind with this text.
+/// What is read from a leaf of this kind with this text.
 fn read(alloc: Global, kind: SyntaxKind, text: &str) -> Result<String, Fail> {
     if kind.is_error() {
         return Err("no kind of leaves")?;
@@ -271,6 +272,7 @@ fn read(alloc: Global, kind: SyntaxKind, text: &str) -> Result<String, Fail> {
     Ok(reading(alloc, &leaf).ok_or("no reading")?)
 }
 
+/// Asserts what a text is read as.
 fn assert_reading(rt: &impl Abort, kind: SyntaxKind, text: &str, said: &str, wanted: &str) {
     assert_eq!(rt; said, wanted, "{kind:?} {text}");
 }
@@ -296,7 +298,7 @@ const LISTED: &[(&str, char)] = &[
     ("-?", '\u{AD}'),
 ];
 
-/// Those of math.
+/// The shorthands of math, and what each stands for.
 const LISTED_IN_MATH: &[(&str, char)] = &[
     ("...", '\u{2026}'),
     ("-", '\u{2212}'),

@@ -1,4 +1,4 @@
-// Tests of spans of diagnostics by worked examples.
+//! Tests of spans of diagnostics by worked examples.
 use std::num::NonZeroU64;
 use std::ops::Range;
 use typst_base::{DiagSpan, DiagSpanKind, FileId, Span, SpanNumber, SubRange};
@@ -31,7 +31,7 @@ fn external_ranges_come_back_with_their_ends_cut(rt: HostRuntime) {
 
 #[test]
 fn a_low_value_of_an_external_range_without_its_other_end_ends_at_0(rt: HostRuntime) {
-    let id = FileId::new(1).expect(&rt, "an id");
+    let id = FileId::FIRST;
     let word = NonZeroU64::new((1 << 48) + (1 << 47) + 5).expect(&rt, "not 0");
     let span = DiagSpan::from_span(Span::from_raw(word), None);
     let range = 5..0;
@@ -40,9 +40,7 @@ fn a_low_value_of_an_external_range_without_its_other_end_ends_at_0(rt: HostRunt
 
 /// The bytes that a range span and a part of it point to, or `0..0` if they point to none.
 fn bytes_of(range: Range<usize>, part: Option<SubRange>) -> Range<usize> {
-    let Some(id) = FileId::new(1) else {
-        return 0..0;
-    };
+    let id = FileId::FIRST;
     match DiagSpan::from_span(Span::from_range(id, range), part).get() {
         DiagSpanKind::Range { range, .. } => range,
         _ => 0..0,
@@ -57,7 +55,7 @@ fn a_part_of_a_range_is_counted_as_the_range_is(rt: HostRuntime) {
 
 #[test]
 fn a_part_of_a_node_is_kept(rt: HostRuntime) {
-    let id = FileId::new(1).expect(&rt, "an id");
+    let id = FileId::FIRST;
     let node = Span::from_number(id, SpanNumber(5));
     match DiagSpan::from_span(node, SubRange::new(2, 5)).get() {
         DiagSpanKind::Number { num, sub_range, .. } => {
@@ -79,7 +77,7 @@ fn a_part_of_a_node_is_kept(rt: HostRuntime) {
 
 #[test]
 fn a_detached_diagnostic_span_gives_way(rt: HostRuntime) {
-    let id = FileId::new(1).expect(&rt, "an id");
+    let id = FileId::FIRST;
     let none = DiagSpan::detached();
     assert!(rt; none.is_detached());
     assert!(rt; none.id().is_none());

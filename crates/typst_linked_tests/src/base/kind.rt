@@ -1,4 +1,4 @@
-// Tests of kinds against their table, row by row.
+//! Tests of kinds against their table, row by row.
 use crate::rows::assert_text;
 use std::alloc::{AllocError, Global};
 use std::test::Fail;
@@ -188,7 +188,7 @@ fn classes_of(alloc: Global, kind: SyntaxKind) -> Result<String, AllocError> {
     Ok(letters)
 }
 
-/// The row of the kind with this number, which it is to tell again.
+/// The row of the kind with this number, as the library gives it.
 fn row_of(alloc: Global, number: u8) -> Result<String, Fail> {
     let kind = SyntaxKind::from_u8(number).ok_or("no kind")?;
     if kind.to_u8() != number {

@@ -1,4 +1,4 @@
-// Tests of the walk over the kinds of a set.
+//! Tests of the walk over the kinds of a set.
 use std::test::Fail;
 use typst_base::{SyntaxKind, SyntaxSet, named_sets};
 

@@ -1,8 +1,8 @@
-// Tests of mappers by worked examples.
+//! Tests of mappers by worked examples.
 use std::ops::Range;
 use typst_base::{MapperError, RangeMapper, SubRange};
 
-/// The original range of these bytes, where they lie in the text.
+/// The original range of these bytes, if they are in the text.
 fn map(mapper: &RangeMapper, range: Range<usize>) -> Option<Range<usize>> {
     if range.start <= range.end && range.end <= mapper.total_len() {
         Some(mapper.map(range))
@@ -11,7 +11,7 @@ fn map(mapper: &RangeMapper, range: Range<usize>) -> Option<Range<usize>> {
     }
 }
 
-/// Whether each range maps to the original one beside it.
+/// Whether each range maps to the original one next to it.
 fn maps(mapper: &RangeMapper, rows: &[(Range<usize>, Range<usize>)]) -> bool {
     for (range, original) in rows {
         match map(mapper, range.start..range.end) {
@@ -22,7 +22,7 @@ fn maps(mapper: &RangeMapper, rows: &[(Range<usize>, Range<usize>)]) -> bool {
     true
 }
 
-/// The original part, where the part lies in the text.
+/// The original part, if the part is in the text.
 fn map_part(mapper: &RangeMapper, offset: usize, part: SubRange) -> Option<Range<usize>> {
     if !part.fits_at(offset) {
         return None;

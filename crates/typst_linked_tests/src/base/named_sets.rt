@@ -1,4 +1,4 @@
-// Tests of sets of kinds against their lists.
+//! Tests of sets of kinds against their lists.
 use std::test::Fail;
 use typst_base::{SyntaxKind, SyntaxSet, named_sets};
 

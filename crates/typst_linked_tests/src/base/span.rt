@@ -1,4 +1,4 @@
-// Tests of spans by worked examples.
+//! Tests of spans by worked examples.
 use std::num::{NonZeroU16, NonZeroU64};
 use typst_base::{FileId, Span, SpanKind, SpanNumber};
 
@@ -55,7 +55,7 @@ fn only_the_word_1_is_detached(rt: HostRuntime) {
 
 #[test]
 fn the_first_span_that_points_somewhere_is_found(rt: HostRuntime) {
-    let id = FileId::new(1).expect(&rt, "an id");
+    let id = FileId::FIRST;
     let five = Span::from_number(id, SpanNumber(5));
     let seven = Span::from_number(id, SpanNumber(7));
     let none = Span::detached();

@@ -1,10 +1,9 @@
-// Tests of values with spans.
+//! Tests of values with spans.
 use typst_base::{DiagSpan, FileId, Span, SpanNumber, Spanned};
 
 #[test]
 fn a_value_keeps_its_span(rt: HostRuntime) {
-    let id = FileId::new(1).expect(&rt, "an id");
-    let span = Span::from_number(id, SpanNumber(5));
+    let span = Span::from_number(FileId::FIRST, SpanNumber(5));
     let three = Spanned::new(3u8, span);
     let six = three.map(|v| v as u16 * 2);
     assert_eq!(rt; six.v, 6);

@@ -1,4 +1,4 @@
-// Tests of parts by worked examples.
+//! Tests of parts by worked examples.
 use typst_base::SubRange;
 
 #[test]

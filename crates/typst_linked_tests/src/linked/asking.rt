@@ -1,4 +1,4 @@
-// What a linked node is asked, and the words for its answers.
+//! What a linked node is asked, and the words for its answers.
 use crate::rows::assert_text;
 use std::alloc::{AllocError, Global};
 use std::process::Abort;
@@ -73,7 +73,7 @@ pub(crate) fn span_of(file: u16, number: u64) -> Result<Span, DrawingError> {
     Ok(Span::from_number(file, SpanNumber(number)))
 }
 
-/// The node that is asked for; none where the answer is no node.
+/// The node that is asked for, or none where the answer isn't a node.
 fn asked<'a>(
     alloc: Global,
     node: &LinkedNode<'a>,
@@ -102,7 +102,7 @@ fn asked<'a>(
     })
 }
 
-/// The words for the kinds of the siblings beside a node and of its parent.
+/// The words for the kinds of the siblings next to a node and of its parent.
 fn kinds(alloc: Global, node: &LinkedNode) -> Result<String, AllocError> {
     let prev = node.prev_sibling_kind();
     let next = node.next_sibling_kind();

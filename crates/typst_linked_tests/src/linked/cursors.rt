@@ -1,4 +1,4 @@
-// The leaf at a cursor.
+//! The leaf at a cursor.
 use crate::linked::asking::{Ask, Row, assert_rows};
 use std::alloc::Global;
 use std::test::Fail;
@@ -7,8 +7,10 @@ use typst_drawn::{DrawingError, drawn};
 use typst_linked::{LinkedNode, Looks, Side};
 use typst_node::SyntaxNode;
 
+/// Two texts with a blank between them.
 const SPACED: &str = "Markup[ Text:ab Space:~ Text:c ]";
 
+/// Two texts with an empty node between them.
 const AROUND_NOTHING: &str = "Markup[ Text:ab Markup[ ] Text:c ]";
 
 /// The text `#let x = 10`.
@@ -19,6 +21,7 @@ const BINDING: &str =
 const RULE: &str =
     "Markup[ Hash:# SetRule[ Set:set Space:~ Ident:text Args[ LeftParen:( Numeric:12pt Comma:, Space:~ Ident:red RightParen:) ] ] ]";
 
+/// Which leaf is on either side of a cursor.
 const CURSORS: [Row; 26] = [
     (
         "a leaf ends at a cursor",
@@ -179,7 +182,7 @@ fn a_leaf_stands_on_each_side_of_a_cursor(rt: HostRuntime) -> Result<(), Fail> {
     assert_rows(&rt, rt.alloc(), &CURSORS)
 }
 
-/// The index of the child that has the byte on this side of a cursor, by looking at one after the other.
+/// The index of the child that has the byte on this side of a cursor, found by looking at one child after the other.
 fn plain_leaf(tree: &SyntaxNode, cursor: usize, side: Side) -> Option<usize> {
     let mut begin = 0usize;
     for (index, child) in tree.children().enumerate() {
@@ -196,7 +199,8 @@ fn plain_leaf(tree: &SyntaxNode, cursor: usize, side: Side) -> Option<usize> {
     None
 }
 
-/// Whether each cursor below the limit has on either side the leaf that a plain walk finds, by few looks.
+/// Whether a search with few looks finds the leaf that a plain walk finds, on either side of each cursor below the
+/// limit.
 fn are_found(
     alloc: Global,
     tree: &SyntaxNode,

@@ -1,6 +1,7 @@
-// Searches by spans.
+//! Searches by spans.
 use crate::linked::asking::{Ask, Row, assert_rows, place, span_of};
 use crate::linked::cursors::thousand_texts;
+use crate::rows::assert_text;
 use std::alloc::{AllocError, Global};
 use std::num::NonZeroU64;
 use std::test::Fail;
@@ -9,10 +10,13 @@ use typst_drawn::{DrawingError, numbered};
 use typst_linked::{LinkedNode, Looks};
 use typst_node::SyntaxNode;
 
+/// Two texts.
 const TWO: &str = "Markup[ Text:ab Text:c ]";
 
+/// Two texts with an empty node between them.
 const AROUND_NOTHING: &str = "Markup[ Text:ab Markup[ ] Text:c ]";
 
+/// Which nodes ranges find.
 const FOUND: [Row; 10] = [
     (
         "an empty node after another is missed",
@@ -62,8 +66,10 @@ fn ranges_are_found_below_the_first_cover(rt: HostRuntime) -> Result<(), Fail> {
     assert_rows(&rt, rt.alloc(), &FOUND)
 }
 
+/// The second text, as it is found.
 const C: &str = r#"[1] 2..3 Text: "c""#;
 
+/// The root, as it is found.
 const ROOT: &str = r#"[] 0..3 Markup: 3 [Text: "ab", Text: "c"]"#;
 
 /// What a search is for.
@@ -71,10 +77,11 @@ enum By {
     Number(u16, u64),
     Range(usize, usize),
     Nowhere,
-    // A span of a foreign word whose number is 0.
+    /// A span of a foreign word whose number is 0.
     Zero,
 }
 
+/// The span to look for.
 fn span_by(by: &By) -> Result<Span, DrawingError> {
     let span = match by {
         By::Number(file, number) => return span_of(*file, *number),
@@ -85,7 +92,8 @@ fn span_by(by: &By) -> Result<Span, DrawingError> {
     Ok(span)
 }
 
-/// What is searched for in `TWO`, numbered within 2..14, what is found, and how many numbers are read at least and at most.
+/// What is searched for in `TWO`, numbered within 2..14, what is found, and how many numbers are read at least and at
+/// most.
 const SEARCHED: [(By, &str, u64, u64); 13] = [
     (By::Number(1, 7), C, 1, 3),
     (By::Number(1, 6), "-", 1, 3),
@@ -105,7 +113,7 @@ const SEARCHED: [(By, &str, u64, u64); 13] = [
     (By::Zero, "-", 1, 1),
 ];
 
-/// The words for what a search finds, and for the numbers that it read if they are not as many as may be.
+/// The words for what a counting search finds, and for how many numbers it read if they aren't as many as they may be.
 fn searched(alloc: Global, by: &By, least: u64, most: u64) -> Result<String, DrawingError> {
     let tree = numbered(alloc, TWO, 2..14)?;
     let mut looks = Looks::new();
@@ -118,11 +126,20 @@ fn searched(alloc: Global, by: &By, least: u64, most: u64) -> Result<String, Dra
     Ok(format!(in alloc; "{said} by {count}")?)
 }
 
+/// The words for what `find` finds.
+fn found(alloc: Global, by: &By) -> Result<String, DrawingError> {
+    let tree = numbered(alloc, TWO, 2..14)?;
+    let found = LinkedNode::new(&tree).find(alloc, span_by(by)?)?;
+    Ok(place(alloc, found.as_ref())?)
+}
+
 #[test]
 fn a_number_is_found_whatever_its_file(rt: HostRuntime) -> Result<(), Fail> {
     for (by, wanted, least, most) in &SEARCHED {
         let said = searched(rt.alloc(), by, *least, *most)?;
-        assert_eq!(rt; said.as_str(), *wanted);
+        assert_text(&rt, "find_counted", &said, wanted);
+        let said = found(rt.alloc(), by)?;
+        assert_text(&rt, "find", &said, wanted);
     }
     Ok(())
 }
@@ -141,7 +158,7 @@ fn a_foreign_word_may_have_the_number_0(rt: HostRuntime) -> Result<(), Fail> {
     Ok(())
 }
 
-/// The index of the child with a number, by looking at one after the other.
+/// The index of the child with a number, found by looking at one child after the other.
 fn plain_walk(tree: &SyntaxNode, number: u64) -> Option<usize> {
     for (index, child) in tree.children().enumerate() {
         if child.span().number() == number {
@@ -151,7 +168,7 @@ fn plain_walk(tree: &SyntaxNode, number: u64) -> Option<usize> {
     None
 }
 
-/// Whether a number is found among leaves of two bytes as by a plain walk, with 1 to 11 looks.
+/// Whether a search with 1 to 11 looks finds a number among leaves of two bytes as a plain walk does.
 fn is_found(
     alloc: Global,
     tree: &SyntaxNode,
@@ -172,7 +189,7 @@ fn is_found(
 #[test]
 fn a_thousand_leaves_are_found_by_halving(rt: HostRuntime) -> Result<(), Fail> {
     let mut tree = thousand_texts(rt.alloc())?;
-    let file = FileId::new(1).ok_or("no file")?;
+    let file = FileId::FIRST;
     tree.numberize(file, Span::FULL)?;
     for child in tree.children() {
         let own = child.span().number();
@@ -183,13 +200,13 @@ fn a_thousand_leaves_are_found_by_halving(rt: HostRuntime) -> Result<(), Fail> {
     Ok(())
 }
 
-/// Whether a node is found from the root by its own span, in its place.
+/// Whether a node is found from the root by its own span, at its own place.
 fn finds(alloc: Global, root: &LinkedNode, node: &LinkedNode) -> Result<bool, AllocError> {
     let found = root.find(alloc, node.span())?;
     Ok(place(alloc, found.as_ref())? == place(alloc, Some(node))?)
 }
 
-/// Whether each node of the tree is found so.
+/// Whether each node of the tree is found in this way.
 fn finds_all(alloc: Global, drawing: &str) -> Result<bool, DrawingError> {
     let tree = numbered(alloc, drawing, 2..30)?;
     let root = LinkedNode::new(&tree);

@@ -1,19 +1,23 @@
-// Children, siblings, leaves and modes.
+//! Children, siblings, leaves and modes.
 use crate::linked::asking::{Ask, Row, assert_rows, at, place};
 use std::alloc::{AllocError, Global};
 use std::test::Fail;
 use typst_drawn::{DrawingError, drawn};
 use typst_linked::{LinkedChildren, LinkedNode, LinkedPreorder};
 
+/// Two texts with a blank between them.
 const SPACED: &str = "Markup[ Text:a Space:~ Text:b ]";
 
+/// Strong content and a text.
 const STRONG: &str = "Markup[ Strong[ Star:* Markup[ Text:b ] Star:* ] Text:c ]";
 
-/// A sibling that is trivia, and no leaf.
+/// A sibling that is trivia but isn't a leaf.
 const HOLLOWED: &str = "Markup[ Text:a Space[ Text:b ] Text:c ]";
 
+/// A text between two errors.
 const BROKEN: &str = "Markup[ Hash:# !e: Text:a !m:# Text:b ]";
 
+/// Which parents and siblings nodes have.
 const SIBLINGS: [Row; 17] = [
     ("a root has no parent", SPACED, &[], Ask::Parent, "-"),
     (
@@ -130,6 +134,7 @@ const SIBLINGS: [Row; 17] = [
     ),
 ];
 
+/// Which leaves are next to nodes.
 const LEAVES: [Row; 18] = [
     (
         "the first leaf",
@@ -247,16 +252,22 @@ const LEAVES: [Row; 18] = [
     ),
 ];
 
+/// An equation.
 const EQUATION: &str = "Markup[ Equation[ Dollar:$ Math[ ] Dollar:$ ] ]";
 
+/// An equation after a hash.
 const HASHED_EQUATION: &str = "Markup[ Hash:# Equation[ Dollar:$ Math[ ] Dollar:$ ] ]";
 
+/// Raw text.
 const RAW: &str = "Markup[ Raw[ RawDelim:` Text:a RawDelim:` ] ]";
 
+/// Raw text after a hash.
 const HASHED_RAW: &str = "Markup[ Hash:# Raw[ RawDelim:` Text:a RawDelim:` ] ]";
 
+/// A label, with a blank between it and a hash.
 const LABEL: &str = "Markup[ Hash:# Space:~ Label:<a> ]";
 
+/// Which modes come after nodes.
 const MODES: [Row; 14] = [
     (
         "an equation opens math",
@@ -410,7 +421,7 @@ fn preorder_gives_a_node_before_its_children(rt: HostRuntime) -> Result<(), Fail
     Ok(())
 }
 
-/// What a walk in preorder hints at first, after each node, and what a copy of it hints then.
+/// The size hint of a walk in preorder at first and after each node, and that of a copy of it then.
 fn hinted(alloc: Global, drawing: &str) -> Result<String, DrawingError> {
     let tree = drawn(alloc, drawing)?;
     let mut nodes = LinkedNode::new(&tree).preorder(alloc)?;
@@ -422,7 +433,7 @@ fn hinted(alloc: Global, drawing: &str) -> Result<String, DrawingError> {
     Ok(said)
 }
 
-/// Adds what a walk hints, and what a copy of it does.
+/// Adds the size hint of a walk, and that of a copy of it.
 fn push_hints(alloc: Global, nodes: &LinkedPreorder, said: &mut String) -> Result<(), AllocError> {
     let hint = nodes.size_hint();
     let again = nodes.clone()?.size_hint();
@@ -439,7 +450,7 @@ fn a_preorder_hints_the_nodes_that_are_left(rt: HostRuntime) -> Result<(), Fail>
     Ok(())
 }
 
-/// What a walk over a tree's children and one in preorder show after a step each.
+/// How a walk over a tree's children and one in preorder are shown after one step each.
 fn shown_ahead(alloc: Global, drawing: &str) -> Result<String, DrawingError> {
     let tree = drawn(alloc, drawing)?;
     let root = LinkedNode::new(&tree);
@@ -448,6 +459,7 @@ fn shown_ahead(alloc: Global, drawing: &str) -> Result<String, DrawingError> {
     Ok(shown_behind_first(alloc, &mut children, &mut nodes)?)
 }
 
+/// How lists show what is left after the first node.
 fn shown_behind_first(
     alloc: Global,
     children: &mut LinkedChildren,
@@ -481,6 +493,7 @@ fn taken(alloc: Global, drawing: &str, ends: &str) -> Result<String, DrawingErro
     Ok(said)
 }
 
+/// The next child from this end.
 fn next_of<'a>(
     children: &mut LinkedChildren<'a>,
     end: char,

@@ -1,3 +1,4 @@
+//! Nodes that become errors or get other kinds.
 use crate::rows::assert_text;
 use std::alloc::Global;
 use std::test::Fail;
@@ -13,10 +14,11 @@ enum To {
     Unexpected,
 }
 
-/// What is shown, a tree, which is numbered within 4..16, what it is converted to, one after the other, and
-/// what comes of it: its `Debug` text and its labels.
+/// What is shown, a tree that is numbered within 4..16, the conversions in order, and the result: its `Debug` text and
+/// its labels.
 type Row = (&'static str, &'static str, &'static [To], &'static str);
 
+/// What conversions make of nodes.
 const CONVERSIONS: [Row; 10] = [
     (
         "an error takes the place of a node and its warnings, and is detached",
@@ -96,6 +98,7 @@ fn convert(alloc: Global, node: &mut SyntaxNode, to: &To) -> Result<(), DrawingE
     Ok(())
 }
 
+/// A drawn node after conversions.
 fn converting(alloc: Global, drawing: &str, all: &[To]) -> Result<String, DrawingError> {
     let mut node = numbered(alloc, drawing, 4..16)?;
     for to in all {

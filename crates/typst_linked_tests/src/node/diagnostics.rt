@@ -1,3 +1,4 @@
+//! The errors and warnings of a tree.
 use crate::rows::{assert_all, assert_text};
 use std::alloc::{AllocError, Global};
 use std::test::Fail;
@@ -8,6 +9,7 @@ use typst_node::{SyntaxDiagnostic, SyntaxNode};
 /// What is shown, a tree, and the words for its errors and its warnings before and after it is numbered within 4..16.
 type Row = (&'static str, &'static str, &'static str, &'static str);
 
+/// Which errors and warnings trees have.
 const LISTED: [Row; 6] = [
     ("a tree without any", "Markup[ Text:ab ]", "|", "|"),
     (
@@ -118,6 +120,7 @@ fn a_warning_about_a_part_has_its_nodes_number(rt: HostRuntime) -> Result<(), Fa
     Ok(())
 }
 
+/// Clones of diagnostics.
 fn copies(alloc: Global, list: &[SyntaxDiagnostic]) -> Result<Vec<SyntaxDiagnostic>, AllocError> {
     let mut copies = Vec::new(alloc);
     for one in list {
@@ -126,7 +129,7 @@ fn copies(alloc: Global, list: &[SyntaxDiagnostic]) -> Result<Vec<SyntaxDiagnost
     Ok(copies)
 }
 
-/// Whether the tree's errors are equal to their clones, and what these are, in words.
+/// The words for whether the tree's errors are equal to their clones, and for what these are.
 fn cloned(alloc: Global, tree: &SyntaxNode) -> Result<String, AllocError> {
     let (errors, _warnings) = tree.errors_and_warnings(alloc)?;
     let copies = copies(alloc, &errors)?;

@@ -1,4 +1,4 @@
-// The texts of errors.
+//! The texts of errors.
 use std::alloc::{AllocError, Global};
 use std::test::Fail;
 use typst_node::{InnerError, ReplaceError, SynthesizeError, Unnumberable};
@@ -31,6 +31,7 @@ const TEXTS: [(Of, &str); 7] = [
     (Of::Replace(ReplaceError::Memory), "out of memory"),
 ];
 
+/// An error as it is printed.
 fn text(alloc: Global, of: &Of) -> Result<String, AllocError> {
     match of {
         Of::Inner(error) => format!(in alloc; "{error}"),

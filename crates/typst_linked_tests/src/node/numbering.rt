@@ -1,3 +1,4 @@
+//! Numbering a tree.
 use crate::rows::{assert_all, assert_text};
 use std::alloc::Global;
 use std::test::Fail;
@@ -5,8 +6,8 @@ use typst_base::FileId;
 use typst_drawn::{DrawingError, drawn, labels};
 use typst_node::SyntaxNode;
 
-/// What is shown, a tree, the ranges that it is numbered within, one after the other, and what comes of it: the
-/// answers and the labels at the end.
+/// What is shown, a tree, the ranges that it is numbered within, in order, and the result: the answers, and the labels
+/// at the end.
 type Row = (
     &'static str,
     &'static str,
@@ -14,6 +15,7 @@ type Row = (
     &'static str,
 );
 
+/// Which numbers nodes are given.
 const NUMBERINGS: [Row; 11] = [
     (
         "a new tree has no numbers",
@@ -83,16 +85,16 @@ const NUMBERINGS: [Row; 11] = [
     ),
 ];
 
+/// The labels of a drawn tree after numberings within these ranges.
 fn numbering(alloc: Global, drawing: &str, ranges: &[(u64, u64)]) -> Result<String, DrawingError> {
     let mut tree = drawn(alloc, drawing)?;
-    let file = FileId::new(1).ok_or(DrawingError::Numbers)?;
     let mut said = String::new(alloc);
     for (start, end) in ranges {
         if *start < 2 || *end > 1 << 47 {
             return Err(DrawingError::Numbers);
         }
         let before = tree.clone()?;
-        said.push_str(match tree.numberize(file, *start..*end) {
+        said.push_str(match tree.numberize(FileId::FIRST, *start..*end) {
             Ok(()) => "done ",
             Err(_) if tree == before => "refused ",
             Err(_) => "refused and changed ",

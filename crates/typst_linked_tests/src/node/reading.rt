@@ -1,4 +1,4 @@
-// What is read of a node.
+//! What is read from a node.
 use crate::rows::{assert_all, assert_text};
 use std::alloc::Global;
 use std::test::Fail;
@@ -6,10 +6,11 @@ use typst_base::SyntaxKind;
 use typst_drawn::{DrawingError, drawn, drawn_all, numbered, sizes};
 use typst_node::{Diagnosis, SyntaxNode};
 
-/// What is shown, a tree, and the words for what is read of it: its kind, its form, its sizes, its diagnosis, its own
+/// What is shown, a tree, and the words for what is read from it: its kind, its form, its sizes, its diagnosis, its own
 /// text and its full text.
 type Row = (&'static str, &'static str, &'static str);
 
+/// What nodes answer.
 const READ: [Row; 11] = [
     (
         "an inner node",
@@ -60,6 +61,7 @@ const READ: [Row; 11] = [
     ),
 ];
 
+/// Whether a node is inner or a leaf.
 fn form(node: &SyntaxNode) -> &'static str {
     if node.is_inner() {
         "inner"
@@ -70,6 +72,7 @@ fn form(node: &SyntaxNode) -> &'static str {
     }
 }
 
+/// Whether there are errors or warnings.
 pub(crate) fn diagnosed(node: &SyntaxNode) -> &'static str {
     let diagnosis = node.diagnosis();
     if diagnosis.both() {
@@ -83,6 +86,7 @@ pub(crate) fn diagnosed(node: &SyntaxNode) -> &'static str {
     }
 }
 
+/// What a drawn node answers.
 fn read(alloc: Global, drawing: &str) -> Result<String, DrawingError> {
     let node = drawn(alloc, drawing)?;
     let kind = node.kind();
@@ -145,7 +149,7 @@ fn diagnoses_join_member_by_member(rt: HostRuntime) {
     assert_all(&rt, &rows);
 }
 
-/// Whether two trees are equal, and equal but for spans, in words.
+/// The words for whether two trees are equal, or equal but for spans.
 fn compared(one: &SyntaxNode, other: &SyntaxNode) -> &'static str {
     match (one == other, one.spanless_eq(other)) {
         (true, true) => "equal",
@@ -158,6 +162,7 @@ fn compared(one: &SyntaxNode, other: &SyntaxNode) -> &'static str {
 /// Two trees, the ends of the ranges from 2 on that they are numbered within, and how they compare.
 type Pair = (&'static str, u64, &'static str, u64, &'static str);
 
+/// Which nodes are equal.
 const PAIRS: [Pair; 13] = [
     ("Text:ab ^0..1@m", 100, "Text:ab ^0..1@m", 100, "equal"),
     ("Text:ab ^0..1@m", 100, "Text:ab ^0..2@m", 100, "unequal"),

@@ -1,4 +1,4 @@
-// Replacements, and the numbers after them.
+//! Replacements, and the numbers after them.
 use crate::node::numbering::is_of;
 use crate::node::reading::diagnosed;
 use crate::rows::{assert_all, assert_text};
@@ -9,7 +9,7 @@ use typst_base::FileId;
 use typst_drawn::{DrawingError, drawn, drawn_all, labels, numbered, sizes};
 use typst_node::{Renumbered, ReplaceError, SyntaxNode};
 
-/// A replacement, and what comes of it.
+/// A replacement and its result.
 struct Row {
     shows: &'static str,
     tree: &'static str,
@@ -23,12 +23,16 @@ struct Row {
     sizes: &'static str,
 }
 
+/// Two texts.
 const TWO: &str = "Markup[ Text:ab Text:c ]";
 
+/// Strong content and a text.
 const STRONG: &str = "Markup[ Strong[ Star:* Markup[ Text:b ] Star:* ] Text:c ]";
 
+/// Eight texts.
 const EIGHT: &str = "Markup[ Text:a Text:b Text:c Text:d Text:e Text:f Text:g Text:h ]";
 
+/// What edits leave.
 const EDITS: [Row; 15] = [
     Row {
         shows: "inserting between widens the window",
@@ -214,8 +218,8 @@ fn answered(
     })
 }
 
-/// Replaces children of the node at a path, once the conditions have been tested. A replacement at the tree itself is
-/// also done by `replace_children`, and one below it by `try_replace_at`, which do the same.
+/// Replaces children of the node at a path, after testing the conditions. `replace_children` also makes a replacement
+/// at the tree itself, and `try_replace_at` one below it. These do the same.
 fn edit(
     alloc: Global,
     tree: &mut SyntaxNode,
@@ -237,7 +241,7 @@ fn edit(
     answered(alloc, &answer, tree, &before)
 }
 
-/// Whether the same replacement by another call gives this answer, and makes this tree of it.
+/// Whether the same replacement by another call gives this answer and leaves this tree.
 fn is_same(
     alloc: Global,
     mut tree: SyntaxNode,
@@ -247,7 +251,7 @@ fn is_same(
     answer: &Result<Renumbered, ReplaceError>,
     after: &SyntaxNode,
 ) -> bool {
-    // What isn't made at a leaf is told as an empty window.
+    // A replacement that isn't made at a leaf is shown as an empty window.
     let not_made = Ok(Renumbered {
         window: 0..0,
         tried: 0,
@@ -273,7 +277,8 @@ fn made(
     tree.try_replace_at(alloc, path, range.start..range.end, others)
 }
 
-/// The words for a tree's labels and sizes, and for whether it is numbered, and all of two levels for file 1.
+/// The words for a tree's labels and sizes, for whether it is numbered, and for whether all nodes of two levels are of
+/// file 1.
 fn told(alloc: Global, tree: &SyntaxNode) -> Result<String, DrawingError> {
     let labels = labels(alloc, tree)?;
     let sizes = sizes(alloc, tree)?;
@@ -281,7 +286,7 @@ fn told(alloc: Global, tree: &SyntaxNode) -> Result<String, DrawingError> {
     Ok(format!(in alloc; "{labels} {sizes} {numbered}")?)
 }
 
-/// The words for what comes of a row's replacement.
+/// The words for the result of a row's replacement.
 fn edited(alloc: Global, row: &Row) -> Result<String, DrawingError> {
     let mut tree = numbered(alloc, row.tree, row.within.start..row.within.end)?;
     let answer = edit(alloc, &mut tree, row.path, &row.range, row.others)?;
@@ -289,7 +294,7 @@ fn edited(alloc: Global, row: &Row) -> Result<String, DrawingError> {
     Ok(format!(in alloc; "{answer} {told}")?)
 }
 
-/// The words that are wanted of it.
+/// The words that are wanted for the result of a row's replacement.
 fn wanted(alloc: Global, row: &Row) -> Result<String, AllocError> {
     format!(in alloc; "{} {} {} true", row.answer, row.labels, row.sizes)
 }
@@ -343,7 +348,7 @@ fn of_file_2(alloc: Global) -> Result<Vec<SyntaxNode>, DrawingError> {
     Ok(vec![in alloc; other]?)
 }
 
-/// The words for what comes of an insertion of such a text.
+/// The words for the result of inserting a text that is numbered for another file.
 fn inserted(alloc: Global) -> Result<String, DrawingError> {
     let mut tree = numbered(alloc, TWO, 2..14)?;
     if !tree.is_numbered() || !tree.edit_fits(&[], 1..1) {
@@ -381,7 +386,7 @@ fn edits_fit_where_their_path_leads_and_their_range_ends(rt: HostRuntime) -> Res
     Ok(())
 }
 
-/// Whether trying a replacement by a text answers that it fits. Where not, the tree must stay as it is.
+/// Whether a replacement by a text that is tried answers that it fits. If it doesn't fit, the tree must stay as it is.
 fn is_made(
     alloc: Global,
     tree: &SyntaxNode,
@@ -437,24 +442,6 @@ fn a_replaced_error_leaves_the_warnings_above_it(rt: HostRuntime) -> Result<(), 
     for (drawing, wanted) in rows {
         let said = diagnosed_around(rt.alloc(), drawing)?;
         assert_text(&rt, drawing, &said, wanted);
-    }
-    Ok(())
-}
-
-// With ample memory a replacement that grows succeeds. A pass in which its growth is refused shows that nothing has
-// changed then.
-#[test]
-fn a_refused_growth_changes_nothing(rt: HostRuntime) -> Result<(), Fail> {
-    let alloc = rt.alloc();
-    let mut tree = numbered(alloc, TWO, 2..14)?;
-    let before = tree.clone()?;
-    let others = drawn_all(alloc, "Text:x")?;
-    assert!(rt; tree.is_numbered() && tree.edit_fits(&[], 1..1));
-    let done = tree.replace_children(alloc, 1..1, others);
-    if done == Err(ReplaceError::Memory) {
-        assert!(rt; tree == before);
-    } else {
-        assert!(rt; done.is_ok() && tree != before);
     }
     Ok(())
 }

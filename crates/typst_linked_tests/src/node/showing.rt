@@ -1,4 +1,4 @@
-// Trees in one line, which also shows that drawn trees, on which the other tests rest, are what their drawings say.
+//! Trees in one line. They also show that drawn trees, which the other tests use, are what their drawings say.
 use crate::rows::assert_text;
 use std::alloc::{AllocError, Global};
 use std::test::Fail;
@@ -7,7 +7,8 @@ use typst_drawn::drawn;
 /// What is shown, a drawing, and the tree's `Debug` text.
 type Row = (&'static str, &'static str, &'static str);
 
-const SHOWN: [Row; 17] = [
+/// How nodes are shown.
+const SHOWN: [Row; 18] = [
     ("a leaf", "Text:ab", r#"Text: "ab""#),
     ("an empty leaf", "Text:", r#"Text: """#),
     ("a leaf of a blank", "Space:~", r#"Space: " ""#),
@@ -69,6 +70,11 @@ const SHOWN: [Row; 17] = [
         r#"Warning: {message @("bc"): "m", Text: "abcdefghijklmnopqrstuvwxyz"}"#,
     ),
     (
+        "parts of a long text in an inner node",
+        "Markup[ Text:abcdefghijklmnopqrstuvwxyz ^1..3@m Text:c ] ^23..27@n",
+        r#"Warning: {message @("xyzc"): "n", Markup: 27 [Warning: {message @("bc"): "m", Text: "abcdefghijklmnopqrstuvwxyz"}, Text: "c"]}"#,
+    ),
+    (
         "three levels",
         "Markup[ Strong[ Star:* Markup[ Text:b ] Star:* ] Text:c ]",
         r#"Markup: 4 [Strong: 3 [Star: "*", Markup: 1 [Text: "b"], Star: "*"], Text: "c"]"#,
@@ -81,6 +87,26 @@ fn trees_are_shown_in_one_line(rt: HostRuntime) -> Result<(), Fail> {
     for (shows, drawing, wanted) in &SHOWN {
         let tree = drawn(alloc, drawing)?;
         let shown = format!(in alloc; "{tree:?}")?;
+        assert_text(&rt, shows, &shown, wanted);
+    }
+    Ok(())
+}
+
+#[test]
+fn trees_are_shown_in_a_line_for_each_node(rt: HostRuntime) -> Result<(), Fail> {
+    let alloc = rt.alloc();
+    let rows = [
+        ("a leaf", "Text:ab", "Text: \"ab\""),
+        ("no children", "Markup[ ]", "Markup: 0"),
+        (
+            "children, and those of a child",
+            "Markup[ Strong[ Star:* ] Text:c ^m ]",
+            "Markup: 2 [\n    Strong: 1 [\n        Star: \"*\",\n    ],\n    Warning: {message: \"m\", Text: \"c\"},\n]",
+        ),
+    ];
+    for (shows, drawing, wanted) in rows {
+        let tree = drawn(alloc, drawing)?;
+        let shown = format!(in alloc; "{tree:#?}")?;
         assert_text(&rt, shows, &shown, wanted);
     }
     Ok(())

@@ -1,14 +1,15 @@
-// Spans that synthesis gives.
+//! Spans that synthesis gives.
 use crate::node::diagnostics::listed;
 use crate::node::numbering::is_of;
 use crate::rows::{assert_all, assert_text};
 use std::alloc::{AllocError, Global};
 use std::test::Fail;
 use typst_base::{FileId, RangeMapper, Span, SpanKind};
-use typst_drawn::{DrawingError, drawn, drawn_all, labels, numbered};
+use typst_drawn::{DrawingError, drawn_all, labels, numbered};
 use typst_node::{ReplaceError, SyntaxNode, SynthesizeError};
 
-/// The words for a tree: its labels, whether all of its two levels are of no file, its diagnostics and its `Debug` text.
+/// The words for a tree: its labels, whether all nodes of its two levels are of no file, its diagnostics and its
+/// `Debug` text.
 fn told(alloc: Global, tree: &SyntaxNode) -> Result<String, AllocError> {
     let labels = labels(alloc, tree)?;
     let detached = is_of(tree, None);
@@ -60,10 +61,10 @@ fn bytes(alloc: Global, span: Span) -> Result<String, AllocError> {
     }
 }
 
-/// The tree of two levels that a drawing shows, mapped by the mapper of the bytes 2, 3, 4, 8 and 9: the spans of its
-/// nodes, its diagnostics and its `Debug` text.
+/// The words for the tree of two levels that a drawing shows, after it is numbered and then mapped by the mapper of the
+/// bytes 2, 3, 4, 8 and 9. They are the spans of its nodes, its diagnostics and its `Debug` text.
 fn mapped(alloc: Global, drawing: &str) -> Result<String, DrawingError> {
-    let mut tree = drawn(alloc, drawing)?;
+    let mut tree = numbered(alloc, drawing, 2..100)?;
     let before = tree.clone()?;
     match map(alloc, &mut tree)? {
         Ok(()) => Ok(placed(alloc, &tree)?),
@@ -78,14 +79,15 @@ fn mapped(alloc: Global, drawing: &str) -> Result<String, DrawingError> {
     }
 }
 
+/// Gives the nodes of a tree the ranges of two segments.
 fn map(alloc: Global, tree: &mut SyntaxNode) -> Result<Result<(), SynthesizeError>, DrawingError> {
     let mapper = RangeMapper::new(alloc, &[2..5, 8..10])
         .ok()
         .ok_or(DrawingError::Memory)?;
-    let id = FileId::new(1).ok_or(DrawingError::Numbers)?;
-    Ok(tree.synthesize_mapped(id, &mapper))
+    Ok(tree.synthesize_mapped(FileId::FIRST, &mapper))
 }
 
+/// The ranges of a node and its children, its diagnostics, and how it is shown.
 fn placed(alloc: Global, tree: &SyntaxNode) -> Result<String, AllocError> {
     let mut said = bytes(alloc, tree.span())?;
     for child in tree.child_slice() {
@@ -99,7 +101,7 @@ fn placed(alloc: Global, tree: &SyntaxNode) -> Result<String, AllocError> {
 #[test]
 fn mapped_nodes_have_the_places_of_their_bytes(rt: HostRuntime) -> Result<(), Fail> {
     let rows = [
-        // The part went from 0..2 to 0..5, which is more than the text has.
+        // The part went from 0..2 to 0..5, which is more bytes than the text has.
         (
             "Markup[ Text:ab Text:cd ^0..2@m ]",
             r#"1/2..9 1/2..4 1/4..9 | warning m at 1/4..9 Markup: 4 [Text: "ab", Warning: {message @(0..5): "m", Text: "cd"}]"#,

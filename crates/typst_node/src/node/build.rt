@@ -11,7 +11,7 @@ use std::alloc::{AllocError, AllocFailed, Global};
 use thiserror::Error;
 use typst_base::{Span, SyntaxKind};
 
-/// Why there is no inner node over the given children. They are dropped.
+/// Why there is no inner node over the given children. The children are dropped.
 #[derive(Clone, Copy, Debug, PartialEq, Eq, Error)]
 pub enum InnerError {
     /// The length of the text or the number of nodes would pass a usize.
@@ -40,10 +40,10 @@ impl From<AllocError> for InnerError {
 
 /// # Making nodes
 impl SyntaxNode {
-    /// A detached leaf with a copy of the text. The test of the condition is `SyntaxKind::is_error`.
-    /// A text of at most 21 bytes takes no memory. For a longer one it fails only where memory runs out.
+    /// A detached leaf with a copy of the text. The test of the condition is `SyntaxKind::is_error`. A text of at most
+    /// 21 bytes takes no memory. With a longer text it fails only if memory runs out.
     pub fn leaf(alloc: Global, kind: SyntaxKind, text: &str) -> Result<SyntaxNode, AllocError>
-        requires { kind ≢ Error }
+        requires not_error_ask_is_error { kind ≢ Error }
         ensures leaf { IfOk result (λ t. t ≡ leaf_tree kind text.now) }
         ensures succeeds { length text.now ≤ 21 → IsOk result }
     {
@@ -59,10 +59,10 @@ impl SyntaxNode {
         })
     }
 
-    /// A detached leaf with an empty text. It takes the allocator as each call that makes a node does, and no memory.
+    /// A detached leaf with an empty text. It takes the allocator, as each call that makes a node does, but no memory.
     /// The test of the condition is `SyntaxKind::is_error`.
     pub fn placeholder(_alloc: Global, kind: SyntaxKind) -> SyntaxNode
-        requires { kind ≢ Error }
+        requires not_error_ask_is_error { kind ≢ Error }
         ensures { result ≡ leaf_tree kind [] }
     {
         SyntaxNode {
@@ -73,20 +73,20 @@ impl SyntaxNode {
 
     /// A detached inner node over these children, with bound 0. The test of the condition is `SyntaxKind::is_error`.
     ///
-    /// It takes time in proportion to the number of children. On an error the children are dropped. `Overflow` comes before
-    /// `Memory`.
+    /// It takes time in proportion to the number of children. After an error the children are dropped. `Overflow` comes
+    /// before `Memory`.
     pub fn inner(
         alloc: Global,
         kind: SyntaxKind,
         children: Vec<SyntaxNode>,
     ) -> Result<SyntaxNode, InnerError>
-        requires { kind ≢ Error }
+        requires not_error_ask_is_error { kind ≢ Error }
         ensures ok { IfOk result (λ t. t ≡ inner_tree kind children.items) }
         ensures overflow { IsErrOf result Overflow ↔ ¬ (SumsFit children.items) }
     {
         let (sums, extras) = measured(alloc, &children)?;
         let inner = InnerNode {
-            descendants: sums.descendants,
+            descendants: sums.descendants + 1,
             upper: 0,
             children,
             extras,

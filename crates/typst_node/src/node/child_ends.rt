@@ -1,34 +1,19 @@
-//! Where the texts of a node's children end.
-ghost use Rattle.std.specs.Prelude.{◌≡◌, ◌+◌, ◌-◌, ◌^◌, ◌<◌, ◌≤◌, length, take, drop, slice_index, slice_range, None, Some, IfSome, IfOk, IsOk, OnOk, OnErr, MatchOption};
+//! The ends of the texts of a node's children.
+ghost use Rattle.std.specs.Prelude.{◌≡◌, ◌+◌, ◌-◌, ◌^◌, ◌<◌, ◌≤◌, length, take, drop, slice_range, IfOk, IfSome, IsOk};
 ghost use Rattle.typst_node.specs.Text.{text_of_all};
 ghost use Rattle.typst_node.specs.Count.{SumsFit};
-ghost use Rattle.typst_node.specs.ChildEnds.{ends_from, AreEnds, HavePlace, AreStale};
+ghost use Rattle.typst_node.specs.ChildEnds.{ends_from, HavePlace, IsStaleList};
 
 use crate::ends::{Ends, low};
 use crate::node::SyntaxNode;
 use crate::node::inner::measure;
+use crate::node::settle::Change;
 use std::alloc::{AllocError, Global};
-use std::marker::Model;
 
-/// Of how many children at the most it isn't kept where they end.
+/// A node with at most this many children doesn't keep their ends.
 pub(crate) const FEW: usize = 10;
 
-/// Where the texts of a node's children end, unless they are few: of each end the lower 32 bits. In contracts it is the list
-/// of these numbers, where there is one. A list that grew past a few and shrinks again stays.
-#[derive(Drop)]
-pub(crate) struct ChildEnds {
-    kept: Option<Ends>,
-}
-
-impl Model for ChildEnds {
-    ghost use Rattle.std.specs.Prelude.{ℕ, List, Option};
-
-    ghost Value = { Option (List ℕ) };
-
-    ghost view = { λ a. a.kept };
-}
-
-/// Where the texts of a few children end. The numbers after those of the children say nothing.
+/// The ends of the texts of a few children. The numbers after theirs have no meaning.
 fn few_ends(children: &[SyntaxNode]) -> [u32; FEW]
     requires few { length children.now ≤ 10 }
     requires fits { SumsFit children.now }
@@ -39,29 +24,24 @@ fn few_ends(children: &[SyntaxNode]) -> [u32; FEW]
     ends
 }
 
-/// These ends with place for `many` where those from `from` up to `to` stand.
-fn spread(
-    alloc: Global,
-    ends: &[u32],
-    from: usize,
-    to: usize,
-    many: usize,
-) -> Result<Ends, AllocError>
-    requires window { from ≤ to }
-    requires inside { to ≤ length ends.now }
-    requires fits { length ends.now + many < 2 ^ 64 }
-    ensures len { IfOk result (λ e. length e + (to - from) ≡ length ends.now + many) }
-    ensures before { IfOk result (λ e. take from e ≡ take from ends.now) }
-    ensures behind { IfOk result (λ e. drop (from + many) e ≡ drop to ends.now) }
+/// These ends, with room for the ends of the children that come in a change.
+fn spread(alloc: Global, ends: &[u32], change: &Change) -> Result<Ends, AllocError>
+    requires window { change.now.from ≤ change.now.to }
+    requires inside { change.now.to ≤ length ends.now }
+    requires fits { length ends.now + change.now.many < 2 ^ 64 }
+    ensures len { IfOk result (λ e. length e + (change.now.to - change.now.from) ≡ length ends.now + change.now.many) }
+    ensures before { IfOk result (λ e. take change.now.from e ≡ take change.now.from ends.now) }
+    ensures behind { IfOk result (λ e. drop (change.now.from + change.now.many) e ≡ drop change.now.to ends.now) }
 {
-    let mut all = Vec::with_capacity(alloc, ends.len() - (to - from) + many)?;
-    all.extend_from_slice(&ends[..from])?;
-    all.resize(from + many, 0)?;
-    all.extend_from_slice(&ends[to..])?;
+    let left = ends.len() - (change.to - change.from);
+    let mut all = Vec::with_capacity(alloc, left + change.many)?;
+    all.extend_from_slice(&ends[..change.from])?;
+    all.resize(change.from + change.many, 0)?;
+    all.extend_from_slice(&ends[change.to..])?;
     Ends::new(all)
 }
 
-/// Writes where the texts of the children from `from` up to `to` end, given where those before them do.
+/// Writes the ends of the texts of the children from `from` up to `to`. The ends of the children before them are given.
 fn write_ends(ends: &mut Ends, children: &[SyntaxNode], from: usize, to: usize)
     requires many { length ends.old ≡ length children.now }
     requires window { from ≤ to }
@@ -77,124 +57,50 @@ fn write_ends(ends: &mut Ends, children: &[SyntaxNode], from: usize, to: usize)
     }
 }
 
-/// Writes where the texts of the children from `from` up to `to` end, and moves the ends after them by the
-/// difference of what stood there and what stands there now. After a change that keeps the length nothing is written.
-fn settle_ends(
-    ends: &mut Ends,
+/// The ends of the texts when a change turns few children into many. There is room for the ends of the children that
+/// come.
+#[tactic(auto, using(crate::proofs::Trees::length_of_ends))]
+pub(super) fn first_ends(
+    alloc: Global,
     children: &[SyntaxNode],
-    from: usize,
-    to: usize,
-    gone: usize,
-    added: usize,
-)
-    requires many { length ends.old ≡ length children.now }
-    requires window { from ≤ to }
-    requires inside { to ≤ length children.now }
-    requires added { added ≡ length (text_of_all (slice_range children.now from to)) }
-    requires before { take from ends.old ≡ take from (ends_from 0 children.now) }
-    requires behind { drop to ends.old ≡ ends_from (length (text_of_all (take from children.now)) + gone) (drop to children.now) }
-    ensures { ends.new ≡ ends_from 0 children.now }
+    change: &Change,
+) -> Result<Option<Ends>, AllocError>
+    requires few { length children.now ≤ 10 }
+    requires sums { SumsFit children.now }
+    requires window { change.now.from ≤ change.now.to }
+    requires inside { change.now.to ≤ length children.now }
+    requires fits { length children.now + change.now.many < 2 ^ 64 }
+    ensures ok { IfOk result (λ ends. HavePlace change.now.from change.now.to change.now.many ends children.now) }
+    ensures many { IfOk result (λ ends. IfSome ends (λ _.
+        10 < length children.now - (change.now.to - change.now.from) + change.now.many)) }
+    ensures succeeds { change.now.many ≤ change.now.to - change.now.from → IsOk result }
 {
-    write_ends(ends, children, from, to);
-    if gone != added {
-        ends.shift(to, gone, added);
+    let count = children.len();
+    if count - (change.to - change.from) + change.many <= FEW {
+        return Ok(None);
     }
+    let ends = few_ends(children);
+    Ok(Some(spread(alloc, &ends[..count], change)?))
 }
 
-impl ChildEnds {
-    /// Those of a few children.
-    pub(crate) fn few() -> ChildEnds
-        ensures { result ≡ None }
-    {
-        ChildEnds { kept: None }
+/// Corrects the ends after a change. It writes the ends of the children that came, and moves the ends after them by the
+/// difference of both lengths. If one child replaced one of the same length, it reads and writes no end.
+pub(super) fn settle_ends(ends: &mut Ends, children: &[SyntaxNode], change: &Change)
+    requires window { change.now.from ≤ change.now.to }
+    requires inside { change.now.from + change.now.many ≤ length children.now }
+    requires stale { IsStaleList change.now.from change.now.to change.now.many change.now.gone.len ends.old
+        children.now }
+    requires added { change.now.added.len ≡ length (text_of_all
+        (slice_range children.now change.now.from (change.now.from + change.now.many))) }
+    ensures { ends.new ≡ ends_from 0 children.now }
+{
+    let (gone, added) = (change.gone.len, change.added.len);
+    if change.many == 1 && change.to - change.from == 1 && gone == added {
+        return;
     }
-
-    /// These ends.
-    pub(crate) fn many(ends: Vec<u32>) -> Result<ChildEnds, AllocError>
-        ensures { IfOk result (λ e. e ≡ Some ends.items) }
-    {
-        Ok(ChildEnds {
-            kept: Some(Ends::new(ends)?),
-        })
-    }
-
-    /// The end at a place, if it is kept, by its lower 32 bits. It takes one addition for each layer of blocks.
-    pub(crate) fn get(&self, index: usize) -> Option<u32>
-        requires { IfSome self.now (λ ends. index < length ends) }
-        ensures { MatchOption self.now (result ≡ None) (λ ends. result ≡ Some (slice_index ends index)) }
-    {
-        match &self.kept {
-            Some(ends) => Some(ends.get(index)),
-            None => None,
-        }
-    }
-
-    /// Makes place for the ends of `many` children where those of the children from `from` up to `to` stand: those before
-    /// and after stay. It takes memory only where there are more children then, and leaves the ends as they were where that
-    /// is refused.
-    #[tactic(auto, using(crate::proofs::Trees::length_of_ends))]
-    pub(crate) fn make_place(
-        &mut self,
-        alloc: Global,
-        children: &[SyntaxNode],
-        from: usize,
-        to: usize,
-        many: usize,
-    ) -> Result<(), AllocError>
-        requires ends { AreEnds self.old children.now }
-        requires sums { SumsFit children.now }
-        requires window { from ≤ to }
-        requires inside { to ≤ length children.now }
-        requires fits { length children.now + many < 2 ^ 64 }
-        ensures ok { OnOk result (HavePlace from to many self.new children.now) }
-        ensures err { OnErr result (self.new ≡ self.old) }
-        ensures succeeds { many ≤ to - from → IsOk result }
-    {
-        if let Some(ends) = &mut self.kept {
-            return ends.make_place(from, to, many);
-        }
-        let count = children.len();
-        if count - (to - from) + many > FEW {
-            let ends = few_ends(children);
-            self.kept = Some(spread(alloc, &ends[..count], from, to, many)?);
-        }
-        Ok(())
-    }
-
-    /// Writes where the texts of the children from `from` up to `to` end, and moves the ends after them by the
-    /// difference of what stood there and what stands there now. `stay` says that as many children came as went: where one of the
-    /// same length stands in the place of one, no end is read or written.
-    pub(crate) fn settle(
-        &mut self,
-        children: &[SyntaxNode],
-        from: usize,
-        to: usize,
-        stay: bool,
-        gone: usize,
-        added: usize,
-    )
-        requires stale { AreStale from to stay gone self.old children.now }
-        requires window { from ≤ to }
-        requires inside { to ≤ length children.now }
-        requires added { added ≡ length (text_of_all (slice_range children.now from to)) }
-        ensures { AreEnds self.new children.now }
-    {
-        if stay && to - from == 1 && gone == added {
-            return;
-        }
-        if let Some(ends) = &mut self.kept {
-            settle_ends(ends, children, from, to, gone, added);
-        }
-    }
-
-    /// The same ends.
-    pub(crate) fn copy(&self) -> Result<ChildEnds, AllocError>
-        ensures { IfOk result (λ e. e ≡ self.now) }
-    {
-        let kept = match &self.kept {
-            Some(ends) => Some(ends.copy()?),
-            None => None,
-        };
-        Ok(ChildEnds { kept })
+    let to = change.from + change.many;
+    write_ends(ends, children, change.from, to);
+    if gone != added {
+        ends.shift(to, gone, added);
     }
 }

@@ -15,14 +15,14 @@ use typst_base::SyntaxKind;
 
 /// # Conversions
 ///
-/// These calls change the node in place. Where memory is refused, nothing has changed.
+/// These calls change the node in place. If memory is refused, nothing has changed.
 impl SyntaxNode {
     /// Gives the node another kind. Its text or its children, its span and its warnings stay.
     ///
-    /// Neither the old nor the new kind is `Error`: the test is `SyntaxKind::is_error`. It takes no memory.
+    /// Neither the old nor the new kind is `Error`. The test of this is `SyntaxKind::is_error`. It takes no memory.
     pub fn convert_to_kind(&mut self, kind: SyntaxKind)
-        requires from_error { kind_of self.old.label.content ≢ Error }
-        requires to_error { kind ≢ Error }
+        requires node_not_error_ask_is_error { kind_of self.old.label.content ≢ Error }
+        requires kind_not_error_ask_is_error { kind ≢ Error }
         ensures { self.new ≡ of_kind kind self.old }
     {
         match &mut self.node {
@@ -34,7 +34,7 @@ impl SyntaxNode {
         }
     }
 
-    /// Puts a detached error with a copy of the message in place of the node: its text is the node's whole text. The
+    /// Replaces the node by a detached error with a copy of the message. The error's text is the node's whole text. The
     /// node's warnings and children go. An error stays as it is.
     pub fn convert_to_error(&mut self, alloc: Global, message: &str) -> Result<(), AllocError>
         ensures ok { OnOk result (self.new ≡ as_error message.now [] self.old) }
@@ -47,8 +47,8 @@ impl SyntaxNode {
         self.become_error(alloc, message, None)
     }
 
-    /// Puts an error in place of the node, as `convert_to_error` does, that says what was expected and what kind of
-    /// node was found. Where an identifier or a pattern was expected and the node is a keyword, a hint says that
+    /// Replaces the node by an error that says what was expected and what kind of node was found. It works as
+    /// `convert_to_error` does. If an identifier or a pattern was expected and the node is a keyword, a hint says that
     /// keywords aren't allowed there. An error stays as it is.
     pub fn expected(&mut self, alloc: Global, what: &str) -> Result<(), AllocError>
         ensures ok { OnOk result (self.new ≡ as_expected what.now self.old) }
@@ -62,8 +62,8 @@ impl SyntaxNode {
         self.become_error(alloc, message, hint)
     }
 
-    /// Puts an error in place of the node, as `convert_to_error` does, that says that a node of its kind was not
-    /// expected. An error stays as it is.
+    /// Replaces the node by an error that says that a node of its kind was not expected. It works as `convert_to_error`
+    /// does. An error stays as it is.
     pub fn unexpected(&mut self, alloc: Global) -> Result<(), AllocError>
         ensures ok { OnOk result
             (self.new ≡ as_error (unexpected_message (kind_of self.old.label.content)) [] self.old) }
@@ -77,7 +77,7 @@ impl SyntaxNode {
         self.become_error(alloc, message, None)
     }
 
-    /// Puts a detached error of the node's whole text in its place.
+    /// Replaces the node by a detached error with the node's whole text.
     fn become_error(
         &mut self,
         alloc: Global,
@@ -96,14 +96,14 @@ impl SyntaxNode {
         Ok(())
     }
 
-    /// Whether this is an error, whatever its warnings.
+    /// Whether this is an error, with or without warnings.
     fn is_error(&self) -> bool
         ensures { result ≡ is_error self.now.label }
     {
         matches!(&self.node, Node::Error(_))
     }
 
-    /// The hint at a keyword where an identifier or a pattern was expected.
+    /// The hint at a keyword, if an identifier or a pattern was expected.
     #[tactic(auto, using(crate::proofs::ConvertedLemmas::no_keyword_hints, crate::proofs::ConvertedLemmas::a_keyword_hint))]
     fn keyword_hint(&self, alloc: Global, what: &str) -> Result<Option<Hint>, AllocError>
         ensures { IfOk result (λ hint. map hint_text (option_to_list hint)
@@ -121,7 +121,7 @@ impl SyntaxNode {
     }
 }
 
-/// Whether a name was expected where a keyword stands.
+/// Whether a name was expected in place of a keyword.
 fn misses_name(kind: SyntaxKind, what: &str) -> bool
     ensures { result ≡ (is_keyword_kind kind && wants_name what.now) }
 {
@@ -136,7 +136,7 @@ fn say_expected(alloc: Global, what: &str, found: SyntaxKind) -> Result<String, 
     format!(in alloc; "expected {what}, found {name}")
 }
 
-/// How to mend a keyword that stands for a name.
+/// The suggestion for fixing a keyword that is used as a name.
 fn say_keyword(alloc: Global, text: &str) -> Result<String, AllocError>
     ensures { IfOk result (λ s. string_bytes s ≡ keyword_message text.now) }
 {

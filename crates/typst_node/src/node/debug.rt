@@ -1,52 +1,48 @@
-// Nodes in one line, for programmers.
+// Nodes written in one line, for programmers.
 use crate::node::{ErrorNode, Hint, Node, SyntaxNode, Warning};
-use crate::short_text::text_in;
 use std::fmt;
 use typst_base::SubRange;
 
 impl fmt::Debug for SyntaxNode {
-    /// Writes the tree in one line.
+    /// Writes the tree in one line. With `{:#?}` it writes a line for each node, indented by four blanks a level.
     ///
     /// - A leaf is `Text: "ab"`.
     /// - An inner node is `Markup: 3 [Text: "ab", Text: "c"]` with its length in bytes, or `Markup: 0` without
     ///   children.
-    /// - An error is `Error: "message"`, or with a text or hints
+    /// - An error is `Error: "message"`. With a text or hints it is
     ///   `Error: { text: "text", message: "message", hint: "hint" }`.
-    /// - A warning is `Warning: {message: "message", hint: "hint", NODE}` round its node.
-    /// - A part of a node adds ` @("slice")` after `message` or `hint`, or ` @(3..9)` where its ends are no
+    /// - A warning is `Warning: {message: "message", hint: "hint", NODE}` around its node.
+    /// - A part of a node adds ` @("slice")` after `message` or `hint`, or ` @(3..9)` if its ends are not
     ///   boundaries of characters within the node's text.
     fn fmt<W: fmt::Write>(&self, f: &mut fmt::Formatter<W>) -> fmt::Result {
-        self.write_line(f)
+        self.write_tree(f, 0)
     }
 }
 
 impl SyntaxNode {
-    /// Writes the node under its warnings, outermost first.
-    fn write_line<W: fmt::Write>(&self, f: &mut fmt::Formatter<W>) -> fmt::Result {
+    /// Writes the node with its warnings, outermost first. `depth` is the number of levels above it.
+    fn write_tree<W: fmt::Write>(&self, f: &mut fmt::Formatter<W>, depth: usize) -> fmt::Result {
         let warnings = self.node.warnings();
         let count = warnings.len();
         for done in 0..count {
             self.write_warning(f, &warnings[count - 1 - done])?;
         }
         match &self.node {
-            Node::Short(kind, len, bytes) => write!(f, "{kind:?}: {:?}", text_in(*len, bytes))?,
-            Node::Long(kind, text) => write!(f, "{kind:?}: {:?}", text.as_str())?,
-            Node::Leaf(kind, leaf) => write!(f, "{kind:?}: {:?}", leaf.text)?,
+            Node::Short(..) | Node::Long(..) | Node::Leaf(..) => {
+                write!(f, "{:?}: {:?}", self.kind(), self.leaf_text())?;
+            }
             Node::Error(error) => self.write_error(f, error)?,
             Node::Inner(kind, len, inner) => {
                 write!(f, "{kind:?}: {len}")?;
                 let mut first = true;
                 for child in &inner.children {
-                    if first {
-                        f.write_str(" [")?;
-                    } else {
-                        f.write_str(", ")?;
-                    }
-                    child.write_line(f)?;
+                    f.write_str(if first { " [" } else { "," })?;
+                    write_break(f, depth.saturating_add(1), first)?;
+                    child.write_tree(f, depth.saturating_add(1))?;
                     first = false;
                 }
                 if !first {
-                    f.write_str("]")?;
+                    write_end(f, depth)?;
                 }
             }
         }
@@ -56,7 +52,7 @@ impl SyntaxNode {
         Ok(())
     }
 
-    /// Writes what stands before the node under a warning.
+    /// Writes what comes before the node in a warning.
     fn write_warning<W: fmt::Write>(
         &self,
         f: &mut fmt::Formatter<W>,
@@ -97,7 +93,7 @@ impl SyntaxNode {
         Ok(())
     }
 
-    /// Writes a part of the node, if there is one: its text, or its ends where they are no boundaries of characters.
+    /// Writes a part of the node, if there is one: its text, or its ends if they are not boundaries of characters.
     fn write_part<W: fmt::Write>(
         &self,
         f: &mut fmt::Formatter<W>,
@@ -116,10 +112,9 @@ impl SyntaxNode {
     /// Whether a character of the node's text begins at this byte, or the text ends there.
     fn is_boundary(&self, at: usize) -> bool {
         match &self.node {
-            Node::Short(_, len, bytes) => text_in(*len, bytes).is_char_boundary(at),
-            Node::Long(_, text) => text.as_str().is_char_boundary(at),
-            Node::Leaf(_, leaf) => leaf.text.as_str().is_char_boundary(at),
-            Node::Error(error) => error.text.as_str().is_char_boundary(at),
+            Node::Short(..) | Node::Long(..) | Node::Leaf(..) | Node::Error(_) => {
+                self.leaf_text().is_char_boundary(at)
+            }
             Node::Inner(_, _, inner) => {
                 let mut rest = at;
                 for child in &inner.children {
@@ -141,10 +136,9 @@ impl SyntaxNode {
         end: usize,
     ) -> fmt::Result {
         match &self.node {
-            Node::Short(_, len, bytes) => write_escaped(f, text_in(*len, bytes), start, end),
-            Node::Long(_, text) => write_escaped(f, text.as_str(), start, end),
-            Node::Leaf(_, leaf) => write_escaped(f, leaf.text.as_str(), start, end),
-            Node::Error(error) => write_escaped(f, error.text.as_str(), start, end),
+            Node::Short(..) | Node::Long(..) | Node::Leaf(..) | Node::Error(_) => {
+                write_escaped(f, self.leaf_text(), start, end)
+            }
             Node::Inner(_, _, inner) => {
                 let mut start = start;
                 let mut end = end;
@@ -178,6 +172,36 @@ fn write_escaped<W: fmt::Write>(
                 f.write_char(escaped)?;
             }
         }
+    }
+    Ok(())
+}
+
+/// Writes what comes before a child: with `{:#?}` the start of a line, otherwise a blank if a comma comes before.
+fn write_break<W: fmt::Write>(f: &mut fmt::Formatter<W>, depth: usize, first: bool) -> fmt::Result {
+    if f.alternate() {
+        write_line_start(f, depth)
+    } else if first {
+        Ok(())
+    } else {
+        f.write_str(" ")
+    }
+}
+
+/// Writes the end of a list of children. With `{:#?}` it is a comma after the last child, and the bracket on a new
+/// line.
+fn write_end<W: fmt::Write>(f: &mut fmt::Formatter<W>, depth: usize) -> fmt::Result {
+    if f.alternate() {
+        f.write_str(",")?;
+        write_line_start(f, depth)?;
+    }
+    f.write_str("]")
+}
+
+/// Ends a line, and begins the next line with four blanks a level.
+fn write_line_start<W: fmt::Write>(f: &mut fmt::Formatter<W>, depth: usize) -> fmt::Result {
+    f.write_str("\n")?;
+    for _level in 0..depth {
+        f.write_str("    ")?;
     }
     Ok(())
 }

@@ -1,5 +1,5 @@
 // What a tree reports: errors and warnings, with their places.
-ghost use Rattle.std.specs.Prelude.{◌≡◌, ◌≢◌, ◌++◌, ◌↔◌, [], map, string_bytes, IfOk, IsTrue, OnOk};
+ghost use Rattle.std.specs.Prelude.{◌≡◌, ◌≢◌, ◌++◌, ◌∷◌, ◌↔◌, [], map, string_bytes, IfOk, IsTrue, OnOk};
 ghost use Rattle.typst_node.specs.Diagnosis.{has_error, has_warning};
 ghost use Rattle.typst_node.specs.Diagnostics.{error_report, errors_of, placed, warning_report, warnings_of};
 ghost use Rattle.typst_node.specs.Entries.{error_entries, told, warning_entries};
@@ -8,34 +8,70 @@ ghost use Rattle.typst_node.specs.View.{hint_text, shown_warnings, warning_text}
 
 use crate::node::{ErrorNode, Hint, Node, SyntaxNode, Warning};
 use std::alloc::{AllocError, Global};
+use std::hash::Hash;
 use typst_base::{DiagSpan, Span, Spanned};
 
 /// An error or a warning of a node, with the place that it is about.
-#[derive(Debug, PartialEq, Eq, Hash, Drop)]
+#[derive(Debug, Hash, Drop)]
 pub struct SyntaxDiagnostic {
-    /// Whether this is an error. Else it is a warning.
+    /// Whether this is an error. Otherwise it is a warning.
     pub is_error: bool,
-    /// The node's span. A warning's carries the part of the node that the warning is about.
+    /// The node's span. For a warning it carries the part of the node that the warning is about.
     pub span: DiagSpan,
     /// What is wrong.
     pub message: String,
-    /// How to mend it. A hint's span is detached, or that of the part of the node that the hint is about.
+    /// The suggestions for fixing it. A hint's span is detached, or it is that of the part of the node that the hint is
+    /// about.
     pub hints: Vec<Spanned<String, DiagSpan>>,
+}
+
+/// Two diagnostics are equal if they report the same about the same place.
+impl PartialEq for SyntaxDiagnostic {
+    ghost use Rattle.typst_node.specs.EqualReports.{diagnostic_eq, diagnostic_eq_laws};
+
+    ghost eq = { diagnostic_eq };
+
+    ghost laws = { diagnostic_eq_laws };
+
+    fn eq(&self, other: &SyntaxDiagnostic) -> bool
+        ensures is { result ≡ diagnostic_eq self.now other.now }
+        ensures same { IsTrue result ↔ (report self.now ≡ report other.now) }
+    {
+        self.is_error == other.is_error
+            && self.span == other.span
+            && self.message == other.message
+            && self.hints == other.hints
+    }
+}
+
+impl Eq for SyntaxDiagnostic {
+    ghost use Rattle.typst_node.specs.EqualReports.{diagnostic_eq_equivalence};
+
+    ghost laws = { diagnostic_eq_equivalence };
+}
+
+#[derived]
+impl Hash for SyntaxDiagnostic {
+    ghost use Rattle.typst_node.specs.HashedReports.{reports_alike};
+
+    ghost respects_eq = { reports_alike };
 }
 
 /// # Reports
 impl SyntaxNode {
-    /// The errors and the warnings of the tree: two lists in preorder, at each node its warnings from the outermost
-    /// to the innermost. It fails only where memory runs out.
+    /// The errors and the warnings of the tree, as two lists in preorder. The warnings of one node run from the
+    /// outermost to the innermost. It fails only if memory runs out.
     ///
-    /// It takes time in proportion to the nodes at or below which something is reported, to the numbers of their
-    /// children, and to what is copied.
+    /// It takes time in proportion to the nodes that have a report at or below them, to the numbers of their children,
+    /// and to what is copied.
     pub fn errors_and_warnings(
         &self,
         alloc: Global,
     ) -> Result<(Vec<SyntaxDiagnostic>, Vec<SyntaxDiagnostic>), AllocError>
-        ensures errors { IfOk result (λ lists. map report lists.0.items ≡ map (told self.now) (error_entries self.now)) }
-        ensures warnings { IfOk result (λ lists. map report lists.1.items ≡ map (told self.now) (warning_entries self.now)) }
+        ensures errors { IfOk result (λ lists. map report lists.0.items
+            ≡ map (told self.now) (error_entries self.now)) }
+        ensures warnings { IfOk result (λ lists. map report lists.1.items
+            ≡ map (told self.now) (warning_entries self.now)) }
         ensures error_diagnosed { IfOk result (λ lists. (lists.0.items ≢ []) ↔ IsTrue (has_error self.now)) }
         ensures warning_diagnosed { IfOk result (λ lists. (lists.1.items ≢ []) ↔ IsTrue (has_warning self.now)) }
     {
@@ -64,7 +100,7 @@ impl SyntaxNode {
         self.push_some_reports(alloc, errors, warnings)
     }
 
-    /// Adds the errors and the warnings of the tree, at the node first.
+    /// Adds the errors and the warnings of the tree, those of the node first.
     #[inline(never)]
     #[cycle(reports)]
     fn push_some_reports(
@@ -87,10 +123,7 @@ impl SyntaxNode {
                 }
                 Ok(())
             }
-            Node::Error(error) => {
-                errors.push(error.report(alloc, self.span)?)?;
-                Ok(())
-            }
+            Node::Error(error) => error.push_report(alloc, self.span, errors),
         }
     }
 }
@@ -129,18 +162,24 @@ impl Warning {
 }
 
 impl ErrorNode {
-    /// The report of this error of a node with this span.
+    /// Adds the report of this error of a node with this span.
     #[inline(never)]
-    fn report(&self, alloc: Global, span: Span) -> Result<SyntaxDiagnostic, AllocError>
-        ensures { IfOk result (λ d. report d
-            ≡ error_report span (string_bytes self.now.message) (map hint_text self.now.hints.items)) }
+    fn push_report(
+        &self,
+        alloc: Global,
+        span: Span,
+        out: &mut Vec<SyntaxDiagnostic>,
+    ) -> Result<(), AllocError>
+        ensures { OnOk result (map report out.new.items ≡ map report out.old.items
+            ++ error_report span (string_bytes self.now.message) (map hint_text self.now.hints.items) ∷ []) }
     {
-        Ok(SyntaxDiagnostic {
+        out.push(SyntaxDiagnostic {
             is_error: true,
             span: DiagSpan::from_span(span, None),
             message: String::from_str(alloc, self.message.as_str())?,
             hints: place_hints(alloc, span, &self.hints)?,
-        })
+        })?;
+        Ok(())
     }
 }
 

@@ -5,13 +5,6 @@ ghost use Rattle.typst_node.specs.View.{content, below, IsKept};
 use crate::node::spanless::{same_hints, same_kind, same_warnings};
 use crate::node::{Node, SyntaxNode};
 use crate::short_text::text_in;
-use typst_base::Span;
-
-fn same_span(span: Span, other: Span) -> bool
-    ensures { IsTrue result ↔ (span ≡ other) }
-{
-    span == other
-}
 
 impl SyntaxNode {
     /// Whether both trees are the same, spans and bounds included.
@@ -19,7 +12,7 @@ impl SyntaxNode {
     fn same(&self, other: &SyntaxNode) -> bool
         ensures { IsTrue result ↔ (self.now ≡ other.now) }
     {
-        if !same_span(self.span, other.span) {
+        if self.span != other.span {
             return false;
         }
         same_warnings(self.node.warnings(), other.node.warnings()) && self.node.same(&other.node)
@@ -73,7 +66,8 @@ fn all_same(nodes: &[SyntaxNode], others: &[SyntaxNode]) -> bool
     true
 }
 
-/// Equality of all that the trees hold, spans and bounds included. It takes time in proportion to the smaller one.
+/// Equality of everything that the trees hold, spans and bounds included. It takes time in proportion to the smaller
+/// tree.
 impl PartialEq for SyntaxNode {
     ghost use Rattle.typst_node.specs.Equal.{tree_eq, tree_eq_laws};
 
@@ -81,7 +75,10 @@ impl PartialEq for SyntaxNode {
 
     ghost laws = { tree_eq_laws };
 
-    fn eq(&self, other: &SyntaxNode) -> bool {
+    fn eq(&self, other: &SyntaxNode) -> bool
+        ensures is { result ≡ tree_eq self.now other.now }
+        ensures same { IsTrue result ↔ (self.now ≡ other.now) }
+    {
         self.same(other)
     }
 }

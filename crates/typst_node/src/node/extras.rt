@@ -1,37 +1,47 @@
-//! What an inner node keeps besides its children, their number and its bound.
+//! What an inner node keeps apart from its children, their number and its bound.
 ghost use Rattle.std.specs.Prelude.{◌≡◌, ◌+◌, ◌-◌, ◌^◌, ◌<◌, ◌≤◌, ◌∷◌, ◌++◌, [], None, Some, length, map, slice_index, slice_range, IfOk, IfSome, IsOk, MatchOption, OnErr, OnOk};
 ghost use Rattle.typst_node.specs.Text.{text_of_all};
 ghost use Rattle.typst_node.specs.Count.{SumsFit};
 ghost use Rattle.typst_node.specs.ChildEnds.{AreEnds, HavePlace, AreStale};
-ghost use Rattle.typst_node.specs.View.{warning_text};
+ghost use Rattle.typst_base.specs.SubRange.{interval};
+ghost use Rattle.typst_node.specs.Hints.{hint_outermost};
+ghost use Rattle.typst_node.specs.MappedForest.{mapped_warnings};
+ghost use Rattle.typst_node.specs.Synthesized.{whole_warning};
+ghost use Rattle.typst_node.specs.View.{hint_text, shown_warnings, warning_text};
 
 use crate::diagnosis::Diagnosis;
-use crate::node::child_ends::{ChildEnds, FEW};
+use crate::ends::Ends;
+use crate::node::child_ends::{first_ends, settle_ends};
 use crate::node::copy::copy_warnings;
-use crate::node::warn::only;
-use crate::node::{SyntaxNode, Warning};
+use crate::node::mapped::map_parts;
+use crate::node::settle::Change;
+use crate::node::synthesize::make_whole;
+use crate::node::warn::{hint_last, only};
+use crate::node::{Hint, SyntaxNode, Warning};
 use std::alloc::{AllocError, Global};
 use std::marker::Model;
+use typst_base::RangeMapper;
 
-/// The diagnosis of an inner node's children, where their texts end, unless they are few, and the warnings round the node,
-/// from the innermost to the outermost. In contracts it is these three.
+/// The diagnosis of an inner node's children, the ends of their texts, unless there are few children, and the warnings
+/// about the node, from the innermost to the outermost. In contracts it is these three.
 #[derive(Drop)]
 pub(crate) struct Extras {
-    pub(super) kept: Kept,
+    kept: Kept,
 }
 
-/// There is a box for both lists once there is one of them. The diagnosis stands beside the tag, where there is place for it.
+/// One box holds both lists, once there is one of them. The diagnosis is next to the tag, where there is room for it.
 #[derive(Drop)]
-pub(crate) enum Kept {
+enum Kept {
     Plain(Diagnosis),
     Listed(Diagnosis, Box<Lists>),
 }
 
-/// What few inner nodes have: ends and warnings.
+/// What only few inner nodes have: ends and warnings.
 #[derive(Drop)]
-pub(crate) struct Lists {
-    ends: ChildEnds,
-    pub(super) warnings: Vec<Warning>,
+struct Lists {
+    // The lower 32 bits of each end of the children's texts. A list that grew past a few and shrinks again stays.
+    ends: Option<Ends>,
+    warnings: Vec<Warning>,
 }
 
 impl Model for Extras {
@@ -44,7 +54,7 @@ impl Model for Extras {
 
 /// # All three
 impl Extras {
-    /// A diagnosis without ends, as of a few children, and without warnings.
+    /// A diagnosis without ends, as for few children, and without warnings.
     pub(crate) fn plain(diagnosis: Diagnosis) -> Extras
         ensures diagnosis { result.diagnosis ≡ diagnosis }
         ensures ends { result.ends ≡ None }
@@ -66,7 +76,7 @@ impl Extras {
         ensures warnings { IfOk result (λ e. e.warnings ≡ []) }
     {
         let lists = Lists {
-            ends: ChildEnds::many(ends)?,
+            ends: Some(Ends::new(ends)?),
             warnings: Vec::new(alloc),
         };
         Ok(Extras {
@@ -74,7 +84,7 @@ impl Extras {
         })
     }
 
-    /// The same diagnosis and ends, and warnings that say the same.
+    /// The same diagnosis and ends, and warnings with the same content.
     pub(super) fn copy(&self, alloc: Global) -> Result<Extras, AllocError>
         ensures diagnosis { IfOk result (λ e. e.diagnosis ≡ self.now.diagnosis) }
         ensures ends { IfOk result (λ e. e.ends ≡ self.now.ends) }
@@ -93,10 +103,15 @@ impl Extras {
 impl Lists {
     fn copy(&self, alloc: Global) -> Result<Lists, AllocError>
         ensures ends { IfOk result (λ l. l.ends ≡ self.now.ends) }
-        ensures warnings { IfOk result (λ l. map warning_text l.warnings.items ≡ map warning_text self.now.warnings.items) }
+        ensures warnings { IfOk result (λ l. map warning_text l.warnings.items
+            ≡ map warning_text self.now.warnings.items) }
     {
+        let ends = match &self.ends {
+            Some(ends) => Some(ends.copy()?),
+            None => None,
+        };
         Ok(Lists {
-            ends: self.ends.copy()?,
+            ends,
             warnings: copy_warnings(alloc, &self.warnings)?,
         })
     }
@@ -104,7 +119,7 @@ impl Lists {
 
 /// # The diagnosis
 impl Extras {
-    /// What the children hold.
+    /// The diagnosis of the children.
     pub(super) fn diagnosis(&self) -> Diagnosis
         ensures { result ≡ self.now.diagnosis }
     {
@@ -114,7 +129,7 @@ impl Extras {
         }
     }
 
-    /// Writes what the children hold.
+    /// Writes the diagnosis of the children.
     pub(super) fn set_diagnosis(&mut self, held: Diagnosis)
         ensures diagnosis { self.new.diagnosis ≡ held }
         ensures ends { self.new.ends ≡ self.old.ends }
@@ -129,7 +144,7 @@ impl Extras {
 
 /// # Warnings
 impl Extras {
-    /// The warnings side by side.
+    /// The warnings as a slice.
     pub(super) fn warnings(&self) -> &[Warning]
         ensures { result.now ≡ self.now.warnings }
     {
@@ -150,7 +165,7 @@ impl Extras {
             Kept::Plain(diagnosis) => {
                 let diagnosis = *diagnosis;
                 let lists = Lists {
-                    ends: ChildEnds::few(),
+                    ends: None,
                     warnings: only(alloc, warning)?,
                 };
                 self.kept = Kept::Listed(diagnosis, Box::new(alloc, lists)?);
@@ -159,78 +174,119 @@ impl Extras {
         }
         Ok(())
     }
+
+    /// Adds a hint after those of the last warning, which is the outermost one.
+    pub(super) fn hint_last(&mut self, hint: Hint) -> Result<(), AllocError>
+        requires { 0 < length self.old.warnings }
+        ensures diagnosis { self.new.diagnosis ≡ self.old.diagnosis }
+        ensures ends { self.new.ends ≡ self.old.ends }
+        ensures ok { OnOk result (shown_warnings self.new.warnings
+            ≡ hint_outermost (hint_text hint ∷ []) (shown_warnings self.old.warnings)) }
+        ensures err { OnErr result (shown_warnings self.new.warnings ≡ shown_warnings self.old.warnings) }
+    {
+        match &mut self.kept {
+            Kept::Plain(_) => unreachable!(),
+            Kept::Listed(_, lists) => hint_last(&mut lists.warnings, hint),
+        }
+    }
+
+    /// Maps the sub-ranges of the warnings and their hints.
+    pub(super) fn map_parts(&mut self, mapper: &RangeMapper, at: usize, end: usize)
+        requires ordered { at ≤ end }
+        requires inside { end ≤ length mapper.now.positions }
+        ensures diagnosis { self.new.diagnosis ≡ self.old.diagnosis }
+        ensures ends { self.new.ends ≡ self.old.ends }
+        ensures warnings { shown_warnings self.new.warnings ≡ mapped_warnings mapper.now (interval at end)
+            self.old.warnings }
+    {
+        if let Kept::Listed(_, lists) = &mut self.kept {
+            map_parts(&mut lists.warnings, mapper, at, end);
+        }
+    }
+
+    /// Removes the sub-ranges of the warnings and their hints.
+    pub(super) fn make_whole(&mut self)
+        ensures diagnosis { self.new.diagnosis ≡ self.old.diagnosis }
+        ensures ends { self.new.ends ≡ self.old.ends }
+        ensures warnings { shown_warnings self.new.warnings ≡ map whole_warning (shown_warnings self.old.warnings) }
+    {
+        if let Kept::Listed(_, lists) = &mut self.kept {
+            make_whole(&mut lists.warnings);
+        }
+    }
 }
 
 /// # Ends
 impl Extras {
-    /// The end at a place, if it is kept, by its lower 32 bits. It takes one addition for each layer of blocks.
+    /// The lower 32 bits of the end at an index, if the ends are kept. It takes one addition for each layer of blocks.
     pub(super) fn end(&self, index: usize) -> Option<u32>
         requires { IfSome self.now.ends (λ ends. index < length ends) }
         ensures { MatchOption self.now.ends (result ≡ None) (λ ends. result ≡ Some (slice_index ends index)) }
     {
         match &self.kept {
             Kept::Plain(_) => None,
-            Kept::Listed(_, lists) => lists.ends.get(index),
+            Kept::Listed(_, lists) => match &lists.ends {
+                Some(ends) => Some(ends.get(index)),
+                None => None,
+            },
         }
     }
 
-    /// Makes place for the ends of `many` children where those of the children from `from` up to `to` stand, as
-    /// `ChildEnds::make_place` does.
+    /// Makes room for the ends of the children that come in a change. The ends before and after them stay. It takes
+    /// memory only if there are more children then. If memory is refused, the ends are unchanged.
+    #[tactic(auto, using(crate::proofs::Trees::length_of_ends))]
     pub(super) fn make_place(
         &mut self,
         alloc: Global,
         children: &[SyntaxNode],
-        from: usize,
-        to: usize,
-        many: usize,
+        change: &Change,
     ) -> Result<(), AllocError>
         requires ends { AreEnds self.old.ends children.now }
         requires sums { SumsFit children.now }
-        requires window { from ≤ to }
-        requires inside { to ≤ length children.now }
-        requires fits { length children.now + many < 2 ^ 64 }
+        requires window { change.now.from ≤ change.now.to }
+        requires inside { change.now.to ≤ length children.now }
+        requires fits { length children.now + change.now.many < 2 ^ 64 }
         ensures diagnosis { self.new.diagnosis ≡ self.old.diagnosis }
         ensures warnings { self.new.warnings ≡ self.old.warnings }
-        ensures ok { OnOk result (HavePlace from to many self.new.ends children.now) }
+        ensures ok { OnOk result (HavePlace change.now.from change.now.to change.now.many self.new.ends children.now) }
         ensures err { OnErr result (self.new.ends ≡ self.old.ends) }
-        ensures succeeds { many ≤ to - from → IsOk result }
+        ensures succeeds { change.now.many ≤ change.now.to - change.now.from → IsOk result }
     {
         match &mut self.kept {
             Kept::Plain(diagnosis) => {
-                if children.len() - (to - from) + many > FEW {
-                    let diagnosis = *diagnosis;
-                    let mut ends = ChildEnds::few();
-                    ends.make_place(alloc, children, from, to, many)?;
-                    let warnings = Vec::new(alloc);
-                    let lists = Box::new(alloc, Lists { ends, warnings })?;
-                    self.kept = Kept::Listed(diagnosis, lists);
+                let diagnosis = *diagnosis;
+                if let Some(ends) = first_ends(alloc, children, change)? {
+                    let lists = Lists {
+                        ends: Some(ends),
+                        warnings: Vec::new(alloc),
+                    };
+                    self.kept = Kept::Listed(diagnosis, Box::new(alloc, lists)?);
                 }
-                Ok(())
             }
-            Kept::Listed(_, lists) => lists.ends.make_place(alloc, children, from, to, many),
+            Kept::Listed(_, lists) => match &mut lists.ends {
+                Some(ends) => ends.make_place(change.from, change.to, change.many)?,
+                None => lists.ends = first_ends(alloc, children, change)?,
+            },
         }
+        Ok(())
     }
 
-    /// Corrects the ends after children came, as `ChildEnds::settle` does.
-    pub(super) fn settle_ends(
-        &mut self,
-        children: &[SyntaxNode],
-        from: usize,
-        to: usize,
-        stay: bool,
-        gone: usize,
-        added: usize,
-    )
-        requires stale { AreStale from to stay gone self.old.ends children.now }
-        requires window { from ≤ to }
-        requires inside { to ≤ length children.now }
-        requires added { added ≡ length (text_of_all (slice_range children.now from to)) }
+    /// Corrects the ends after a change of the children.
+    pub(super) fn settle_ends(&mut self, children: &[SyntaxNode], change: &Change)
+        requires window { change.now.from ≤ change.now.to }
+        requires inside { change.now.from + change.now.many ≤ length children.now }
+        requires stale { AreStale change.now.from change.now.to change.now.many change.now.gone.len
+            self.old.ends children.now }
+        requires added { change.now.added.len ≡ length (text_of_all
+            (slice_range children.now change.now.from (change.now.from + change.now.many))) }
         ensures diagnosis { self.new.diagnosis ≡ self.old.diagnosis }
         ensures ends { AreEnds self.new.ends children.now }
         ensures warnings { self.new.warnings ≡ self.old.warnings }
     {
         if let Kept::Listed(_, lists) = &mut self.kept {
-            lists.ends.settle(children, from, to, stay, gone, added);
+            if let Some(ends) = &mut lists.ends {
+                settle_ends(ends, children, change);
+            }
         }
     }
 }

@@ -1,13 +1,12 @@
 // Hashes of whole trees.
 ghost use Rattle.std.specs.Prelude.{◌≡◌, fold, map, reverse};
-ghost use Rattle.typst_node.specs.Hashed.{sub_range_input, hint_input, hints_input, warning_input, warnings_input, content_input, span_input, label_input, tree_input};
+ghost use Rattle.typst_node.specs.Hashed.{sub_range_input, hint_input, hints_input, warning_input, warnings_input, content_input, label_input, tree_input};
 ghost use Rattle.typst_node.specs.Tree.{AsLeaf};
-ghost use Rattle.typst_node.specs.View.{hint_text, warning_text, content, IsKept};
+ghost use Rattle.typst_node.specs.View.{hint_text, warning_text};
 
 use crate::node::{Hint, Node, SyntaxNode, Warning};
-use crate::short_text::text_in;
 use std::hash::{Hash, Hasher};
-use typst_base::{Span, SubRange, SyntaxKind};
+use typst_base::{SubRange, SyntaxKind};
 
 fn feed_sub_range<H: Hasher>(sub_range: Option<SubRange>, state: &mut H)
     ensures { state.new ≡ fold H.write state.old (sub_range_input sub_range) }
@@ -21,12 +20,6 @@ fn feed_sub_range<H: Hasher>(sub_range: Option<SubRange>, state: &mut H)
         }
         None => state.write_u8(0),
     }
-}
-
-fn feed_span<H: Hasher>(span: Span, state: &mut H)
-    ensures { state.new ≡ fold H.write state.old (span_input span) }
-{
-    state.write_u64(span.into_raw().get());
 }
 
 fn feed_hint<H: Hasher>(hint: &Hint, state: &mut H)
@@ -70,16 +63,15 @@ fn feed_leaf<H: Hasher>(kind: SyntaxKind, text: &str, state: &mut H)
     text.hash(state);
 }
 
-impl Node {
-    /// Feeds what the node is without its children.
+impl SyntaxNode {
+    /// Feeds the node without its span, its warnings and its children.
     fn feed_content<H: Hasher>(&self, state: &mut H)
-        requires { IsKept self.now }
-        ensures { state.new ≡ fold H.write state.old (content_input (content self.now)) }
+        ensures { state.new ≡ fold H.write state.old (content_input self.now.label.content) }
     {
-        match self {
-            Node::Short(kind, len, bytes) => feed_leaf(*kind, text_in(*len, bytes), state),
-            Node::Long(kind, text) => feed_leaf(*kind, text.as_str(), state),
-            Node::Leaf(kind, leaf) => feed_leaf(*kind, leaf.text.as_str(), state),
+        match &self.node {
+            Node::Short(..) | Node::Long(..) | Node::Leaf(..) => {
+                feed_leaf(self.kind(), self.leaf_text(), state);
+            }
             Node::Error(error) => {
                 state.write_u8(1);
                 error.text.as_str().hash(state);
@@ -96,13 +88,13 @@ impl Node {
 }
 
 impl SyntaxNode {
-    /// Feeds what the node is without its children.
+    /// Feeds the node without its children.
     fn feed_label<H: Hasher>(&self, state: &mut H)
         ensures { state.new ≡ fold H.write state.old (label_input self.now.label) }
     {
-        feed_span(self.span, state);
+        self.span.hash(state);
         feed_warnings(self.node.warnings(), state);
-        self.node.feed_content(state);
+        self.feed_content(state);
     }
 
     /// Feeds the whole tree, in preorder.
@@ -118,7 +110,7 @@ impl SyntaxNode {
     }
 }
 
-/// A hash of all that the tree holds, spans and bounds included. It takes time in proportion to the tree.
+/// A hash of everything that the tree holds, spans and bounds included. It takes time in proportion to the tree.
 impl Hash for SyntaxNode {
     ghost use Rattle.typst_node.specs.Hashed.{tree_alike};
 

@@ -1,4 +1,4 @@
-// What an inner node keeps of its children.
+// What an inner node keeps about its children.
 ghost use Rattle.std.specs.Prelude.{◌≡◌, ◌↔◌, [], length, MatchOption, IfSome, IfOk, OnOk, IsErrOf};
 ghost use Rattle.typst_node.specs.Text.{text};
 ghost use Rattle.typst_node.specs.Count.{count, SumsFit};
@@ -16,26 +16,20 @@ use crate::node::{Node, SyntaxNode};
 use crate::short_text::len_in;
 use std::alloc::{AllocError, Global};
 
-/// The sums of a list of children, with their parent counted in.
+/// The sums of a tree, or of several adjacent trees.
 #[derive(Drop)]
 pub(crate) struct Sums {
+    // The length of the text in bytes.
     pub(crate) len: usize,
-    pub(crate) descendants: usize,
-    pub(crate) diagnosis: Diagnosis,
-}
-
-/// What is counted of a tree.
-#[derive(Drop)]
-pub(crate) struct Measures {
-    pub(crate) len: usize,
+    // The number of nodes.
     pub(crate) descendants: usize,
     pub(crate) diagnosis: Diagnosis,
 }
 
 impl SyntaxNode {
-    /// The length, the node count and the diagnosis, by one look at what the node is.
+    /// The length, the node count and the diagnosis, all read by one match.
     #[inline(always)]
-    pub(crate) fn measures(&self) -> Measures
+    pub(crate) fn measures(&self) -> Sums
         ensures len { result.len ≡ length (text self.now) }
         ensures descendants { result.descendants ≡ count self.now }
         ensures errors { result.diagnosis.errors ≡ has_error self.now }
@@ -57,7 +51,7 @@ impl SyntaxNode {
             }
             Node::Error(error) => (error.text.len(), 1, true, !error.warnings.is_empty()),
         };
-        Measures {
+        Sums {
             len,
             descendants,
             diagnosis: Diagnosis { errors, warnings },
@@ -65,7 +59,7 @@ impl SyntaxNode {
     }
 }
 
-/// Adds up the children, if the sums fit a usize.
+/// Adds up the children. It answers `None` if the sums, with the parent counted in, don't fit a usize.
 #[inline(always)]
 pub(crate) fn sums_of(children: &[SyntaxNode]) -> Option<Sums>
     ensures { MatchOption result (¬ (SumsFit children.now))
@@ -85,12 +79,13 @@ pub(crate) fn sums_of(children: &[SyntaxNode]) -> Option<Sums>
     }
     Some(Sums {
         len,
-        descendants,
+        descendants: descendants - 1,
         diagnosis,
     })
 }
 
-/// Adds up the children, and writes where the text of each ends, if the sums fit a usize.
+/// Adds up the children, and writes the end of each text. It answers `None` if the sums, with the parent counted in,
+/// don't fit a usize.
 pub(super) fn measure(children: &[SyntaxNode], ends: &mut [u32]) -> Option<Sums>
     requires { length ends.old ≡ length children.now }
     ensures sums { MatchOption result (¬ (SumsFit children.now))
@@ -112,12 +107,12 @@ pub(super) fn measure(children: &[SyntaxNode], ends: &mut [u32]) -> Option<Sums>
     }
     Some(Sums {
         len,
-        descendants,
+        descendants: descendants - 1,
         diagnosis,
     })
 }
 
-/// So many zeros.
+/// A list of zeros.
 fn zeros(alloc: Global, count: usize) -> Result<Vec<u32>, AllocError>
     ensures { IfOk result (λ v. length v.items ≡ count) }
 {
@@ -126,8 +121,8 @@ fn zeros(alloc: Global, count: usize) -> Result<Vec<u32>, AllocError>
     Ok(zeros)
 }
 
-/// The sums of the children and where the text of each ends, in one walk; of few the sums alone. Where memory is refused, the
-/// sums alone tell which error it is.
+/// The sums of the children and the ends of their texts, in one walk. For few children it gives the sums alone. If
+/// memory is refused, the sums alone tell which error it is.
 pub(crate) fn measured(alloc: Global, children: &[SyntaxNode]) -> Result<(Sums, Extras), InnerError>
     ensures sums { IfOk result (λ both. AreSums both.0 children.now) }
     ensures diagnosis { IfOk result (λ both. both.1.diagnosis ≡ both.0.diagnosis) }

@@ -1,4 +1,4 @@
-// Trees whose nodes have the places of mapped bytes.
+// Trees whose nodes get the places of mapped bytes.
 ghost use Rattle.std.specs.Prelude.{◌≡◌, ◌+◌, ◌<◌, ◌≤◌, ◌↔◌, length, map, IsErr, IsErrOf, OnErr, OnOk};
 ghost use Rattle.typst_base.specs.SubRange.{interval};
 ghost use Rattle.typst_node.specs.Mapped.{IsMapped, mapped_hint, mapped_part, mapped_warning};
@@ -6,7 +6,6 @@ ghost use Rattle.typst_node.specs.MappedForest.{mapped_tree, mapped_trees, mappe
 ghost use Rattle.typst_node.specs.Text.{text, text_of_all};
 ghost use Rattle.typst_node.specs.View.{hint_text, IsMeasured, shown_warnings, warning_text};
 
-use crate::node::extras::{Extras, Kept};
 use crate::node::{Hint, InnerNode, Node, SyntaxNode, Warning};
 use std::ops::Range;
 use thiserror::Error;
@@ -20,18 +19,18 @@ pub enum SynthesizeError {
     TooLong {
         /// The length of the tree's text in bytes.
         text: usize,
-        /// How many bytes the mapper has.
+        /// The number of bytes that the mapper has.
         mapper: usize,
     },
 }
 
 /// # Synthesis over a mapper
 impl SyntaxNode {
-    /// Gives each node of the tree the span of the original range of its bytes, as `mapper` maps them, in the file
-    /// `id`. Each inner node's bound becomes its span's number.
+    /// Gives each node of the tree the span of its original bytes, as `mapper` maps them, in the file `id`. Each inner
+    /// node's bound becomes the number of its span.
     ///
-    /// A sub-range of a warning or a hint is mapped at its node's offset. It goes where it passes the node's text, or
-    /// where its place is no sub-range. Where the text is longer than the mapper, nothing has changed.
+    /// A sub-range of a warning or a hint is mapped at the offset of its node. It is removed if it goes past the node's
+    /// text, or if its place is no sub-range. If the text is longer than the mapper, nothing has changed.
     /// It takes no memory, and time in proportion to the nodes, each with the logarithm of the mapper's segments.
     #[tactic(auto, using(crate::proofs::MappedPaths::mapped_from_start))]
     pub fn synthesize_mapped(
@@ -39,7 +38,8 @@ impl SyntaxNode {
         id: FileId,
         mapper: &RangeMapper,
     ) -> Result<(), SynthesizeError>
-        ensures too_long { IsErrOf result (SynthesizeError.TooLong (length (text self.old)) (length mapper.now.positions))
+        ensures too_long { IsErrOf result (SynthesizeError.TooLong (length (text self.old))
+            (length mapper.now.positions))
             ↔ (length mapper.now.positions < length (text self.old)) }
         ensures refused { IsErr result ↔ (length mapper.now.positions < length (text self.old)) }
         ensures err { OnErr result (self.new ≡ self.old) }
@@ -57,7 +57,7 @@ impl SyntaxNode {
         Ok(())
     }
 
-    /// Gives each node of the tree the place of its bytes, which begin at this offset of the mapped text.
+    /// Gives each node of the tree the place of its bytes. The bytes begin at this offset of the mapped text.
     #[cycle(map_places)]
     fn map_places(&mut self, id: FileId, mapper: &RangeMapper, at: usize)
         requires { at + length (text self.old) ≤ length mapper.now.positions }
@@ -80,7 +80,8 @@ impl SyntaxNode {
             }
             Node::Inner(_, _, inner) => {
                 self.span = span;
-                inner.map_places_below(id, mapper, at, end, span);
+                inner.upper = span.number();
+                inner.map_places_below(id, mapper, at, end);
             }
         }
     }
@@ -88,27 +89,19 @@ impl SyntaxNode {
 
 impl InnerNode {
     #[cycle(map_places)]
-    fn map_places_below(
-        &mut self,
-        id: FileId,
-        mapper: &RangeMapper,
-        at: usize,
-        end: usize,
-        span: Span,
-    )
+    fn map_places_below(&mut self, id: FileId, mapper: &RangeMapper, at: usize, end: usize)
         requires end { end ≡ at + length (text_of_all self.old.children.items) }
         requires measured { IsMeasured self.old }
         requires inside { end ≤ length mapper.now.positions }
         ensures measured { IsMeasured self.new }
         ensures len { length (text_of_all self.new.children.items) ≡ length (text_of_all self.old.children.items) }
-        ensures upper { self.new.upper ≡ span.low }
+        ensures upper { self.new.upper ≡ self.old.upper }
         ensures children { self.new.children.items ≡ mapped_trees mapper.now id at self.old.children.items }
         ensures warnings { shown_warnings self.new.extras.warnings
             ≡ mapped_warnings mapper.now (interval at (at + length (text_of_all self.old.children.items))) self.old.extras.warnings }
     {
         // Read for the proof: the mapper's length is a usize, so no offset below it overflows.
         let _total = mapper.total_len();
-        self.upper = span.number();
         self.extras.map_parts(mapper, at, end);
         let mut at = at;
         for child in self.children.iter_mut() {
@@ -120,7 +113,7 @@ impl InnerNode {
 }
 
 /// Maps the sub-ranges of the warnings and their hints.
-fn map_parts(warnings: &mut Vec<Warning>, mapper: &RangeMapper, at: usize, end: usize)
+pub(super) fn map_parts(warnings: &mut Vec<Warning>, mapper: &RangeMapper, at: usize, end: usize)
     requires ordered { at ≤ end }
     requires inside { end ≤ length mapper.now.positions }
     ensures { shown_warnings warnings.new.items
@@ -128,21 +121,6 @@ fn map_parts(warnings: &mut Vec<Warning>, mapper: &RangeMapper, at: usize, end: 
 {
     for warning in warnings.iter_mut() {
         warning.map_parts(mapper, at, end);
-    }
-}
-
-impl Extras {
-    /// Maps the sub-ranges of the warnings and their hints.
-    fn map_parts(&mut self, mapper: &RangeMapper, at: usize, end: usize)
-        requires ordered { at ≤ end }
-        requires inside { end ≤ length mapper.now.positions }
-        ensures diagnosis { self.new.diagnosis ≡ self.old.diagnosis }
-        ensures ends { self.new.ends ≡ self.old.ends }
-        ensures warnings { shown_warnings self.new.warnings ≡ mapped_warnings mapper.now (interval at end) self.old.warnings }
-    {
-        if let Kept::Listed(_, lists) = &mut self.kept {
-            map_parts(&mut lists.warnings, mapper, at, end);
-        }
     }
 }
 
@@ -170,7 +148,7 @@ fn map_hint_parts(hints: &mut Vec<Hint>, mapper: &RangeMapper, at: usize, end: u
     }
 }
 
-/// Where a part of a node with these bytes lies, if it is a part of the node's text.
+/// The place of a part of a node with these bytes, if it is a part of the node's text.
 #[tactic(auto, using(crate::proofs::MappedLemmas::part_made))]
 fn map_part(part: Option<SubRange>, mapper: &RangeMapper, at: usize, end: usize) -> Option<SubRange>
     requires ordered { at ≤ end }

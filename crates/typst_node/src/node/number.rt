@@ -1,10 +1,11 @@
-// Numbers in order, and the test whether they are.
-ghost use Rattle.std.specs.Prelude.{ℕ, List, ◌≡◌, ◌+◌, ◌-◌, ◌*◌, ◌/◌, ◌^◌, ◌<◌, ◌≤◌, ◌⊎◌, ◌↔◌, length, map, OnOk, OnErr, IsErr, IsTrue};
+// Numbers in order, and the test for this order.
+ghost use Rattle.std.specs.Prelude.{ℕ, List, ◌≡◌, ◌+◌, ◌-◌, ◌*◌, ◌/◌, ◌^◌, ◌<◌, ◌≤◌, ◌↔◌, length, map, OnOk, OnErr, IsErr, IsTrue};
 ghost use Rattle.typst_node.specs.Tree.{forest, IsInner};
 ghost use Rattle.typst_node.specs.Text.{text_of_all};
 ghost use Rattle.typst_node.specs.Count.{count, count_of_all};
 ghost use Rattle.typst_node.specs.Labels.{number, bound};
-ghost use Rattle.typst_node.specs.Numbered.{IsNumberedFor, IsNumbered, AllIn, halfway};
+ghost use Rattle.typst_node.specs.Numbered.{IsNumbered, AllIn};
+ghost use Rattle.typst_node.specs.Numbering.{IsNumbering, IsTooShort};
 ghost use Rattle.typst_node.specs.Plain.{plain};
 ghost use Rattle.typst_node.specs.PlainEdit.{EditFits};
 ghost use Rattle.typst_node.specs.View.{IsMeasured};
@@ -22,26 +23,19 @@ pub struct Unnumberable;
 
 /// # Numbering
 impl SyntaxNode {
-    /// Numbers all nodes of the tree within a range of node numbers, in preorder, and spreads them so that later
-    /// edits find numbers between them.
+    /// Numbers all nodes of the tree within a range of node numbers, in preorder. It spreads the numbers, so that later
+    /// edits find free numbers between them.
     ///
-    /// `within` lies in `Span::FULL`. A leaf or an error takes the middle number. An inner node of `n` nodes parts
-    /// the range into strides of `length / 2n` numbers, or where that is 0 of `length / n`: it takes the middle of
-    /// the first stride, and its children take as many strides as they have nodes, each by the same rule.
-    /// It takes time in proportion to the nodes, and no memory. Edits fit afterwards exactly where they fitted before.
+    /// `within` lies in `Span::FULL`. A leaf or an error takes the middle number. An inner node of `n` nodes divides
+    /// the range into strides of `length / 2n` numbers, or of `length / n` numbers if that is 0. The node takes the
+    /// middle of the first stride. Each child takes as many strides as it has nodes, and is numbered by the same rule.
+    /// It takes time in proportion to the nodes, and no memory. An edit fits afterwards exactly if it fitted before.
     pub fn numberize(&mut self, id: FileId, within: Range<u64>) -> Result<(), Unnumberable>
-        requires low { 2 ≤ within.start }
-        requires high { within.end ≤ 2 ^ 47 }
-        ensures refused { IsErr result ↔ ((within.end ≤ within.start) ⊎ (within.end - within.start < count self.old)) }
+        requires starts_in_span_full { 2 ≤ within.start }
+        requires ends_in_span_full { within.end ≤ 2 ^ 47 }
+        ensures refused { IsErr result ↔ IsTooShort self.old within.start within.end }
         ensures err { OnErr result (self.new ≡ self.old) }
-        ensures numbered { OnOk result (IsNumberedFor id self.new) }
-        ensures within { OnOk result (AllIn within.start within.end self.new) }
-        ensures bound { OnOk result (IsInner self.old.label.content → bound self.new.label ≡ within.end) }
-        ensures middle { OnOk result (¬ (IsInner self.old.label.content)
-            → number self.new.label ≡ (within.start + within.end) / 2) }
-        ensures first_half { OnOk result (IsInner self.old.label.content → 2 * count self.old ≤ within.end - within.start
-            → AllIn within.start (halfway within.start within.end) self.new) }
-        ensures plain { plain self.new ≡ plain self.old }
+        ensures numbering { OnOk result (IsNumbering id within.start within.end self.old self.new) }
         ensures fits { (path : List ℕ) (from to : ℕ) → EditFits path from to self.new ↔ EditFits path from to self.old }
     {
         if within.start >= within.end || within.end - within.start < self.descendants() as u64 {
@@ -51,9 +45,9 @@ impl SyntaxNode {
         Ok(())
     }
 
-    /// Whether the tree is numbered: all spans are of one file, numbers strictly increase in preorder, and each
-    /// bound is above its subtree's numbers and at most the next number after it. It takes time in proportion to
-    /// the nodes, and no memory.
+    /// Whether the tree is numbered: all spans are of one file, the numbers strictly increase in preorder, and each
+    /// bound is above the numbers of its subtree and at most the next number after the subtree. It takes time in
+    /// proportion to the nodes, and no memory.
     pub fn is_numbered(&self) -> bool
         ensures { IsTrue result ↔ IsNumbered self.now }
     {
@@ -128,7 +122,7 @@ impl InnerNode {
     }
 }
 
-/// Numbers the nodes one after the other, from `start` on, each within its node count times `stride` numbers.
+/// Numbers the nodes one after the other, from `start` on. Each node gets its node count times `stride` numbers.
 #[cycle(number)]
 pub(super) fn number_all(nodes: &mut [SyntaxNode], id: FileId, start: u64, stride: u64)
     requires low { 2 ≤ start }
@@ -146,7 +140,7 @@ pub(super) fn number_all(nodes: &mut [SyntaxNode], id: FileId, start: u64, strid
     }
 }
 
-/// How many numbers each of `count` nodes gets of `space` numbers: half of an even share, where that is not 0.
+/// How many of `space` numbers each of `count` nodes gets: half of an even share, unless that is 0.
 fn stride_of(space: u64, count: u64) -> u64
     requires some { 1 ≤ count }
     requires room { count ≤ space }

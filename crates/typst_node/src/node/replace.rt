@@ -1,30 +1,29 @@
 // Replacements of children.
-ghost use Rattle.std.specs.Prelude.{[], ◌≡◌, ◌+◌, ◌-◌, ◌^◌, ◌<◌, ◌≤◌, ◌⊎◌, ◌↔◌, suc, map, length, slice_range, vec_capacity, None, IfSome, Ok, IsOk, IfOk, OnOk, OnErr, IsErrOf, MatchOption};
+ghost use Rattle.std.specs.Prelude.{[], ◌≡◌, ◌+◌, ◌-◌, ◌^◌, ◌<◌, ◌≤◌, ◌↔◌, length, IfSome, IfNone, IsSome, Ok, IsOk, IfErr, IfOk, IsTrue, OnOk, OnErr, IsErrOf, MatchOption};
 ghost use Rattle.std.specs.List.{splice};
 ghost use Rattle.typst_node.specs.Tree.{forest, trees, IsInner};
 ghost use Rattle.typst_node.specs.Text.{text_of_all};
-ghost use Rattle.typst_node.specs.Count.{SumsFit, count_of_all};
-ghost use Rattle.typst_node.specs.Plain.{plain};
-ghost use Rattle.typst_node.specs.Numbered.{IsNumbered, IsNumberedFor};
+ghost use Rattle.typst_node.specs.Count.{SumsFit};
 ghost use Rattle.typst_node.specs.Interval.{IsWithin};
 ghost use Rattle.typst_node.specs.View.{IsMeasured};
-ghost use Rattle.typst_node.specs.Sums.{AreSums};
-ghost use Rattle.typst_node.specs.PlainEdit.{edited, spliced, RangeFits};
-ghost use Rattle.typst_node.specs.Refusals.{LacksNumbers};
-ghost use Rattle.typst_node.specs.Window.{Site, site_at, site_among, site_of};
-ghost use Rattle.typst_node.specs.FirstWindow.{HasNoFirst, IsFoundSoon, IsCrowded};
-ghost use Rattle.typst_node.specs.Tells.{TellsAs};
-ghost use Rattle.typst_node.specs.Outside.{KeepsOutside};
-ghost use Rattle.typst_node.specs.Renumbering.{IsRenumbering, no_window};
+ghost use Rattle.typst_node.specs.PlainEdit.{FitsInner, RangeFits};
+ghost use Rattle.typst_node.specs.ChangedChildren.{StaysLongest};
+ghost use Rattle.typst_node.specs.Edit.{IsNumberedOrUnfiled, edit_of};
+ghost use Rattle.typst_node.specs.Accepted.{IsAccepted};
+ghost use Rattle.typst_node.specs.Refusals.{IsRefusedBy};
+ghost use Rattle.typst_node.specs.Window.{Site, site_at, site_among};
+ghost use Rattle.typst_node.specs.FirstWindow.{HasNoFirst};
+ghost use Rattle.typst_node.specs.Renumbering.{no_window};
 ghost use Rattle.typst_node.specs.Sites.{IsFound};
 ghost use Rattle.typst_node.specs.Change.{IsChange};
 ghost use Rattle.typst_node.specs.EditBelow.{AreReplaced, IsReplacement};
-ghost use Rattle.typst_node.specs.declared.node.replace.ReplaceError.TheVariants.{Unnumberable, Overflow, Memory};
+ghost use Rattle.typst_node.specs.declared.node.replace.ReplaceError.TheVariants.{Memory};
 
 use crate::exchange::exchange;
-use crate::node::inner::{Sums, sums_of};
+use crate::node::inner::sums_of;
+use crate::node::settle::Change;
 use crate::node::trim::{count_common_first, count_common_last, trim};
-use crate::node::window::{Edit, Found, find};
+use crate::node::window::{Found, Row, find};
 use crate::node::{InnerNode, Node, SyntaxNode};
 use std::alloc::{AllocError, Global};
 use std::ops::Range;
@@ -53,168 +52,156 @@ impl From<AllocError> for ReplaceError {
     }
 }
 
-/// What an accepted replacement numbered anew.
+/// The window that an accepted replacement numbered anew.
 #[derive(Clone, Debug, PartialEq, Eq, Drop)]
 pub struct Renumbered {
     /// The window: the indices of the children that were numbered anew, in the new list of children.
     pub window: Range<usize>,
-    /// How many windows were tried, this one included.
+    /// The number of windows that were tried, this one included.
     pub tried: usize,
 }
 
-/// What goes and what comes where children are replaced.
+/// Other nodes in place of some children. The call passes it down to where the children move.
 #[derive(Drop)]
-pub(super) struct Change {
-    // The sums of the children that go, and of those that come.
-    pub(super) gone: Sums,
-    pub(super) added: Sums,
-    // The node count of the edited node after the change.
-    pub(super) total: usize,
+pub(super) struct Splice {
+    // The indices of the children that go.
+    pub(super) from: usize,
+    pub(super) to: usize,
+    // The nodes that come.
+    pub(super) others: Vec<SyntaxNode>,
+}
+
+/// The source of the children's numbers: the node's file id, if it has one, and the node's own number.
+#[derive(Clone, Copy)]
+struct Owner {
+    id: Option<FileId>,
+    number: u64,
 }
 
 impl InnerNode {
-    /// The sums of what goes and of what comes with others in the place of some children, if the node's own sums fit
-    /// a usize then. It reads these children and the others alone.
+    /// The change that replaces some children by others, if the node's own sums fit a usize then. It reads only these
+    /// children and the others.
     #[tactic(auto, using(crate::proofs::Opens::splice_count, crate::proofs::Opens::splice_text, crate::proofs::Opens::part_count, crate::proofs::Opens::part_text))]
-    fn change(&self, len: usize, from: usize, to: usize, others: &[SyntaxNode]) -> Option<Change>
+    fn change(&self, len: usize, edit: &Splice) -> Option<Change>
         requires len { len ≡ length (text_of_all self.now.children.items) }
         requires measured { IsMeasured self.now }
-        requires window { from ≤ to }
-        requires inside { to ≤ length self.now.children.items }
-        ensures { MatchOption result (¬ (SumsFit (splice self.now.children.items from to others.now)))
-            (IsChange from to self.now.children.items others.now) }
+        requires window { edit.now.from ≤ edit.now.to }
+        requires inside { edit.now.to ≤ length self.now.children.items }
+        ensures { MatchOption result
+            (¬ (SumsFit (splice self.now.children.items edit.now.from edit.now.to edit.now.others.items)))
+            (IsChange edit.now.from edit.now.to self.now.children.items edit.now.others.items) }
     {
         let descendants = self.descendants;
-        let Some(gone) = sums_of(&self.children[from..to]) else {
+        let Some(gone) = sums_of(&self.children[edit.from..edit.to]) else {
             return None;
         };
-        let Some(added) = sums_of(others) else {
+        let Some(added) = sums_of(&edit.others) else {
             return None;
         };
         if (len - gone.len).checked_add(added.len).is_none() {
             return None;
         }
-        let Some(total) = (descendants - (gone.descendants - 1)).checked_add(added.descendants - 1)
-        else {
+        if (descendants - gone.descendants)
+            .checked_add(added.descendants)
+            .is_none()
+        {
             return None;
-        };
-        Some(Change { gone, added, total })
+        }
+        Some(Change {
+            from: edit.from,
+            to: edit.to,
+            many: edit.others.len(),
+            gone,
+            added,
+        })
     }
 
-    /// Asks for the room that more children take.
-    #[tactic(auto, using(crate::proofs::Trees::length_of_ends))]
-    fn make_room(&mut self, more: usize) -> Result<(), AllocError>
-        requires { IsMeasured self.old }
-        ensures measured { IsMeasured self.new }
-        ensures upper { self.new.upper ≡ self.old.upper }
-        ensures warnings { self.new.extras.warnings ≡ self.old.extras.warnings }
-        ensures children { self.new.children.items ≡ self.old.children.items }
-        ensures room { OnOk result (length self.new.children.items + more ≤ vec_capacity self.new.children) }
-        ensures succeeds { more ≡ 0 → IsOk result }
-    {
-        self.children.reserve(more)
-    }
-
-    /// Puts others in the place of some children. It takes memory only where the list grows, and asks for it first.
-    fn put(
-        &mut self,
-        from: usize,
-        to: usize,
-        others: Vec<SyntaxNode>,
-        change: &Change,
-    ) -> Result<(), AllocError>
+    /// Replaces some children by others. It takes memory only if the list grows, and asks for it first.
+    fn put(&mut self, edit: Splice, change: &Change) -> Result<(), AllocError>
         requires measured { IsMeasured self.old }
-        requires window { from ≤ to }
-        requires inside { to ≤ length self.old.children.items }
+        requires window { edit.from ≤ edit.to }
+        requires inside { edit.to ≤ length self.old.children.items }
         requires fits { SumsFit self.old.children.items }
-        requires change { IsChange from to self.old.children.items others.items change.now }
+        requires change { IsChange edit.from edit.to self.old.children.items edit.others.items change.now }
         ensures measured { IsMeasured self.new }
         ensures upper { self.new.upper ≡ self.old.upper }
         ensures warnings { self.new.extras.warnings ≡ self.old.extras.warnings }
-        ensures ok { OnOk result (self.new.children.items ≡ splice self.old.children.items from to others.items) }
+        ensures ok { OnOk result (self.new.children.items
+            ≡ splice self.old.children.items edit.from edit.to edit.others.items) }
         ensures err { OnErr result (self.new.children.items ≡ self.old.children.items) }
-        ensures succeeds { length others.items ≤ to - from → IsOk result }
+        ensures succeeds { length edit.others.items ≤ edit.to - edit.from → IsOk result }
     {
-        let many = others.len();
-        let stay = many == to - from;
-        self.make_room(many.saturating_sub(to - from))?;
+        let more = change.many.saturating_sub(change.to - change.from);
+        self.children.reserve(more)?;
         let alloc = *self.children.allocator();
-        self.extras
-            .make_place(alloc, &self.children, from, to, many)?;
-        exchange(&mut self.children, from, to, others)?;
-        self.settle(from, from + many, stay, &change.gone, &change.added);
+        self.extras.make_place(alloc, &self.children, change)?;
+        exchange(&mut self.children, change.from, change.to, edit.others)?;
+        self.settle(change);
         Ok(())
     }
 
-    /// The first window with room for others in the place of some children.
+    /// The first window with room, if others replace some children.
     #[tactic(auto, using(crate::proofs::Opens::splice_count, crate::proofs::Opens::part_count))]
-    fn window(
-        &self,
-        number: u64,
-        from: usize,
-        to: usize,
-        others: &[SyntaxNode],
-        change: &Change,
-    ) -> Option<Found>
+    fn window(&self, number: u64, edit: &Splice, change: &Change) -> Option<Found>
+        requires measured { IsMeasured self.now }
         requires number { number < 2 ^ 48 }
-        requires window { from ≤ to }
-        requires inside { to ≤ length self.now.children.items }
-        requires change { IsChange from to self.now.children.items others.now change.now }
-        ensures { let s : Site = site_at (number + 1) self.now.upper from to others.now self.now.children.items in
+        requires window { edit.now.from ≤ edit.now.to }
+        requires inside { edit.now.to ≤ length self.now.children.items }
+        requires change { IsChange edit.now.from edit.now.to self.now.children.items edit.now.others.items change.now }
+        ensures { let s : Site = site_at (number + 1) self.now.upper
+            edit.now.from edit.now.to edit.now.others.items self.now.children.items in
             MatchOption result (HasNoFirst s) (IsFound s) }
     {
-        let (before, _) = self.children.split_at(from);
-        let (_, behind) = self.children.split_at(to);
-        let edit = Edit {
+        let (before, _) = self.children.split_at(edit.from);
+        let (_, behind) = self.children.split_at(edit.to);
+        let row = Row {
             before,
-            changed: others,
+            changed: &edit.others,
             behind,
             first: number + 1,
             end: self.upper,
-            added: change.added.descendants - 1,
-            total: change.total,
+            added: change.added.descendants,
+            total: self.descendants - change.gone.descendants + change.added.descendants,
         };
-        find(&edit)
+        find(&row)
     }
 }
 
 impl InnerNode {
-    /// Replaces some children of which none stays: decides by counts alone, asks for memory, and only then writes.
+    /// Replaces some children, none of which stays. It decides by counts alone, asks for memory, and only then writes.
     fn replace_changed(
         &mut self,
         len: &mut usize,
-        id: Option<FileId>,
-        number: u64,
-        from: usize,
-        to: usize,
-        others: Vec<SyntaxNode>,
+        owner: Owner,
+        edit: Splice,
     ) -> Result<Renumbered, ReplaceError>
         requires len { len.old ≡ length (text_of_all self.old.children.items) }
         requires measured { IsMeasured self.old }
-        requires window { from ≤ to }
-        requires inside { to ≤ length self.old.children.items }
-        requires number { (2 ≤ number + 1) × (number < 2 ^ 48) }
-        requires upper { IfSome id (λ file. self.old.upper ≤ 2 ^ 47) }
-        requires within { IfSome id (λ file. IsWithin file (number + 1) self.old.upper (forest self.old.children.items)) }
-        ensures made { let site : Site = site_at (number + 1) self.old.upper from to others.items self.old.children.items in
-            AreReplaced site id self.old self.new len.new result }
-        ensures memory { length others.items ≤ to - from → ¬ (IsErrOf result Memory) }
+        requires window { edit.from ≤ edit.to }
+        requires inside { edit.to ≤ length self.old.children.items }
+        requires number { (2 ≤ owner.number + 1) × (owner.number < 2 ^ 48) }
+        requires upper { IfSome owner.id (λ file. self.old.upper ≤ 2 ^ 47) }
+        requires within { IfSome owner.id (λ file.
+            IsWithin file (owner.number + 1) self.old.upper (forest self.old.children.items)) }
+        ensures made { let site : Site = site_at (owner.number + 1) self.old.upper
+            edit.from edit.to edit.others.items self.old.children.items in
+            AreReplaced site owner.id self.old self.new len.new result }
+        ensures memory { length edit.others.items ≤ edit.to - edit.from → ¬ (IsErrOf result Memory) }
     {
-        let Some(change) = self.change(*len, from, to, &others) else {
+        let Some(change) = self.change(*len, &edit) else {
             return Err(ReplaceError::Overflow);
         };
-        let Some(id) = id else {
+        let Some(id) = owner.id else {
             return Err(ReplaceError::Unnumberable);
         };
-        let Some(found) = self.window(number, from, to, &others, &change) else {
+        let Some(found) = self.window(owner.number, &edit, &change) else {
             return Err(ReplaceError::Unnumberable);
         };
-        let start = from.saturating_sub(found.width);
-        let end = from + others.len() + found.width.min(self.children.len() - to);
-        self.put(from, to, others, &change)?;
+        let start = edit.from.saturating_sub(found.width);
+        let end = edit.from + edit.others.len() + found.width.min(self.children.len() - edit.to);
+        self.put(edit, &change)?;
         *len = *len - change.gone.len + change.added.len;
-        let numbering = found.numbering;
-        self.renumber(id, start, end, numbering.start, numbering.stride);
+        self.renumber(id, start..end, found.numbering);
         Ok(Renumbered {
             window: start..end,
             tried: found.tried,
@@ -223,120 +210,124 @@ impl InnerNode {
 }
 
 impl InnerNode {
-    /// Replaces some children. Those stay that the replacement has alike at its beginning or at its end.
+    /// Whether the range of children that go lies within the children.
+    fn holds(&self, edit: &Splice) -> bool
+        ensures { IsTrue result ↔ ((edit.now.from ≤ edit.now.to) × (edit.now.to ≤ length self.now.children.items)) }
+    {
+        edit.from <= edit.to && edit.to <= self.children.len()
+    }
+
+    /// Replaces some children. Those that the replacement has alike at its beginning or at its end stay.
     fn replace(
         &mut self,
         len: &mut usize,
-        id: Option<FileId>,
-        number: u64,
-        from: usize,
-        to: usize,
-        mut others: Vec<SyntaxNode>,
+        owner: Owner,
+        edit: Splice,
     ) -> Result<Renumbered, ReplaceError>
         requires len { len.old ≡ length (text_of_all self.old.children.items) }
         requires measured { IsMeasured self.old }
-        requires window { from ≤ to }
-        requires inside { to ≤ length self.old.children.items }
-        requires number { (2 ≤ number + 1) × (number < 2 ^ 48) }
-        requires upper { IfSome id (λ file. self.old.upper ≤ 2 ^ 47) }
-        requires within { IfSome id (λ file. IsWithin file (number + 1) self.old.upper (forest self.old.children.items)) }
-        ensures made { let site : Site = site_among (number + 1) self.old.upper from to others.items self.old.children.items in
-            AreReplaced site id self.old self.new len.new result }
-        ensures memory { length others.items ≤ to - from → ¬ (IsErrOf result Memory) }
+        requires window { edit.from ≤ edit.to }
+        requires inside { edit.to ≤ length self.old.children.items }
+        requires number { (2 ≤ owner.number + 1) × (owner.number < 2 ^ 48) }
+        requires upper { IfSome owner.id (λ file. self.old.upper ≤ 2 ^ 47) }
+        requires within { IfSome owner.id (λ file.
+            IsWithin file (owner.number + 1) self.old.upper (forest self.old.children.items)) }
+        ensures made { let site : Site = site_among (owner.number + 1) self.old.upper
+            edit.from edit.to edit.others.items self.old.children.items in
+            AreReplaced site owner.id self.old self.new len.new result }
+        ensures memory { length edit.others.items ≤ edit.to - edit.from → ¬ (IsErrOf result Memory) }
     {
+        let Splice {
+            from,
+            to,
+            mut others,
+        } = edit;
         let first = count_common_first(&self.children[from..to], &others);
         let (_, left) = others.split_at(first);
         let last = count_common_last(&self.children[from + first..to], left);
         trim(&mut others, first, last);
-        self.replace_changed(len, id, number, from + first, to - last, others)
+        let rest = Splice {
+            from: from + first,
+            to: to - last,
+            others,
+        };
+        self.replace_changed(len, owner, rest)
     }
 }
 
 impl SyntaxNode {
-    /// Replaces the children of a range of an inner node.
+    /// Replaces the children in a range, if this is an inner node and the range lies within its children.
     #[inline(never)]
-    pub(super) fn replace_range(
-        &mut self,
-        range: Range<usize>,
-        replacement: Vec<SyntaxNode>,
-    ) -> Result<Renumbered, ReplaceError>
-        requires inner { IsInner self.old.label.content }
-        requires range { RangeFits range.start range.end self.old }
-        requires numbered { (self.old.label.span.file ≡ 0) ⊎ IsNumbered self.old }
-        ensures err { OnErr result (self.new ≡ self.old) }
-        ensures at { IsReplacement range.start range.end replacement.items self.old self.new result }
+    pub(super) fn replace_range(&mut self, edit: Splice) -> Option<Result<Renumbered, ReplaceError>>
+        requires numbered { FitsInner [] edit.from edit.to self.old → IsNumberedOrUnfiled [] self.old }
+        ensures fits { IsSome result ↔ FitsInner [] edit.from edit.to self.old }
+        ensures misfit { IfNone result (self.new ≡ self.old) }
+        ensures err { IfSome result (λ answer. OnErr answer (self.new ≡ self.old)) }
+        ensures made { IfSome result (IsReplacement edit.from edit.to edit.others.items self.old self.new) }
     {
         let id = self.span.id();
         let number = self.span.number();
         match &mut self.node {
             Node::Inner(_, len, inner) => {
-                return inner.replace(len, id, number, range.start, range.end, replacement);
+                if !inner.holds(&edit) {
+                    return None;
+                }
+                return Some(inner.replace(len, Owner { id, number }, edit));
             }
-            Node::Short(..) | Node::Long(..) | Node::Leaf(..) | Node::Error(_) => unreachable!(),
+            Node::Short(..) | Node::Long(..) | Node::Leaf(..) | Node::Error(_) => None,
         }
     }
 }
 
 /// # Replacing children of the node itself
 impl SyntaxNode {
-    /// Replaces the children of a range, and numbers as few of their neighbours anew as there is room for.
+    /// Replaces the children in a range, and numbers as few of their neighbours anew as room allows.
     ///
-    /// `range` is of child indices. Old children that the replacement has alike at its beginning or its end, by
-    /// [`SyntaxNode::spanless_eq`], stay with their numbers. The window begins as the rest of the replacement and
-    /// widens by 1, 2, 4, 8 and so on neighbours on each side, until its open numbers, between the children beside
-    /// it, are at least twice its nodes or at least all nodes of this one. Its nodes get new numbers of this node's
-    /// file. All others keep theirs.
+    /// `range` holds child indices. Old children stay with their numbers if the replacement has alike children, by
+    /// [`SyntaxNode::spanless_eq`], at its beginning or its end. The window starts as the rest of the replacement. It
+    /// widens by 1, 2, 4, 8 and so on neighbours on each side. It stops when its open numbers, between the children
+    /// beside it, are at least twice its nodes or at least all nodes of this node. The nodes of the window get new
+    /// numbers in this node's file. All others keep theirs.
     ///
-    /// A leaf or an error stays as it is, and the answer is the window `0..0` and 0 tried.
+    /// A leaf or an error stays as it is. The answer is then the window `0..0` and 0 tried windows.
     ///
-    /// The test of the conditions is [`SyntaxNode::edit_fits`] with an empty path, and
-    /// [`SyntaxNode::is_numbered`]. After an error nothing has changed, and the replacement is dropped. Where more
-    /// than one could be given, it is `Overflow`, else `Unnumberable`, else `Memory`, which is only given where the
-    /// number of children grows.
+    /// The tests of the conditions are [`SyntaxNode::edit_fits`] with an empty path, and [`SyntaxNode::is_numbered`].
+    /// After an error nothing has changed, and the replacement is dropped. `Overflow` comes before `Unnumberable`, and
+    /// this before `Memory`. `Memory` comes only if the number of children grows.
     ///
-    /// It takes time in proportion to the children of the range, to the replacement, and to the trees of the window.
-    /// Where the number of children changes, those after the range are moved. Where only their length changes, at most
-    /// 256 numbers are written, and as many again each time that the number of children is 256 times as large. The
-    /// children are searched for errors or warnings where the range held some and the replacement doesn't. Lists grow
-    /// by their own allocator.
+    /// It takes time in proportion to the children in the range, to the replacement, and to the trees of the window. If
+    /// the number of children changes, those after the range are moved. If only their length changes, at most 256
+    /// numbers are written, and 256 more each time that the number of children is 256 times as large. If the range held
+    /// an error and the replacement holds none, the children are searched for other errors. The same is true of
+    /// warnings. Lists grow by their own allocator.
+    #[tactic(auto, using(crate::proofs::Trimmed::stays_longest))]
     pub fn replace_children(
         &mut self,
         _alloc: Global,
         range: Range<usize>,
         replacement: Vec<SyntaxNode>,
     ) -> Result<Renumbered, ReplaceError>
-        requires range { RangeFits range.start range.end self.old }
-        requires numbered { (self.old.label.span.file ≡ 0) ⊎ IsNumbered self.old }
-
-        // A leaf or an error, and each refusal, changes nothing.
+        requires fits_ask_edit_fits { RangeFits range.start range.end self.old }
+        requires numbered_ask_is_numbered { IsNumberedOrUnfiled [] self.old }
         ensures leaf { ¬ (IsInner self.old.label.content) → (self.new ≡ self.old) × (result ≡ Ok no_window) }
+        ensures accepted { IfOk result (λ r. IsInner self.old.label.content
+            → IsAccepted (edit_of [] range replacement.items) self.old r self.new) }
+        ensures refused { IfErr result (λ why. IsRefusedBy why (edit_of [] range replacement.items) self.old) }
         ensures err { OnErr result (self.new ≡ self.old) }
-        ensures overflow { IsErrOf result Overflow ↔ (IsInner self.old.label.content
-            × ¬ (SumsFit (spliced range.start range.end replacement.items self.old))) }
-        ensures unnumberable { IsErrOf result Unnumberable ↔ LacksNumbers range.start range.end replacement.items self.old }
-        ensures crowded { IsErrOf result Unnumberable
-            → (self.old.label.span.file ≡ 0) ⊎ IsCrowded (site_of range.start range.end replacement.items self.old) }
-        ensures memory { length replacement.items ≤ range.end - range.start → ¬ (IsErrOf result Memory) }
-
-        // What an accepted replacement makes.
-        ensures plain { OnOk result (IsInner self.old.label.content
-            → plain self.new ≡ plain (edited range.start range.end replacement.items self.old)) }
-        ensures reads { OnOk result (IsInner self.old.label.content
-            → TellsAs self.new (edited range.start range.end replacement.items self.old)) }
-        ensures numbered { OnOk result (IsInner self.old.label.content → IsNumberedFor self.old.label.span.file self.new) }
-        ensures window { IfOk result (λ r. IsInner self.old.label.content
-            → IsRenumbering (site_of range.start range.end replacement.items self.old) r (trees self.new.children)) }
-        ensures tried { IfOk result (λ r. IsInner self.old.label.content
-            → IsFoundSoon (site_of range.start range.end replacement.items self.old) r.tried) }
-        ensures outside { IfOk result (λ r. IsInner self.old.label.content → KeepsOutside [] r self.old self.new) }
+        ensures stays { StaysLongest range.start range.end replacement.items (trees self.old.children) }
         ensures label { self.new.label ≡ self.old.label }
     {
-        if !self.is_inner() {
-            return Ok(Renumbered {
-                window: 0..0,
-                tried: 0,
-            });
+        let edit = Splice {
+            from: range.start,
+            to: range.end,
+            others: replacement,
+        };
+        if let Some(answer) = self.replace_range(edit) {
+            return answer;
         }
-        self.replace_range(range, replacement)
+        Ok(Renumbered {
+            window: 0..0,
+            tried: 0,
+        })
     }
 }

@@ -1,5 +1,5 @@
-// What an inner node keeps of its children, after some of them were exchanged.
-ghost use Rattle.std.specs.Prelude.{◌≡◌, ◌+◌, ◌-◌, ◌^◌, ◌<◌, ◌≤◌, ◌||◌, ◌++◌, ◌↔◌, true, length, take, drop, slice_range, IsTrue};
+// The correction of what an inner node keeps about its children, after some of them were exchanged.
+ghost use Rattle.std.specs.Prelude.{◌≡◌, ◌+◌, ◌<◌, ◌≤◌, ◌||◌, ◌++◌, ◌↔◌, true, length, take, drop, slice_range, IsTrue};
 ghost use Rattle.std.specs.List.{list_any};
 ghost use Rattle.typst_node.specs.Tree.{forest};
 ghost use Rattle.typst_node.specs.Preorder.{preorder};
@@ -14,7 +14,18 @@ use crate::diagnosis::Diagnosis;
 use crate::node::inner::Sums;
 use crate::node::{InnerNode, SyntaxNode};
 
-/// What the nodes hold together.
+/// A change of children: those from the index `from` up to `to` go, and `many` come in their place.
+#[derive(Drop)]
+pub(super) struct Change {
+    pub(super) from: usize,
+    pub(super) to: usize,
+    pub(super) many: usize,
+    // The sums of the children that go, and of those that come.
+    pub(super) gone: Sums,
+    pub(super) added: Sums,
+}
+
+/// The joined diagnosis of the nodes.
 fn diagnosis_of(nodes: &[SyntaxNode]) -> Diagnosis
     ensures errors { result.errors ≡ list_any is_error (preorder (forest nodes.now)) }
     ensures warnings { result.warnings ≡ list_any is_warned (preorder (forest nodes.now)) }
@@ -29,66 +40,53 @@ fn diagnosis_of(nodes: &[SyntaxNode]) -> Diagnosis
     diagnosis
 }
 
-/// Whether all that is gone is there again.
+/// Whether the added nodes hold each kind of entry that the gone nodes held.
 fn is_covered(gone: Diagnosis, added: Diagnosis) -> bool
-    ensures { IsTrue result ↔ ((gone.errors ≡ true → added.errors ≡ true) × (gone.warnings ≡ true → added.warnings ≡ true)) }
+    ensures { IsTrue result ↔ ((gone.errors ≡ true → added.errors ≡ true)
+        × (gone.warnings ≡ true → added.warnings ≡ true)) }
 {
     (!gone.errors || added.errors) && (!gone.warnings || added.warnings)
 }
 
-/// What the children hold, where they held `had` while some were there that held `gone` and not yet those that hold
-/// `added`. It looks at the children only where an entry may have gone.
+/// The diagnosis of the children after a change. Before it, the diagnosis was `had`. It looks at the children only if
+/// an entry may have gone.
 #[tactic(auto, using(crate::proofs::Settled::had_or_added_all))]
-fn diagnosis_after(
-    children: &[SyntaxNode],
-    from: usize,
-    to: usize,
-    had: Diagnosis,
-    gone: Diagnosis,
-    added: Diagnosis,
-) -> Diagnosis
-    requires window { from ≤ to }
-    requires errors { had.errors ≡ (gone.errors || list_any is_error (preorder (forest (take from children.now ++ drop to children.now)))) }
-    requires warnings { had.warnings ≡ (gone.warnings || list_any is_warned (preorder (forest (take from children.now ++ drop to children.now)))) }
-    requires added_errors { added.errors ≡ list_any is_error (preorder (forest (slice_range children.now from to))) }
-    requires added_warnings { added.warnings ≡ list_any is_warned (preorder (forest (slice_range children.now from to))) }
+fn diagnosis_after(children: &[SyntaxNode], had: Diagnosis, change: &Change) -> Diagnosis
+    requires errors { had.errors ≡ (change.now.gone.diagnosis.errors || list_any is_error (preorder (forest
+        (take change.now.from children.now ++ drop (change.now.from + change.now.many) children.now)))) }
+    requires warnings { had.warnings ≡ (change.now.gone.diagnosis.warnings || list_any is_warned (preorder (forest
+        (take change.now.from children.now ++ drop (change.now.from + change.now.many) children.now)))) }
+    requires added { AreSums change.now.added (slice_range children.now change.now.from
+        (change.now.from + change.now.many)) }
     ensures errors { result.errors ≡ list_any is_error (preorder (forest children.now)) }
     ensures warnings { result.warnings ≡ list_any is_warned (preorder (forest children.now)) }
 {
-    if is_covered(gone, added) {
-        had.or(added)
+    if is_covered(change.gone.diagnosis, change.added.diagnosis) {
+        had.or(change.added.diagnosis)
     } else {
         diagnosis_of(children)
     }
 }
 
 impl InnerNode {
-    /// Corrects count, diagnosis and ends after the children from `from` up to `to` came there: `gone` are
-    /// the sums of those that are counted in their place, `added` are their own, and `stay` says that they are as many.
+    /// Corrects the node count, the diagnosis and the ends after a change of the children.
     #[tactic(auto, using(crate::proofs::Opens::part_count, crate::proofs::Opens::part_text))]
     #[inline(never)]
-    pub(super) fn settle(&mut self, from: usize, to: usize, stay: bool, gone: &Sums, added: &Sums)
-        requires window { from ≤ to }
-        requires inside { to ≤ length self.old.children.items }
-        requires stale { IsStale from to stay gone.now self.old }
-        requires added { AreSums added.now (slice_range self.old.children.items from to) }
+    pub(super) fn settle(&mut self, change: &Change)
+        requires window { change.now.from ≤ change.now.to }
+        requires inside { change.now.from + change.now.many ≤ length self.old.children.items }
+        requires stale { IsStale change.now.from change.now.to change.now.many change.now.gone self.old }
+        requires added { AreSums change.now.added
+            (slice_range self.old.children.items change.now.from (change.now.from + change.now.many)) }
         requires fits { SumsFit self.old.children.items }
         ensures measured { IsMeasured self.new }
         ensures upper { self.new.upper ≡ self.old.upper }
         ensures warnings { self.new.extras.warnings ≡ self.old.extras.warnings }
         ensures children { self.new.children ≡ self.old.children }
     {
-        self.descendants = self.descendants - gone.descendants + added.descendants;
-        let held = diagnosis_after(
-            &self.children,
-            from,
-            to,
-            self.extras.diagnosis(),
-            gone.diagnosis,
-            added.diagnosis,
-        );
+        self.descendants = self.descendants - change.gone.descendants + change.added.descendants;
+        let held = diagnosis_after(&self.children, self.extras.diagnosis(), change);
         self.extras.set_diagnosis(held);
-        self.extras
-            .settle_ends(&self.children, from, to, stay, gone.len, added.len);
+        self.extras.settle_ends(&self.children, change);
     }
 }

@@ -1,4 +1,4 @@
-// Equality of nodes apart from spans and bounds.
+// The equality of nodes apart from spans and bounds.
 ghost use Rattle.std.specs.Prelude.{◌≡◌, ◌↔◌, IsTrue, map, string_bytes};
 ghost use Rattle.typst_node.specs.Plain.{plain, unbounded};
 ghost use Rattle.typst_node.specs.Tree.{AsLeaf};
@@ -57,7 +57,7 @@ pub(super) fn same_warnings(warnings: &[Warning], others: &[Warning]) -> bool
 }
 
 impl Node {
-    /// Whether this is a leaf of that kind with that text, wherever the text is kept.
+    /// Whether this is a leaf of that kind with that text, however the text is kept.
     pub(super) fn is_leaf_of(&self, kind: SyntaxKind, text: &str) -> bool
         requires { IsKept self.now }
         ensures { IsTrue result ↔ (content self.now ≡ AsLeaf kind text.now) }
@@ -73,29 +73,37 @@ impl Node {
 
 /// # Comparing trees
 impl SyntaxNode {
-    /// Whether both trees are the same apart from spans and bounds: the same kinds, texts, messages, hints and
-    /// warnings, with their sub-ranges. It takes time in proportion to the smaller tree at most, and no memory.
+    /// Whether both trees are the same apart from spans and bounds: they have the same kinds, texts, messages, hints
+    /// and warnings, with the same sub-ranges. It takes time at most in proportion to the smaller tree, and no memory.
     #[cycle(alike)]
     pub fn spanless_eq(&self, other: &SyntaxNode) -> bool
         ensures { IsTrue result ↔ (plain self.now ≡ plain other.now) }
     {
         match &self.node {
-            // It has no warnings, so what equals it has none.
             Node::Short(kind, len, bytes) => match &other.node {
+                // Neither has warnings.
                 Node::Short(other_kind, other_len, other_bytes) => {
                     same_kind(*kind, *other_kind)
                         && text_in(*len, bytes) == text_in(*other_len, other_bytes)
                 }
                 Node::Long(..) | Node::Leaf(..) | Node::Inner(..) | Node::Error(_) => {
-                    other.node.is_leaf_of(*kind, text_in(*len, bytes))
-                        && other.node.warnings().is_empty()
+                    self.spanless_eq_boxed(other)
                 }
             },
             Node::Long(..) | Node::Leaf(..) | Node::Inner(..) | Node::Error(_) => {
-                same_warnings(self.node.warnings(), other.node.warnings())
-                    && self.node.spanless_eq(&other.node)
+                self.spanless_eq_boxed(other)
             }
         }
+    }
+
+    /// The same for any nodes. It is out of line, so that two short leaves are compared without a call.
+    #[cycle(alike)]
+    #[inline(never)]
+    fn spanless_eq_boxed(&self, other: &SyntaxNode) -> bool
+        ensures { IsTrue result ↔ (plain self.now ≡ plain other.now) }
+    {
+        same_warnings(self.node.warnings(), other.node.warnings())
+            && self.node.spanless_eq(&other.node)
     }
 }
 
@@ -104,7 +112,8 @@ impl Node {
     fn spanless_eq(&self, other: &Node) -> bool
         requires kept { IsKept self.now }
         requires other { IsKept other.now }
-        ensures { IsTrue result ↔ ((unbounded (content self.now) ≡ unbounded (content other.now)) × (map plain (below self.now) ≡ map plain (below other.now))) }
+        ensures { IsTrue result ↔ ((unbounded (content self.now) ≡ unbounded (content other.now))
+            × (map plain (below self.now) ≡ map plain (below other.now))) }
     {
         match self {
             Node::Short(kind, len, bytes) => other.is_leaf_of(*kind, text_in(*len, bytes)),

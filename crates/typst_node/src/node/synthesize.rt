@@ -4,14 +4,13 @@ ghost use Rattle.typst_node.specs.Text.{text_of_all};
 ghost use Rattle.typst_node.specs.Synthesized.{synthesized, whole_hint, whole_warning};
 ghost use Rattle.typst_node.specs.View.{hint_text, IsMeasured, shown_warnings, warning_text};
 
-use crate::node::extras::{Extras, Kept};
 use crate::node::{Hint, InnerNode, Node, SyntaxNode, Warning};
 use typst_base::Span;
 
 /// # Synthesis
 impl SyntaxNode {
-    /// Gives every node of the tree this span. All sub-ranges of warnings and hints go, and each inner node's bound
-    /// becomes the span's number.
+    /// Gives every node of the tree this span. All sub-ranges of warnings and hints are removed, and each inner node's
+    /// bound becomes the number of the span.
     ///
     /// It takes time in proportion to the nodes, and no memory.
     #[cycle(synthesize)]
@@ -44,7 +43,8 @@ impl InnerNode {
         ensures measured { IsMeasured self.new }
         ensures len { length (text_of_all self.new.children.items) ≡ length (text_of_all self.old.children.items) }
         ensures upper { self.new.upper ≡ span.low }
-        ensures warnings { shown_warnings self.new.extras.warnings ≡ map whole_warning (shown_warnings self.old.extras.warnings) }
+        ensures warnings { shown_warnings self.new.extras.warnings
+            ≡ map whole_warning (shown_warnings self.old.extras.warnings) }
         ensures children { self.new.children.items ≡ map (synthesized span) self.old.children.items }
     {
         self.upper = span.number();
@@ -55,7 +55,7 @@ impl InnerNode {
     }
 }
 
-/// Takes the sub-ranges of the warnings and their hints away.
+/// Removes the sub-ranges of the warnings and their hints.
 pub(super) fn make_whole(warnings: &mut Vec<Warning>)
     ensures { shown_warnings warnings.new.items ≡ map whole_warning (shown_warnings warnings.old.items) }
 {
@@ -64,7 +64,7 @@ pub(super) fn make_whole(warnings: &mut Vec<Warning>)
     }
 }
 
-/// Takes the sub-ranges of the hints away.
+/// Removes the sub-ranges of the hints.
 pub(super) fn make_hints_whole(hints: &mut Vec<Hint>)
     ensures { map hint_text hints.new.items ≡ map whole_hint (map hint_text hints.old.items) }
 {
@@ -73,21 +73,8 @@ pub(super) fn make_hints_whole(hints: &mut Vec<Hint>)
     }
 }
 
-impl Extras {
-    /// Takes the sub-ranges of the warnings and their hints away.
-    fn make_whole(&mut self)
-        ensures diagnosis { self.new.diagnosis ≡ self.old.diagnosis }
-        ensures ends { self.new.ends ≡ self.old.ends }
-        ensures warnings { shown_warnings self.new.warnings ≡ map whole_warning (shown_warnings self.old.warnings) }
-    {
-        if let Kept::Listed(_, lists) = &mut self.kept {
-            make_whole(&mut lists.warnings);
-        }
-    }
-}
-
 impl Warning {
-    /// Takes the sub-ranges of the warning and its hints away.
+    /// Removes the sub-ranges of the warning and its hints.
     fn make_whole(&mut self)
         ensures { warning_text self.new ≡ whole_warning (warning_text self.old) }
     {

@@ -1,10 +1,10 @@
-// What stands alike at the beginning and at the end of two lists of nodes.
+// The nodes that two lists have alike at the beginning and at the end.
 ghost use Rattle.std.specs.Prelude.{◌≡◌, ◌+◌, ◌-◌, ◌≤◌, length, reverse, slice_range};
 ghost use Rattle.typst_node.specs.ChangedChildren.{IsCommonBeginning, common_first, common_last};
 
 use crate::node::SyntaxNode;
 
-/// How many nodes stand alike at the beginning of both.
+/// The number of nodes that both lists have alike at the beginning.
 pub(super) fn count_common_first(nodes: &[SyntaxNode], others: &[SyntaxNode]) -> usize
     ensures is { result ≡ common_first nodes.now others.now }
     ensures longest { IsCommonBeginning nodes.now others.now result }
@@ -20,7 +20,7 @@ pub(super) fn count_common_first(nodes: &[SyntaxNode], others: &[SyntaxNode]) ->
     most
 }
 
-/// How many nodes stand alike at the end of both.
+/// The number of nodes that both lists have alike at the end.
 pub(super) fn count_common_last(nodes: &[SyntaxNode], others: &[SyntaxNode]) -> usize
     ensures is { result ≡ common_last nodes.now others.now }
     ensures longest { IsCommonBeginning (reverse nodes.now) (reverse others.now) result }
@@ -36,7 +36,7 @@ pub(super) fn count_common_last(nodes: &[SyntaxNode], others: &[SyntaxNode]) -> 
     most
 }
 
-/// Drops some nodes at the beginning, and at the end. It takes no memory.
+/// Drops `first` nodes at the beginning and `last` nodes at the end. It takes no memory.
 pub(super) fn trim(nodes: &mut Vec<SyntaxNode>, first: usize, last: usize)
     requires { first + last ≤ length nodes.old.items }
     ensures { nodes.new.items ≡ slice_range nodes.old.items first (length nodes.old.items - last) }

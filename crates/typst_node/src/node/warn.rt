@@ -4,7 +4,6 @@ ghost use Rattle.typst_node.specs.Hints.{error_tree, hint_for, hint_outermost, h
 ghost use Rattle.typst_node.specs.Warnings.{part_for, warned, warning, FitsRange};
 ghost use Rattle.typst_node.specs.View.{below, content, hint_text, shown_warnings, warning_text, warnings_in, IsKept};
 
-use crate::node::extras::{Extras, Kept};
 use crate::node::{ErrorNode, Hint, LeafNode, Node, SyntaxNode, Warning};
 use crate::short_text::text_in;
 use std::alloc::{AllocError, Global};
@@ -14,8 +13,8 @@ use typst_base::{Span, SubRange, SyntaxKind};
 
 /// # Making errors
 impl SyntaxNode {
-    /// A detached error with a copy of the message and of the text that is no syntax. Both may be empty.
-    /// It fails only where memory runs out.
+    /// A detached error with a copy of the message, and a copy of the text that is not syntax. Both may be empty. It
+    /// fails only if memory runs out.
     pub fn error(alloc: Global, message: &str, text: &str) -> Result<SyntaxNode, AllocError>
         ensures { IfOk result (λ t. t ≡ error_tree message.now text.now) }
     {
@@ -24,7 +23,7 @@ impl SyntaxNode {
         SyntaxNode::error_of(alloc, message, text)
     }
 
-    /// A detached error with this message and text. They are dropped where memory is refused.
+    /// A detached error with this message and text. If memory is refused, both are dropped.
     pub(crate) fn error_of(
         alloc: Global,
         message: String,
@@ -47,9 +46,9 @@ impl SyntaxNode {
 
 /// # Warning
 ///
-/// These calls change the node in place. Where memory is refused, nothing has changed.
+/// These calls change the node in place. If memory is refused, nothing has changed.
 impl SyntaxNode {
-    /// Puts one more warning with a copy of the message round the node, outside those that it has.
+    /// Adds a warning with a copy of the message to the node. It is outside the node's other warnings.
     pub fn warn(&mut self, alloc: Global, message: &str) -> Result<(), AllocError>
         ensures ok { OnOk result (self.new ≡ warned (warning None message.now) self.old) }
         ensures err { OnErr result (self.new ≡ self.old) }
@@ -57,7 +56,7 @@ impl SyntaxNode {
         self.add_warning(alloc, None, message)
     }
 
-    /// Puts one more warning round the node that is about a part of its bytes, counted from its first byte.
+    /// Adds a warning about a part of the node's bytes. The part is counted from the node's first byte.
     ///
     /// An end above 2^32 - 1 is cut to that. The test of the condition is `range_fits`.
     pub fn warn_at(
@@ -66,7 +65,7 @@ impl SyntaxNode {
         range: Range<usize>,
         message: &str,
     ) -> Result<(), AllocError>
-        requires { FitsRange range self.old }
+        requires fits_ask_range_fits { FitsRange range self.old }
         ensures ok { OnOk result (self.new ≡ warned (warning (part_for range) message.now) self.old) }
         ensures err { OnErr result (self.new ≡ self.old) }
     {
@@ -74,7 +73,7 @@ impl SyntaxNode {
         self.add_warning(alloc, part, message)
     }
 
-    /// Puts one more warning round the node.
+    /// Adds a warning to the node.
     fn add_warning(
         &mut self,
         alloc: Global,
@@ -93,8 +92,8 @@ impl SyntaxNode {
         self.node.push_warning(alloc, warning)
     }
 
-    /// Whether a range of the node's bytes can be the part that a warning or a hint is about: it isn't empty, ends
-    /// within the node's text, and starts below 2^32 - 1.
+    /// Whether a warning or a hint can be about a range of the node's bytes: it isn't empty, it ends within the node's
+    /// text, and it starts below 2^32 - 1.
     pub fn range_fits(&self, range: Range<usize>) -> bool
         ensures { IsTrue result ↔ FitsRange range self.now }
     {
@@ -104,10 +103,10 @@ impl SyntaxNode {
 
 /// # Giving hints
 ///
-/// A hint goes to the outermost warning, and without a warning to the error. These calls change the node in place.
-/// Where memory is refused, nothing has changed.
+/// A hint goes to the outermost warning. If the node has no warning, the hint goes to the error. These calls change the
+/// node in place. If memory is refused, nothing has changed.
 impl SyntaxNode {
-    /// Whether the node takes hints: it is an error, or under a warning.
+    /// Whether the node takes hints: it is an error, or it has a warning.
     pub fn can_hint(&self) -> bool
         ensures { IsTrue result ↔ CanHint self.now.label }
     {
@@ -116,14 +115,14 @@ impl SyntaxNode {
 
     /// Adds a hint with a copy of the text. The test of the condition is `can_hint`.
     pub fn hint(&mut self, alloc: Global, text: &str) -> Result<(), AllocError>
-        requires { CanHint self.old.label }
+        requires takes_hints_ask_can_hint { CanHint self.old.label }
         ensures ok { OnOk result (self.new ≡ hinted (hint_for None text.now ∷ []) self.old) }
         ensures err { OnErr result (self.new ≡ self.old) }
     {
         self.add_hint(alloc, None, text)
     }
 
-    /// Adds a hint that is about a part of the node's bytes, counted from its first byte.
+    /// Adds a hint about a part of the node's bytes. The part is counted from the node's first byte.
     ///
     /// An end above 2^32 - 1 is cut to that. The tests of the conditions are `can_hint` and `range_fits`.
     pub fn hint_at(
@@ -132,8 +131,8 @@ impl SyntaxNode {
         range: Range<usize>,
         text: &str,
     ) -> Result<(), AllocError>
-        requires takes { CanHint self.old.label }
-        requires fits { FitsRange range self.old }
+        requires takes_hints_ask_can_hint { CanHint self.old.label }
+        requires fits_ask_range_fits { FitsRange range self.old }
         ensures ok { OnOk result (self.new ≡ hinted (hint_for (part_for range) text.now ∷ []) self.old) }
         ensures err { OnErr result (self.new ≡ self.old) }
     {
@@ -156,15 +155,15 @@ impl SyntaxNode {
         self.push_hint(Hint { text, sub_range })
     }
 
-    /// The node with one more hint for each text, in their order. The test of the condition is `can_hint`.
+    /// The node with one more hint for each text, in the order of the texts. The test of the condition is `can_hint`.
     ///
-    /// Where memory is refused, the node and the texts are dropped.
+    /// If memory is refused, the node and the texts are dropped.
     pub fn with_hints(
         mut self,
         _alloc: Global,
         texts: Vec<String>,
     ) -> Result<SyntaxNode, AllocError>
-        requires { CanHint self.label }
+        requires takes_hints_ask_can_hint { CanHint self.label }
         ensures { IfOk result (λ t. t ≡ hinted (plain_hints (map string_bytes texts.items)) self) }
     {
         for text in texts {
@@ -193,7 +192,7 @@ impl SyntaxNode {
 }
 
 impl Node {
-    /// Puts one more warning round the node, outside those that it has. A short leaf gets a list for it.
+    /// Adds a warning to the node, outside its other warnings. A short leaf gets a list for it.
     #[tactic(auto, using(crate::proofs::Measured::measured_under))]
     fn push_warning(&mut self, alloc: Global, warning: Warning) -> Result<(), AllocError>
         requires { IsKept self.old }
@@ -223,7 +222,7 @@ impl Node {
         }
     }
 
-    /// Adds a hint after those of the outermost warning.
+    /// Adds a hint after the other hints of the outermost warning.
     #[tactic(auto, using(crate::proofs::Measured::measured_under))]
     fn hint_outermost(&mut self, hint: Hint) -> Result<(), AllocError>
         requires kept { IsKept self.old }
@@ -245,7 +244,7 @@ impl Node {
 }
 
 impl LeafNode {
-    /// A leaf under one warning.
+    /// A leaf with one warning.
     fn warned(alloc: Global, text: String, warning: Warning) -> Result<Box<LeafNode>, AllocError>
         ensures text { IfOk result (λ b. string_bytes b.value.text ≡ string_bytes text) }
         ensures warnings { IfOk result (λ b. b.value.warnings.items ≡ warning ∷ []) }
@@ -256,7 +255,7 @@ impl LeafNode {
 }
 
 impl ErrorNode {
-    /// Adds a hint after the error's own.
+    /// Adds a hint after the error's other hints.
     fn push_hint(&mut self, hint: Hint) -> Result<(), AllocError>
         ensures text { self.new.text ≡ self.old.text }
         ensures message { self.new.message ≡ self.old.message }
@@ -278,7 +277,7 @@ pub(super) fn only(alloc: Global, warning: Warning) -> Result<Vec<Warning>, Allo
     Ok(list)
 }
 
-/// Adds a warning after the others, outside them.
+/// Adds a warning after the others, as the outermost one.
 fn warn_last(warnings: &mut Vec<Warning>, warning: Warning) -> Result<(), AllocError>
     ensures ok { OnOk result (shown_warnings warnings.new.items
         ≡ warning_text warning ∷ shown_warnings warnings.old.items) }
@@ -288,8 +287,8 @@ fn warn_last(warnings: &mut Vec<Warning>, warning: Warning) -> Result<(), AllocE
     Ok(())
 }
 
-/// Adds a hint after those of the last warning, which is the outermost one.
-fn hint_last(warnings: &mut Vec<Warning>, hint: Hint) -> Result<(), AllocError>
+/// Adds a hint after the other hints of the last warning, which is the outermost one.
+pub(super) fn hint_last(warnings: &mut Vec<Warning>, hint: Hint) -> Result<(), AllocError>
     requires { 0 < vec_len warnings.old }
     ensures ok { OnOk result (shown_warnings warnings.new.items
         ≡ hint_outermost (hint_text hint ∷ []) (shown_warnings warnings.old.items)) }
@@ -298,21 +297,4 @@ fn hint_last(warnings: &mut Vec<Warning>, hint: Hint) -> Result<(), AllocError>
     let last = warnings.len() - 1;
     warnings[last].hints.push(hint)?;
     Ok(())
-}
-
-impl Extras {
-    /// Adds a hint after those of the last warning, which is the outermost one.
-    fn hint_last(&mut self, hint: Hint) -> Result<(), AllocError>
-        requires { 0 < length self.old.warnings }
-        ensures diagnosis { self.new.diagnosis ≡ self.old.diagnosis }
-        ensures ends { self.new.ends ≡ self.old.ends }
-        ensures ok { OnOk result (shown_warnings self.new.warnings
-            ≡ hint_outermost (hint_text hint ∷ []) (shown_warnings self.old.warnings)) }
-        ensures err { OnErr result (shown_warnings self.new.warnings ≡ shown_warnings self.old.warnings) }
-    {
-        match &mut self.kept {
-            Kept::Plain(_) => unreachable!(),
-            Kept::Listed(_, lists) => hint_last(&mut lists.warnings, hint),
-        }
-    }
 }

@@ -5,13 +5,13 @@ ghost use Rattle.typst_node.specs.OpenNumbers.{open_from, open_to};
 ghost use Rattle.typst_node.specs.Room.{HasRoom, Suffice, new_count};
 ghost use Rattle.typst_node.specs.FirstWindow.{HoldsAll, HasNoFirst};
 ghost use Rattle.typst_node.specs.Window.{trees_in};
-ghost use Rattle.typst_node.specs.Sites.{site, IsNumbering, IsFound};
+ghost use Rattle.typst_node.specs.Sites.{site, AreNumbersFor, IsFound};
 
 use crate::node::SyntaxNode;
 
-/// What may be numbered anew: the neighbours before and after the changed children, and the numbers for them.
+/// The nodes that may be numbered anew, which are the changed children and their neighbours, and the numbers for them.
 #[derive(Drop)]
-pub(super) struct Edit<'a> {
+pub(super) struct Row<'a> {
     pub(super) before: &'a [SyntaxNode],
     pub(super) changed: &'a [SyntaxNode],
     pub(super) behind: &'a [SyntaxNode],
@@ -24,14 +24,14 @@ pub(super) struct Edit<'a> {
     pub(super) total: usize,
 }
 
-/// New numbers for a window: they begin at `start`, and each node gets `stride` of them.
+/// New numbers for a window. They begin at `start`, and each node gets `stride` of them.
 #[derive(Clone, Copy)]
 pub(super) struct Numbering {
     pub(super) start: u64,
     pub(super) stride: u64,
 }
 
-/// The first window with room: with at most `width` neighbours on each side, after so many were tried.
+/// The first window with room. It has at most `width` neighbours on each side, and `tried` windows were tried.
 #[derive(Clone, Copy)]
 pub(super) struct Found {
     pub(super) tried: usize,
@@ -39,7 +39,7 @@ pub(super) struct Found {
     pub(super) numbering: Numbering,
 }
 
-/// How many nodes there are in the trees. It takes time in proportion to the trees of the list.
+/// The number of nodes in the trees. It takes time in proportion to the length of the list.
 fn count_all(nodes: &[SyntaxNode]) -> usize
     requires { count_of_all nodes.now < 2 ^ 64 }
     ensures { result ≡ count_of_all nodes.now }
@@ -51,7 +51,7 @@ fn count_all(nodes: &[SyntaxNode]) -> usize
     sum
 }
 
-/// Where open numbers begin after the nodes.
+/// The first open number after the nodes.
 fn open_behind(nodes: &[SyntaxNode], first: u64) -> u64
     ensures { result ≡ open_from first nodes.now }
 {
@@ -62,7 +62,7 @@ fn open_behind(nodes: &[SyntaxNode], first: u64) -> u64
     }
 }
 
-/// Where open numbers end before the nodes.
+/// The end of the open numbers before the nodes.
 fn open_before(nodes: &[SyntaxNode], end: u64) -> u64
     ensures { result ≡ open_to end nodes.now }
 {
@@ -72,7 +72,7 @@ fn open_before(nodes: &[SyntaxNode], end: u64) -> u64
     }
 }
 
-/// How many of `space` open numbers each of the window's nodes gets, where they are enough.
+/// How many of `space` open numbers each node of the window gets, if they are enough.
 fn window_stride(space: u64, nodes: u64, total: u64) -> Option<u64>
     requires { nodes < total }
     ensures enough { MatchOption result (¬ (Suffice space nodes total)) (λ stride. Suffice space nodes total) }
@@ -90,30 +90,28 @@ fn window_stride(space: u64, nodes: u64, total: u64) -> Option<u64>
     }
 }
 
-/// The numbers for the window with at most `width` neighbours on each side, which has so many nodes, if it has room.
-/// It reads the two nodes beside the window alone.
-fn room(edit: &Edit<'_>, width: usize, nodes: usize) -> Option<Numbering>
-    requires nodes { nodes ≡ count_of_all (trees_in (site edit.now) width) }
-    requires total { edit.now.total ≡ new_count (site edit.now) }
-    ensures { MatchOption result (¬ (HasRoom (site edit.now) width)) (IsNumbering (site edit.now) width) }
+/// The numbers for the window of `nodes` nodes that has at most `width` neighbours on each side, if it has room. It
+/// reads only the two nodes beside the window.
+fn room(row: &Row<'_>, width: usize, nodes: usize) -> Option<Numbering>
+    requires nodes { nodes ≡ count_of_all (trees_in (site row.now) width) }
+    requires total { row.now.total ≡ new_count (site row.now) }
+    ensures { MatchOption result (¬ (HasRoom (site row.now) width)) (AreNumbersFor (site row.now) width) }
 {
-    let (ahead, _) = edit
-        .before
-        .split_at(edit.before.len().saturating_sub(width));
-    let (_, rest) = edit.behind.split_at(width.min(edit.behind.len()));
-    let start = open_behind(ahead, edit.first);
-    let end = open_before(rest, edit.end);
-    match window_stride(end.saturating_sub(start), nodes as u64, edit.total as u64) {
+    let (ahead, _) = row.before.split_at(row.before.len().saturating_sub(width));
+    let (_, rest) = row.behind.split_at(width.min(row.behind.len()));
+    let start = open_behind(ahead, row.first);
+    let end = open_before(rest, row.end);
+    match window_stride(end.saturating_sub(start), nodes as u64, row.total as u64) {
         Some(stride) => Some(Numbering { start, stride }),
         None => None,
     }
 }
 
 /// Whether the window with at most `width` neighbours on each side holds all children.
-fn holds_all(edit: &Edit<'_>, width: usize) -> bool
-    ensures { IsTrue result ↔ HoldsAll (site edit.now) width }
+fn holds_all(row: &Row<'_>, width: usize) -> bool
+    ensures { IsTrue result ↔ HoldsAll (site row.now) width }
 {
-    edit.before.len() <= width && edit.behind.len() <= width
+    row.before.len() <= width && row.behind.len() <= width
 }
 
 /// The next width: 0, 1, 2, 4, 8 and so on.
@@ -126,46 +124,46 @@ fn wider(width: usize) -> usize
     if width == 0 { 1 } else { 2 * width }
 }
 
-/// How many nodes the window gains where it takes in up to `next` neighbours on each side in place of up to `width`.
-/// It reads those neighbours alone.
-fn count_gained(edit: &Edit<'_>, width: usize, next: usize) -> usize
+/// The number of nodes that the window gains when it grows from `width` to `next` neighbours on each side at most. It
+/// reads only those neighbours.
+fn count_gained(row: &Row<'_>, width: usize, next: usize) -> usize
     requires wider { width ≤ next }
-    requires fits { new_count (site edit.now) < 2 ^ 64 }
-    ensures { count_of_all (trees_in (site edit.now) width) + result ≡ count_of_all (trees_in (site edit.now) next) }
+    requires fits { new_count (site row.now) < 2 ^ 64 }
+    ensures { count_of_all (trees_in (site row.now) width) + result ≡ count_of_all (trees_in (site row.now) next) }
 {
-    let len = edit.before.len();
-    let ahead = &edit.before[len.saturating_sub(next)..len.saturating_sub(width)];
-    let most = edit.behind.len();
-    let behind = &edit.behind[width.min(most)..next.min(most)];
+    let len = row.before.len();
+    let ahead = &row.before[len.saturating_sub(next)..len.saturating_sub(width)];
+    let most = row.behind.len();
+    let behind = &row.behind[width.min(most)..next.min(most)];
     count_all(ahead) + count_all(behind)
 }
 
-/// The first window with room, among those up to the first that holds all children.
+/// The first window with room, among the windows up to the first that holds all children.
 ///
-/// It counts each neighbour once, up to the widest window that is tried, and reads no other child.
-pub(super) fn find(edit: &Edit<'_>) -> Option<Found>
-    requires added { edit.now.added ≡ count_of_all edit.now.changed.now }
-    requires total { edit.now.total ≡ new_count (site edit.now) }
-    ensures { MatchOption result (HasNoFirst (site edit.now)) (IsFound (site edit.now)) }
+/// It counts each neighbour once, up to the widest window that is tried. It reads no other child.
+pub(super) fn find(row: &Row<'_>) -> Option<Found>
+    requires added { row.now.added ≡ count_of_all row.now.changed.now }
+    requires total { row.now.total ≡ new_count (site row.now) }
+    ensures { MatchOption result (HasNoFirst (site row.now)) (IsFound (site row.now)) }
 {
-    // Read for the proof: the count of all nodes after the edit is a usize, so that of a window is too.
-    let _total = edit.total;
+    // Read for the proof: the count of all nodes after the edit is a usize, so the count of a window is one, too.
+    let _total = row.total;
     let mut width = 0;
     let mut tried = 1;
-    let mut nodes = edit.added;
+    let mut nodes = row.added;
     loop {
-        if let Some(numbering) = room(edit, width, nodes) {
+        if let Some(numbering) = room(row, width, nodes) {
             return Some(Found {
                 tried,
                 width,
                 numbering,
             });
         }
-        if holds_all(edit, width) {
+        if holds_all(row, width) {
             return None;
         }
         let next = wider(width);
-        nodes += count_gained(edit, width, next);
+        nodes += count_gained(row, width, next);
         width = next;
         tried += 1;
     }

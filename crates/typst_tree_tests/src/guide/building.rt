@@ -1,4 +1,4 @@
-// Building a tree.
+//! Building a tree.
 use std::alloc::{AllocError, Global};
 use std::test::Fail;
 use typst_tree::SyntaxKind::{Heading, HeadingMarker, Markup, Parbreak, Space, Star, Strong, Text};

@@ -1,4 +1,4 @@
-// Errors, warnings, and spans of generated text.
+//! Errors, warnings, and spans of generated text.
 use std::alloc::Global;
 use std::ops::Range;
 use std::test::Fail;
@@ -67,8 +67,7 @@ fn generated_text_has_the_ranges_of_its_original(rt: HostRuntime) -> Result<(), 
         SyntaxNode::leaf(alloc, SyntaxKind::Text, "cd")?,
     ]?;
     let mut tree = SyntaxNode::inner(alloc, SyntaxKind::Markup, texts)?;
-    let file = FileId::new(1).ok_or("no file")?;
-    synthesize(alloc, &mut tree, file, &[2..5, 8..10])?;
+    synthesize(alloc, &mut tree, FileId::FIRST, &[2..5, 8..10])?;
     assert!(rt; bytes(tree.span()) == Some(2..9));
     for (child, wanted) in tree.children().zip([2..4, 4..9]) {
         assert!(rt; bytes(child.span()) == Some(wanted));

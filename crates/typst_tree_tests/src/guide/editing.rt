@@ -1,32 +1,47 @@
-// Numbering and editing a tree.
+//! Numbering and editing a tree.
 use crate::guide::building::document;
 use std::alloc::Global;
 use std::ops::Range;
 use std::test::Fail;
 use typst_tree::session::{Reply, Request, Slot};
-use typst_tree::{FileId, NumberedTree, ReplaceError, Span, SyntaxKind, SyntaxNode};
+use typst_tree::{EditError, FileId, NumberedTree, ReplaceError, Span, SyntaxKind, SyntaxNode};
 
 /// The document, numbered within a range.
 pub(crate) fn numbered(alloc: Global, within: Range<u64>) -> Result<NumberedTree, Fail> {
     let root = document(alloc)?;
-    let file = FileId::new(1).ok_or("no file")?;
     if within.start < 2 || within.end > 1 << 47 {
         return Err("no node's numbers")?;
     }
-    match NumberedTree::number(root, file, within) {
-        Ok(tree) => Ok(tree),
-        // The document as it was.
-        Err(_root) => Err("fewer numbers than nodes")?,
-    }
+    let tree = NumberedTree::number(root, FileId::FIRST, within)?;
+    Ok(tree)
 }
 
-/// A text at the end of the strong content, whose markup is child 1 of child 3 of the root.
-fn insertion(alloc: Global, text: &str) -> Result<Request, Fail> {
+/// One node of text.
+fn words(alloc: Global, text: &str) -> Result<Vec<SyntaxNode>, Fail> {
     let node = SyntaxNode::leaf(alloc, SyntaxKind::Text, text)?;
+    Ok(vec![in alloc; node]?)
+}
+
+#[test]
+fn an_edit_is_done_at_any_depth(rt: HostRuntime) -> Result<(), Fail> {
+    let alloc = rt.alloc();
+    let mut tree = numbered(alloc, Span::FULL)?;
+    // At the end of the strong content, whose markup is child 1 of child 3 of the root.
+    let done = tree.insert(alloc, &[3, 1], 1, words(alloc, " too")?)?;
+    // Child 1 of that markup is new, and the first window tried had room.
+    assert!(rt; done.window == (1..2) && done.tried == 1);
+    // The first two children of the root go.
+    tree.remove(alloc, &[], 0..2)?;
+    assert_eq!(rt; tree.root().full_text(alloc)?.as_str(), "See *this too*");
+    Ok(())
+}
+
+/// A text at the end of the strong content.
+fn insertion(alloc: Global, text: &str) -> Result<Request, Fail> {
     Ok(Request::Replace {
         path: vec![in alloc; 3, 1]?,
         range: 1..1,
-        replacement: vec![in alloc; node]?,
+        replacement: words(alloc, text)?,
     })
 }
 
@@ -37,20 +52,6 @@ fn deletion(alloc: Global) -> Request {
         range: 0..2,
         replacement: Vec::new(alloc),
     }
-}
-
-#[test]
-fn an_edit_is_served_at_any_depth(rt: HostRuntime) -> Result<(), Fail> {
-    let alloc = rt.alloc();
-    let mut tree = numbered(alloc, Span::FULL)?;
-    match tree.serve(alloc, insertion(alloc, " too")?) {
-        // Child 1 of that markup is new, and the first window tried had room.
-        Reply::Renumbered(done) => assert!(rt; done.window == (1..2) && done.tried == 1),
-        _ => return Err("no room")?,
-    }
-    assert!(rt; matches!(tree.serve(alloc, deletion(alloc)), Reply::Renumbered(_)));
-    assert_eq!(rt; tree.root().full_text(alloc)?.as_str(), "See *this too*");
-    Ok(())
 }
 
 #[test]
@@ -73,11 +74,9 @@ fn a_refused_edit_is_done_after_a_renumbering(rt: HostRuntime) -> Result<(), Fai
     let alloc = rt.alloc();
     // As many numbers as nodes.
     let mut tree = numbered(alloc, 2..15)?;
-    let reply = tree.serve(alloc, insertion(alloc, " too")?);
-    assert!(rt; reply == Reply::Refused(ReplaceError::Unnumberable));
-    let file = FileId::new(1).ok_or("no file")?;
-    tree.renumber(file, Span::FULL)?;
-    let reply = tree.serve(alloc, insertion(alloc, " too")?);
-    assert!(rt; matches!(reply, Reply::Renumbered(_)));
+    let refused = tree.insert(alloc, &[3, 1], 1, words(alloc, " too")?);
+    assert!(rt; refused == Err(EditError::Refused(ReplaceError::Unnumberable)));
+    tree.renumber(FileId::FIRST, Span::FULL)?;
+    tree.insert(alloc, &[3, 1], 1, words(alloc, " too")?)?;
     Ok(())
 }

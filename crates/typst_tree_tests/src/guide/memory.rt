@@ -1,4 +1,4 @@
-// What is answered where memory is refused.
+//! What is answered where memory is refused.
 use crate::guide::editing::numbered;
 use std::test::Fail;
 use typst_tree::session::Reply;

@@ -1,4 +1,4 @@
-// From a cursor to a view, and from a view to its place.
+//! From a cursor to a view, and from a view to its place.
 use crate::guide::editing::numbered;
 use std::test::Fail;
 use typst_tree::ast::{AstNode, Heading, Text};

@@ -1,4 +1,4 @@
-// Reading markup, math and code by views.
+//! Reading markup, math and code by views.
 use crate::guide::building::document;
 use std::alloc::{AllocError, Global};
 use std::test::Fail;

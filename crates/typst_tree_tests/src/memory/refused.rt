@@ -1,4 +1,4 @@
-// Calls that are refused memory, each with a little more left than before, until it suffices.
+//! Calls that are refused memory, each with a little more left than before, until it suffices.
 use crate::memory::scarce::Scarce;
 use std::alloc::Global;
 use std::fs::{self, Files};
@@ -14,13 +14,14 @@ const PASSES: usize = 64;
 /// How many bytes more each pass leaves.
 const MORE: usize = 64;
 
-/// Whether what a process takes may be refused to other processes: then no test takes all.
-fn is_shared(rt: &(impl Files + AllocGlobal)) -> bool {
-    let told = fs::read_to_string(rt, "/proc/sys/vm/overcommit_memory");
-    !told.is_ok_and(|mode| mode.as_str().trim() != "2")
+/// Whether memory that a process takes is refused to other processes. If so, no test takes all memory. It fails where
+/// Linux doesn't tell.
+fn is_shared(rt: &(impl Files + AllocGlobal)) -> Result<bool, Fail> {
+    let told = fs::read_to_string(rt, "/proc/sys/vm/overcommit_memory")?;
+    Ok(told.as_str().trim() == "2")
 }
 
-/// Forty leaves: a node of more than ten has a list of where they end, which an insertion lets grow.
+/// Forty leaves. A node of more than ten has a list of where they end, which an insertion makes grow.
 const FORTY: &str =
     "Markup[ Text:ab Text:c Text:c Text:c Text:c Text:c Text:c Text:c Text:c Text:c \
     Text:c Text:c Text:c Text:c Text:c Text:c Text:c Text:c Text:c Text:c \
@@ -51,7 +52,8 @@ fn growths(alloc: Global) -> Result<Vec<Request>, DrawingError> {
     Ok(requests)
 }
 
-/// How many passes were refused before a request was served. Nothing where another reply comes, or a refused one changed the tree.
+/// How many passes were refused before a request was served, or nothing if another reply came or a refused request
+/// changed the tree.
 fn refused_growths(
     alloc: Global,
     scarce: &mut Scarce,
@@ -75,7 +77,7 @@ fn refused_growths(
 
 #[test]
 fn a_growth_that_is_refused_changes_nothing(rt: HostRuntime) -> Result<(), Fail> {
-    if is_shared(&rt) {
+    if is_shared(&rt)? {
         return Ok(());
     }
     let alloc = rt.alloc();
@@ -88,7 +90,7 @@ fn a_growth_that_is_refused_changes_nothing(rt: HostRuntime) -> Result<(), Fail>
     Ok(())
 }
 
-/// How many passes were refused before the node was converted. Nothing where a refused one changed it.
+/// How many passes were refused before the node was converted, or nothing if a refused pass changed the node.
 fn refused_conversions(
     alloc: Global,
     scarce: &mut Scarce,
@@ -111,7 +113,7 @@ fn refused_conversions(
 
 #[test]
 fn a_conversion_that_is_refused_changes_nothing(rt: HostRuntime) -> Result<(), Fail> {
-    if is_shared(&rt) {
+    if is_shared(&rt)? {
         return Ok(());
     }
     let alloc = rt.alloc();
@@ -144,7 +146,7 @@ fn is_served_after_refusals(slots: &[Slot]) -> bool {
 
 #[test]
 fn a_run_goes_on_after_what_is_refused(rt: HostRuntime) -> Result<(), Fail> {
-    if is_shared(&rt) {
+    if is_shared(&rt)? {
         return Ok(());
     }
     let alloc = rt.alloc();

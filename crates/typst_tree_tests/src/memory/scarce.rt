@@ -1,23 +1,23 @@
-// All memory of a process but a little.
+//! All memory of a process but a little.
 use std::alloc::{AllocError, Global};
 
 /// How many bytes a grant has: few enough that it comes from the heap, and not from the system.
 const GRANT: usize = 32768;
 
-/// How many blocks may be taken. Each has a page that is written, and up to two that tell where it stands, so all of them come
-/// to 800 MB at most.
+/// How many blocks may be taken. Each has one page that is written, and up to two pages that tell where it is. So all
+/// of them take 800 MB at most.
 const MOST_BLOCKS: usize = 1 << 16;
 
-/// The bits of the largest block that is asked for: no process has so many addresses.
+/// The bits of the largest block that is asked for. No process has so many addresses.
 const MOST_BITS: u32 = 47;
 
-/// The smallest requests differ by so many bytes.
+/// How many bytes the smallest requests differ by.
 const STEP: usize = 16;
 
-/// All memory of the process, taken, but for grants that are given back one by one.
+/// All memory of the process, taken, except for grants that are given back one by one.
 ///
-/// Blocks are taken and never written, so addresses run out and the machine's memory doesn't, where the system gives more
-/// addresses than it has memory for. They come back with the drop.
+/// Blocks are taken and never written. Where the system gives more addresses than it has memory for, addresses run out
+/// and the machine's memory doesn't. The blocks come back with the drop.
 #[derive(Drop)]
 pub(crate) struct Scarce {
     alloc: Global,
@@ -26,7 +26,7 @@ pub(crate) struct Scarce {
 }
 
 impl Scarce {
-    /// Takes all memory but so many grants.
+    /// Takes all memory except this number of grants.
     pub(crate) fn new(alloc: Global, grants: usize) -> Result<Scarce, AllocError> {
         let mut kept = Vec::with_capacity(alloc, grants)?;
         let taken = Vec::with_capacity(alloc, MOST_BLOCKS)?;
@@ -45,8 +45,8 @@ impl Scarce {
         Ok(scarce)
     }
 
-    /// Takes what has come back, gives one grant back, and takes that again but for so many bytes: these are all that
-    /// there are now. Answers whether there was a grant.
+    /// Takes what has come back, gives one grant back, and takes that again except for this number of bytes. No others
+    /// are left then. Answers whether there was a grant.
     pub(crate) fn leave(&mut self, bytes: usize) -> bool {
         self.take_rest();
         let Some(grant) = self.grants.pop() else {
@@ -74,7 +74,7 @@ impl Scarce {
         }
     }
 
-    /// Takes one block of this size, where there is one and the list of blocks has room.
+    /// Takes one block of this size, if there is one and the list of blocks has room.
     fn take_one(&mut self, size: usize) -> bool {
         if self.taken.len() == self.taken.capacity() {
             return false;

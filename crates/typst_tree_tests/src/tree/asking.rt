@@ -1,4 +1,4 @@
-// What is asked of a tree, and the words for its replies.
+//! What is asked of a tree, and the words for its replies.
 use std::alloc::{AllocError, Global};
 use std::ops::Range;
 use typst_drawn::{DrawingError, drawn_all, numbered};
@@ -17,11 +17,10 @@ pub(crate) enum Ask {
 
 /// The span of a number in file 1.
 pub(crate) fn span_of(number: u64) -> Result<Span, DrawingError> {
-    let file = FileId::new(1).ok_or(DrawingError::Numbers)?;
     if number < 2 || number >= 1 << 47 {
         return Err(DrawingError::Numbers);
     }
-    Ok(Span::from_number(file, SpanNumber(number)))
+    Ok(Span::from_number(FileId::FIRST, SpanNumber(number)))
 }
 
 /// The tree that a drawing shows, kept numbered within a range.

@@ -1,4 +1,4 @@
-// Trees that are kept numbered, and the nodes that come back.
+//! Trees that are kept numbered, and the nodes that come back.
 use crate::rows::assert_all;
 use crate::tree::asking::{kept, said, span_of};
 use std::alloc::Global;
@@ -7,23 +7,23 @@ use std::test::Fail;
 use typst_drawn::{DrawingError, drawn, labels, numbered};
 use typst_tree::{FileId, NumberedTree, Span, SyntaxNode, node_at};
 
+/// Two texts.
 const TWO: &str = "Markup[ Text:ab Text:c ]";
 
-/// The labels of a tree that is numbered within a range, and of its root once it is taken out; or what came back.
+/// The labels of a tree that is numbered within a range, and of its root after it is taken out, or what came back.
 fn number(alloc: Global, within: Range<u64>) -> Result<String, DrawingError> {
     let root = drawn(alloc, TWO)?;
     let same = root.clone()?;
-    let file = FileId::new(1).ok_or(DrawingError::Numbers)?;
     if within.start < 2 || within.end > 1 << 47 {
         return Err(DrawingError::Numbers);
     }
-    match NumberedTree::number(root, file, within) {
+    match NumberedTree::number(root, FileId::FIRST, within) {
         Ok(tree) => {
             let lent = labels(alloc, tree.root())?;
             let taken = labels(alloc, &tree.into_root())?;
             Ok(format!(in alloc; "{lent} and {taken}")?)
         }
-        Err(back) if back == same => Ok(String::from_str(alloc, "came back as it was")?),
+        Err(error) if error.tree == same => Ok(String::from_str(alloc, "came back as it was")?),
         Err(_) => Ok(String::from_str(alloc, "came back changed")?),
     }
 }
@@ -47,7 +47,7 @@ fn only_a_numbered_tree_is_taken_as_one(rt: HostRuntime) -> Result<(), Fail> {
     let alloc = rt.alloc();
     let free = drawn(alloc, TWO)?;
     let same = free.clone()?;
-    assert!(rt; NumberedTree::from_numbered(free).is_err_and(|back| back == same));
+    assert!(rt; NumberedTree::from_numbered(free).is_err_and(|error| error.tree == same));
     let root = numbered(alloc, TWO, 2..14)?;
     let same = root.clone()?;
     assert!(rt; NumberedTree::from_numbered(root).is_ok_and(|tree| *tree.root() == same));

@@ -1,4 +1,4 @@
-// Runs of edits and searches, and the trees after them.
+//! Runs of edits and searches, and the trees after them.
 use crate::rows::assert_text;
 use crate::tree::asking::{Ask, all_said, kept, request, slots};
 use std::alloc::{AllocError, Global};
@@ -8,7 +8,7 @@ use typst_drawn::{DrawingError, labels, numbered, sizes};
 use typst_tree::SyntaxNode;
 use typst_tree::session::{self, Reply, Slot};
 
-/// A run, and what comes of it.
+/// A run and its result.
 struct Row {
     shows: &'static str,
     tree: &'static str,
@@ -19,8 +19,10 @@ struct Row {
     after: &'static str,
 }
 
+/// Strong content and a text.
 const STRONG: &str = "Markup[ Strong[ Star:* Markup[ Text:b ] Star:* ] Text:c ]";
 
+/// What runs reply, and the trees that they leave.
 const RUNS: [Row; 4] = [
     Row {
         shows: "every kind of request is served in order",

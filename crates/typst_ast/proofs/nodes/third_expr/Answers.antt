@@ -1,7 +1,7 @@
 use Rattle.std.proofs.Common.{Option, subst, ap, sym, ◌∙◌}
 use Rattle.typst_ast.specs.Expr.{IsOptionalExprOf}
-use Rattle.typst_atoms.specs.Children.{all_in, behind_first, first_of}
-use Rattle.typst_atoms.specs.Classes.{is_expr_kind}
+use Rattle.typst_node.specs.Children.{all_in, behind_first, first_of}
+use Rattle.typst_atoms.specs.ExprKinds.{is_expr_kind}
 use Rattle.typst_node.specs.Tree.{Tree}
 use Rattle.typst_ast.proofs.Behind.{third_of-behind}
 use Rattle.typst_ast.proofs.nodes.third_expr.Goals as goal

@@ -4,7 +4,7 @@ use Rattle.std.specs.Option.{option_copied}
 use Rattle.typst_atoms.proofs.BoundNames.{count_children, count_first_child, count_last_child, items_step_behind, names_of_group, names_of_ident, names_of_none, names_of_parts, names_otherwise}
 use Rattle.typst_atoms.specs.Bindings.{count_in, names_bound, names_of_item}
 use Rattle.typst_atoms.specs.Classes.{is_destructuring_item_kind, is_pattern_kind}
-use Rattle.typst_atoms.specs.Children.{all_in}
+use Rattle.typst_node.specs.Children.{all_in}
 use Rattle.typst_atoms.specs.View.{node_of}
 use Rattle.typst_node.proofs.Trees.{count_at, drop_next}
 use Rattle.typst_node.specs.Count.{count, count_of_all}

@@ -3,7 +3,7 @@ use Rattle.std.specs.List.{flat_map}
 use Rattle.std.specs.Option.{option_copied}
 use Rattle.typst_atoms.specs.Bindings.{count_in, names_bound, names_of_item}
 use Rattle.typst_atoms.specs.Classes.{is_destructuring_item_kind}
-use Rattle.typst_atoms.specs.Children.{all_in}
+use Rattle.typst_node.specs.Children.{all_in}
 use Rattle.typst_atoms.specs.View.{node_of}
 use Rattle.typst_node.specs.Count.{count, count_of_all}
 use Rattle.typst_atoms.proofs.bindings.+bindings.Given as goal

@@ -1,5 +1,5 @@
 use Rattle.std.proofs.Common.{◌≡◌, length}
-use Rattle.typst_atoms.specs.Children.{all_in}
+use Rattle.typst_node.specs.Children.{all_in}
 use Rattle.typst_atoms.specs.Classes.{is_pattern_kind}
 use Rattle.typst_atoms.proofs.bindings.first_pattern.Given as goal
 

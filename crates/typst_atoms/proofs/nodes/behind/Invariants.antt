@@ -1,5 +1,5 @@
 use Rattle.std.proofs.Common.{◌≡◌, length}
-use Rattle.typst_atoms.specs.Children.{behind_first}
+use Rattle.typst_node.specs.Children.{behind_first}
 use Rattle.typst_atoms.specs.Kinds.{is_kind}
 use Rattle.typst_atoms.proofs.nodes.behind.Given as goal
 

@@ -1,5 +1,5 @@
 use Rattle.std.proofs.Common.{◌≡◌, length}
-use Rattle.typst_atoms.specs.Children.{all_in}
+use Rattle.typst_node.specs.Children.{all_in}
 use Rattle.typst_atoms.specs.Kinds.{is_kind}
 use Rattle.typst_atoms.proofs.nodes.first_of_kind.Given as goal
 

@@ -1,6 +1,6 @@
 -- The first invalid segment is the first one in what is left.
 use Rattle.std.proofs.Common.{◌≡◌, drop}
-use Rattle.typst_base.specs.Mapping.{first_invalid}
+use Rattle.typst_base.specs.Segments.{first_invalid}
 use Rattle.typst_base.proofs.mapper.find_invalid.Given as goal
 
 abbrev pub invariant-loop-segment : goal.invariant-loop-segment

@@ -1,6 +1,6 @@
 use Rattle.std.proofs.Common.{◌-◌, ◌≡◌, ◌+◌, ◌<◌, ◌≤◌, length}
 use Rattle.typst_node.specs.Tree.{trees}
-use Rattle.typst_linked.specs.Search.{binary_digits}
+use Rattle.typst_node.specs.BinaryDigits.{binary_digits}
 use Rattle.typst_linked.specs.Part.{begin_at}
 use Rattle.typst_linked.proofs.halving.first_ending.Given as goal
 

@@ -1,5 +1,5 @@
 use Rattle.std.proofs.Common.{◌-◌, ◌≡◌, ◌+◌, ◌<◌, ◌≤◌, length, IfSome}
-use Rattle.typst_linked.specs.Search.{binary_digits}
+use Rattle.typst_node.specs.BinaryDigits.{binary_digits}
 use Rattle.typst_linked.specs.Floor.{index_behind, IsFloorOf, NumbersRise, AreAbove}
 use Rattle.typst_linked.proofs.halving.last_up_to.Given as goal
 

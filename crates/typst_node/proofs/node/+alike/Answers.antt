@@ -24,21 +24,21 @@ pub spanless::all_alike-spanless_eq-requires : goal.spanless::all_alike-spanless
 spanless::all_alike-spanless_eq-requires t c =
     (omega (arith, c.decreases, count_at c.args.nodes.now c.loop-i.i c.index-nodes-i.result (omega arith), ap count c.index-nodes-i.is), tt)
 
-pub SyntaxNode::spanless_eq-returns-then-same_warnings : goal.SyntaxNode::spanless_eq-returns-then-same_warnings
-SyntaxNode::spanless_eq-returns-then-same_warnings t c = (
+pub SyntaxNode::spanless_eq_boxed-returns-then-same_warnings : goal.SyntaxNode::spanless_eq_boxed-returns-then-same_warnings
+SyntaxNode::spanless_eq_boxed-returns-then-same_warnings t c = (
   λ h.
       let both = c.spanless_eq.ensures.0 h in
-      let warned : map warning_text (warnings_in c.self.inside.node) ≡ map warning_text (warnings_in c.other.inside.node) = ap (map warning_text) (sym c.warnings-in-Long.ensures) ∙ (c.same_warnings.ensures.0 (search rules) ∙ ap (map warning_text) c.warnings-in-Long-2.ensures) in
+      let warned : map warning_text (warnings_in c.self.inside.node) ≡ map warning_text (warnings_in c.other.inside.node) = ap (map warning_text) (sym c.warnings.ensures) ∙ (c.same_warnings.ensures.0 (search rules) ∙ ap (map warning_text) c.warnings-2.ensures) in
       sym (ap plain c.self.view_is) ∙ (alike_whole c.self.inside c.other.inside warned both.0 both.1 ∙ ap plain c.other.view_is),
   λ e.
       let same : plain (tree_of c.self.inside) ≡ plain (tree_of c.other.inside) = ap plain c.self.view_is ∙ (e ∙ sym (ap plain c.other.view_is)) in
       c.spanless_eq.ensures.1 (alike_content c.self.inside c.other.inside same, alike_below c.self.inside c.other.inside same),
 )
 
-pub SyntaxNode::spanless_eq-returns-else-same_warnings : goal.SyntaxNode::spanless_eq-returns-else-same_warnings
-SyntaxNode::spanless_eq-returns-else-same_warnings t c = (
+pub SyntaxNode::spanless_eq_boxed-returns-else-same_warnings : goal.SyntaxNode::spanless_eq_boxed-returns-else-same_warnings
+SyntaxNode::spanless_eq_boxed-returns-else-same_warnings t c = (
   λ h. cc,
   λ e.
       let same : plain (tree_of c.self.inside) ≡ plain (tree_of c.other.inside) = ap plain c.self.view_is ∙ (e ∙ sym (ap plain c.other.view_is)) in
-      c.same_warnings.ensures.1 (ap (map warning_text) c.warnings-in-Long.ensures ∙ (alike_warnings c.self.inside c.other.inside same ∙ sym (ap (map warning_text) c.warnings-in-Long-2.ensures))),
+      c.same_warnings.ensures.1 (ap (map warning_text) c.warnings.ensures ∙ (alike_warnings c.self.inside c.other.inside same ∙ sym (ap (map warning_text) c.warnings-2.ensures))),
 )

@@ -1,4 +1,4 @@
-use Rattle.std.proofs.Common.{◌≡◌, ◌+◌, map, length, get_or, refl, ap, sym, ◌∙◌, arith}
+use Rattle.std.proofs.Common.{◌≡◌, ◌+◌, map, length, get_or, refl, ap, sym, ◌∙◌, arith, rules}
 use Rattle.std.proofs.Math.ListN.{set}
 use Rattle.std.proofs.Math.Seq.{map-set_same}
 use Rattle.typst_base.specs.Mapping.{mapped}
@@ -60,8 +60,13 @@ InnerNode::map_places_below-returns-clause-children t c =
 pub SyntaxNode::map_places-returns-in-Inner : goal.SyntaxNode::map_places-returns-in-Inner
 SyntaxNode::map_places-returns-in-Inner t c =
     let size : c.len.result ≡ length (text c.args.self.now) = c.len.ensures in
+    let upper : c.map_places_below.new.self.upper ≡ c.from_range-span.result.low = search rules in
     mapped_inner c.args.mapper.now c.args.id c.args.at c.from_range-span.result c.self.inside _ _ c.in-Inner.inner c.args.self.now c.map_places_below.new.self _ c.in-Inner.is c.self.view_is
     (c.from_range-span.ensures.is ∙ ap (λ r. ranged c.args.id r.start r.end) (c.map.ensures ∙ ap (λ n. mapped c.args.mapper.now (interval c.args.at (c.args.at + n))) size))
-    c.map_places_below.ensures.upper
-    (c.map_places_below.ensures.warnings ∙ ap (λ x. map (mapped_warning c.args.mapper.now (interval c.args.at (c.args.at + length (text_of_all x.children.items)))) (shown_warnings x.extras.warnings)) c.deref_mut-in-Inner.ensures.value)
-    (c.map_places_below.ensures.children ∙ ap (λ x. mapped_trees c.args.mapper.now c.args.id c.args.at x.children.items) c.deref_mut-in-Inner.ensures.value)
+    upper
+    (c.map_places_below.ensures.warnings
+    ∙ (ap (λ x. map (mapped_warning c.args.mapper.now (interval c.args.at (c.args.at + length (text_of_all x.children.items)))) (shown_warnings x.extras.warnings)) c.deref_mut-in-Inner-2.ensures.value
+    ∙ ap (λ x. map (mapped_warning c.args.mapper.now (interval c.args.at (c.args.at + length (text_of_all x.children.items)))) (shown_warnings x.extras.warnings)) c.deref_mut-in-Inner.ensures.value))
+    (c.map_places_below.ensures.children
+    ∙ (ap (λ x. mapped_trees c.args.mapper.now c.args.id c.args.at x.children.items) c.deref_mut-in-Inner-2.ensures.value
+    ∙ ap (λ x. mapped_trees c.args.mapper.now c.args.id c.args.at x.children.items) c.deref_mut-in-Inner.ensures.value))

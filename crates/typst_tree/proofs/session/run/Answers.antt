@@ -25,7 +25,7 @@ returns-clause-kept c p q there kept = kept_same c.args.slots.now c.loop-slot.sl
 pub returns-clause-found_again : goal.returns-clause-found_again
 returns-clause-found_again c p q there kept =
     let same = kept_same c.args.slots.now c.loop-slot.slots c.args.root.now c.loop-slot.root p q kept there in
-    found_by_label c.loop-slot.root q (tree_at p c.args.root.now).label (still_numbered c.args.root.now c.loop-slot.root c.requires c.loop-slot.invariant.numbered) same.0 same.1
+    found_by_label c.loop-slot.root q (tree_at p c.args.root.now).label (still_numbered c.args.root.now c.loop-slot.root c.requires.numbered_ask_is_numbered c.loop-slot.invariant.numbered) same.0 same.1
 
 pub returns-clause-reads : goal.returns-clause-reads
 returns-clause-reads c =

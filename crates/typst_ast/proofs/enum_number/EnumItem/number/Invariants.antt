@@ -1,6 +1,6 @@
 use Rattle.std.proofs.Common.{ℕ, Option, length}
 use Rattle.typst_ast.specs.EnumNumbers.{IsFirstNumber}
-use Rattle.typst_atoms.specs.Children.{all_in}
+use Rattle.typst_node.specs.Children.{all_in}
 use Rattle.typst_atoms.specs.Kinds.{is_kind}
 use Rattle.typst_base.specs.declared.kind.SyntaxKind.TheVariants as kinds
 use Rattle.typst_ast.proofs.enum_number.EnumItem.number.Given as goal

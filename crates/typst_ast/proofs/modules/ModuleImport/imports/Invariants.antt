@@ -1,6 +1,6 @@
 use Rattle.std.proofs.Common.{◌≡◌, length}
 use Rattle.typst_ast.specs.Imports.{is_imports_kind}
-use Rattle.typst_atoms.specs.Children.{all_in}
+use Rattle.typst_node.specs.Children.{all_in}
 use Rattle.typst_ast.proofs.modules.ModuleImport.imports.Given as goal
 
 abbrev pub invariant-loop-rest : goal.invariant-loop-rest

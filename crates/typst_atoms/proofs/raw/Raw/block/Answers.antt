@@ -2,7 +2,7 @@ use Rattle.std.proofs.Common.{sym, ap, ◌∙◌}
 use Rattle.typst_atoms.proofs.Answered.{answered_where_held, answered_elsewhere}
 use Rattle.typst_atoms.proofs.raw.Raw.block.Goals as goal
 use Rattle.typst_atoms.proofs.raw.Raw.block.Goals.{then-is_fenced, else-is_fenced}
-use Rattle.typst_atoms.specs.Children.{children_in}
+use Rattle.typst_node.specs.Children.{children_in}
 use Rattle.typst_atoms.specs.Raws.{trimmed_in}
 
 pub returns : goal.returns

@@ -1,4 +1,4 @@
-use Rattle.std.proofs.Common.{◌≡◌, ℕ, ◌<◌, ◌∙◌, Some, ap, subst, sym, refl, length, arith}
+use Rattle.std.proofs.Common.{◌≡◌, ℕ, ◌<◌, ◌∙◌, Some, None, IfSome, ap, subst, sym, refl, length, arith}
 use Rattle.std.proofs.lemmas.Bool.Decides.{nat_tests}
 use Rattle.std.proofs.lemmas.Result.{IfOk-weaker}
 use Rattle.typst_node.specs.Tree.{Tree, trees}
@@ -8,15 +8,15 @@ use Rattle.typst_linked.specs.Part.{HasNoOwnText}
 use Rattle.typst_linked.specs.Ranges.{begin_of}
 use Rattle.typst_linked.specs.Search.{found_below}
 use Rattle.typst_linked.specs.LeafAt.{last_leaf}
-use Rattle.typst_linked.specs.LeafLooks.{HasWay}
+use Rattle.typst_linked.specs.LeafLooks.{HasWay, HasLookEachFork}
 use Rattle.typst_linked.specs.declared.cursor.Side.TheVariants.{Before}
 use Rattle.typst_linked.proofs.Child.{no_own_text}
 use Rattle.typst_linked.proofs.Covers.{child_there}
 use Rattle.typst_linked.proofs.LastLeaves.{empty_list, last_there_is, last_self, last_on, last_late, last_next, start_uncovered}
-use Rattle.typst_linked.proofs.LeafWays.{way_on}
+use Rattle.typst_linked.proofs.LeafWays.{way_on, fork_end, fork_on}
 use Rattle.typst_linked.proofs.Ordered.{count_child}
 use Rattle.typst_linked.proofs.Searching.{count_there, smaller_turn}
-use Rattle.typst_node.proofs.Steps.{at-push}
+use Rattle.typst_node.proofs.PathSteps.{at-push}
 use Rattle.typst_linked.proofs.Places.{same_node}
 use Rattle.typst_linked.proofs.node.LinkedNode.+into_last.Goals as goal
 
@@ -84,3 +84,23 @@ returns-clause-looks t c =
     let begin : begin_of q ≡ begin_of c.args.self = ap begin_of c.in_ok-child.ensures ∙ next.0 in
     way_on Before (begin_of c.args.self) c.args.looks.now c.last_at_once.new.looks c.into_last.new.looks i c.args.self q n child.0 c.get-2.ensures child.1 (ap subtree c.in_ok-child.ensures ∙ there) c.in_ok-child.ensures
     next.1 c.in-Some.ensures.cost (λ cover. absurd (start_uncovered c.args.self n c.get-2.ensures cover)) (subst (λ b. HasWay Before b q c.last_at_once.new.looks c.into_last.new.looks) begin c.into_last.ensures.looks)
+
+pub returns-then-is_empty-clause-forks : goal.returns-then-is_empty-clause-forks
+returns-then-is_empty-clause-forks t c =
+    let k = c.is_empty.ensures in
+    let f = c.if-is_empty.ensures in
+    let none : length c.child_slice.result.now ≡ 0 = grind (arith, nat_tests) in
+    fork_end c.args.self c.get.result.now c.args.looks.now c.get.ensures (sym c.child_slice.ensures.children ∙ empty_list c.child_slice.result.now none)
+
+pub returns-clause-forks : goal.returns-clause-forks
+returns-clause-forks t c =
+    let n = c.get-2.result.now in
+    let i = c.in-Some.part.index in
+    let found = c.in-Some.ensures.found in
+    let child = child_there (trees n.children) i (omega (arith, found.last)) in
+    let there = at-push c.args.self.path i c.args.self.root n child.0 c.get-2.ensures child.1 in
+    IfOk-weaker c.into_last.result (λ r. IfSome r (HasLookEachFork c.in_ok-child.child c.last_at_once.new.looks c.into_last.new.looks)) (λ r. IfSome r (HasLookEachFork c.args.self c.args.looks.now c.into_last.new.looks))
+    (λ r. elim r as (λ o. IfSome o (HasLookEachFork c.in_ok-child.child c.last_at_once.new.looks c.into_last.new.looks) → IfSome o (HasLookEachFork c.args.self c.args.looks.now c.into_last.new.looks)) [
+      | None ↦ λ h. tt
+      | Some found ↦ λ h. fork_on c.args.looks.now c.last_at_once.new.looks c.into_last.new.looks i c.args.self c.in_ok-child.child found n child.0 c.get-2.ensures child.1 (ap subtree c.in_ok-child.ensures ∙ there) c.in_ok-child.ensures c.in-Some.ensures.forks h
+    ]) c.into_last.ensures.forks

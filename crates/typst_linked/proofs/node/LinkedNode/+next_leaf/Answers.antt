@@ -1,5 +1,7 @@
-use Rattle.std.proofs.Common.{◌≡◌, ◌+◌, ◌∙◌, Some, None, ap, sym}
+use Rattle.std.proofs.Common.{◌≡◌, ◌+◌, ◌∙◌, length, take, Some, None, ap, sym}
 use Rattle.std.proofs.lemmas.Result.{IfOk-weaker}
+use Rattle.typst_node.specs.Tree.{trees}
+use Rattle.typst_node.specs.Text.{text_of_all}
 use Rattle.typst_linked.specs.Place.{subtree, child_place, last_step}
 use Rattle.typst_linked.specs.Search.{found_below}
 use Rattle.typst_linked.specs.Leaves.{later_from, stop_behind, elsewhere}
@@ -31,6 +33,9 @@ returns t c =
     let x = parent_there p.path i p.root node there in
     let e : None ≡ found_below (λ t. later_from t (i + 1)) p =
     sym c.in_default-2.is ∙ c.in_ok-leaf.ensures ∙ ap (λ k. found_below (λ t. later_from t (k + 1)) p) c.index-start.ensures in
-    let outward : elsewhere stop_behind c.deref.result.now ≡ elsewhere stop_behind c.args.self.now =
-    ap (elsewhere stop_behind) c.deref.ensures ∙ next_miss p i x.0 node x.1 x.2 e ∙ sym (ap (elsewhere stop_behind) place) in
-    IfOk-weaker c.next_leaf.result (λ r. r ≡ elsewhere stop_behind c.deref.result.now) (λ r. r ≡ elsewhere stop_behind c.args.self.now) (λ r h. h ∙ outward) c.next_leaf.ensures
+    let outward : elsewhere stop_behind c.deref-2.result.now ≡ elsewhere stop_behind c.args.self.now =
+    ap (elsewhere stop_behind) c.deref-2.ensures ∙ next_miss p i x.0 node x.1 x.2 e ∙ sym (ap (elsewhere stop_behind) place) in
+    IfOk-weaker c.next_leaf.result (λ r. r ≡ elsewhere stop_behind c.deref-2.result.now) (λ r. r ≡ elsewhere stop_behind c.args.self.now) (λ r h. h ∙ outward) c.next_leaf.ensures
+
+pub leaf_from-requires : goal.leaf_from-requires
+leaf_from-requires t c = λ s hs. c.end_below-begin.ensures s (ap subtree c.deref.ensures ∙ hs) ∙ ap (λ k. length (text_of_all (take (k + 1) (trees s.children)))) (sym c.index-start.ensures)

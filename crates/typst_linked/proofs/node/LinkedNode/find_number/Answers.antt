@@ -3,7 +3,7 @@ use Rattle.std.proofs.lemmas.Option.{slice_get_within}
 use Rattle.typst_node.specs.Tree.{Tree, trees}
 use Rattle.typst_node.specs.Labels.{number}
 use Rattle.typst_linked.specs.Place.{Place, subtree}
-use Rattle.typst_linked.specs.Search.{binary_digits}
+use Rattle.typst_node.specs.BinaryDigits.{binary_digits}
 use Rattle.typst_linked.specs.Floor.{NumbersRise, AreAbove}
 use Rattle.typst_linked.specs.Finds.{HasNumberBelow}
 use Rattle.typst_linked.proofs.Places.{same_node}

@@ -2,7 +2,7 @@ use Rattle.std.proofs.Common.{◌≡◌, ◌≢◌, Some}
 use Rattle.typst_node.specs.Tree.{Tree}
 use Rattle.typst_node.specs.Labels.{number}
 use Rattle.typst_linked.specs.Place.{subtree}
-use Rattle.typst_linked.specs.Search.{binary_digits}
+use Rattle.typst_node.specs.BinaryDigits.{binary_digits}
 use Rattle.typst_linked.proofs.Searching.{Searching, count_there}
 use Rattle.typst_linked.proofs.node.LinkedNode.find_number.Given as goal
 

@@ -1,4 +1,4 @@
-use Rattle.std.proofs.Common.{arith, ap, subst, ◌∙◌}
+use Rattle.std.proofs.Common.{arith, ◌+◌, ap, subst, ◌∙◌}
 use Rattle.std.specs.List.{list_any}
 use Rattle.typst_node.specs.Tree.{forest}
 use Rattle.typst_node.specs.Preorder.{preorder}
@@ -10,7 +10,7 @@ use Rattle.typst_node.proofs.node.InnerNode.settle.Goals as goal
 pub returns-clause-measured : goal.returns-clause-measured
 returns-clause-measured c =
     let items = c.args.self.now.children.items in
-    let counts = part_count items c.args.from c.args.to c.requires.window in
+    let counts = part_count items c.args.change.now.from (c.args.change.now.from + c.args.change.now.many) (omega arith) in
     let held = c.settle_ends.ensures.diagnosis ∙ c.set_diagnosis.ensures.diagnosis in
     record {
       descendants = omega (arith, counts, c.requires.stale.descendants, c.requires.added.descendants);

@@ -1,4 +1,4 @@
-use Rattle.std.proofs.Common.{◌≡◌, ◌+◌, map, refl, sym, ap, subst, ◌∙◌, None}
+use Rattle.std.proofs.Common.{◌≡◌, ◌+◌, ◌≤◌, [], length, map, refl, sym, ap, subst, ◌∙◌, arith, rules, None}
 use Rattle.std.specs.List.{splice}
 use Rattle.std.specs.Box.{with_value}
 use Rattle.std.proofs.lemmas.Result.{IfOk-weaker}
@@ -7,7 +7,8 @@ use Rattle.typst_node.specs.declared.node.Node.TheVariants.{Inner}
 use Rattle.typst_node.specs.Tree.{trees, forest}
 use Rattle.typst_node.specs.Labels.{number, bound}
 use Rattle.typst_node.specs.Plain.{plain}
-use Rattle.typst_node.specs.PlainEdit.{spliced}
+use Rattle.typst_node.specs.PlainEdit.{spliced, FitsInner}
+use Rattle.typst_node.specs.Edit.{IsNumberedOrUnfiled}
 use Rattle.typst_node.specs.Window.{Site, site_of, site_among}
 use Rattle.typst_node.specs.Renumbering.{IsRenumbering}
 use Rattle.typst_node.specs.FirstWindow.{HasNoFirst}
@@ -17,22 +18,56 @@ use Rattle.typst_node.proofs.Trimmed.{trimmed_plain, fits_same}
 use Rattle.typst_node.proofs.Edited.{inner_kids, inner_forest, inner_bound, inner_number, inner_file, is_inner, if_numbered, inner_label, inner_edited, numbered_after, none_file, file_none, or_left}
 use Rattle.typst_node.proofs.node.SyntaxNode.replace_range.Goals as goal
 
-pub replace-requires-clause-inside : goal.replace-requires-clause-inside
-replace-requires-clause-inside c =
-    let kids : trees c.args.self.now.children ≡ c.deref_mut.result.now.children.items = inner_kids c.self.inside _ _ c.in-Inner.inner c.args.self.now c.in-Inner.is c.self.view_is ∙ sym (ap (λ b. b.children.items) c.deref_mut.ensures.value) in
-    let inside = (c.requires.range (is_inner c.self.inside _ _ c.in-Inner.inner c.args.self.now c.in-Inner.is c.self.view_is)).1 in
-    rw (← kids) inside
+pub replace-requires-clause-number : goal.replace-requires-clause-number
+replace-requires-clause-number c =
+    let kids : trees c.args.self.now.children ≡ c.in-Inner.inner.value.children.items = inner_kids c.self.inside _ _ c.in-Inner.inner c.args.self.now c.in-Inner.is c.self.view_is in
+    let range : (c.args.edit.from ≤ c.args.edit.to) × (c.args.edit.to ≤ length c.deref.result.now.children.items) = search rules in
+    let fit : FitsInner [] c.args.edit.from c.args.edit.to c.args.self.now =
+    (tt, is_inner c.self.inside _ _ c.in-Inner.inner c.args.self.now c.in-Inner.is c.self.view_is, range.0, omega (arith, range.1, ap length kids, ap (λ b. length b.children.items) c.deref.ensures)) in
+    let numbered : IsNumberedOrUnfiled [] c.args.self.now = c.requires.numbered fit in
+    search (rules, numbered)
+
+pub replace-requires-clause-upper : goal.replace-requires-clause-upper
+replace-requires-clause-upper c =
+    let kids : trees c.args.self.now.children ≡ c.in-Inner.inner.value.children.items = inner_kids c.self.inside _ _ c.in-Inner.inner c.args.self.now c.in-Inner.is c.self.view_is in
+    let range : (c.args.edit.from ≤ c.args.edit.to) × (c.args.edit.to ≤ length c.deref.result.now.children.items) = search rules in
+    let fit : FitsInner [] c.args.edit.from c.args.edit.to c.args.self.now =
+    (tt, is_inner c.self.inside _ _ c.in-Inner.inner c.args.self.now c.in-Inner.is c.self.view_is, range.0, omega (arith, range.1, ap length kids, ap (λ b. length b.children.items) c.deref.ensures)) in
+    let numbered : IsNumberedOrUnfiled [] c.args.self.now = c.requires.numbered fit in
+    search (rules, numbered)
 
 pub replace-requires-clause-within : goal.replace-requires-clause-within
 replace-requires-clause-within c =
+    let here : trees c.args.self.now.children ≡ c.in-Inner.inner.value.children.items = inner_kids c.self.inside _ _ c.in-Inner.inner c.args.self.now c.in-Inner.is c.self.view_is in
+    let range : (c.args.edit.from ≤ c.args.edit.to) × (c.args.edit.to ≤ length c.deref.result.now.children.items) = search rules in
+    let fit : FitsInner [] c.args.edit.from c.args.edit.to c.args.self.now =
+    (tt, is_inner c.self.inside _ _ c.in-Inner.inner c.args.self.now c.in-Inner.is c.self.view_is, range.0, omega (arith, range.1, ap length here, ap (λ b. length b.children.items) c.deref.ensures)) in
     let num : number c.args.self.now.label ≡ c.number-number.result = inner_number c.self.inside _ _ c.in-Inner.inner c.args.self.now c.in-Inner.is c.self.view_is ∙ sym c.number-number.ensures.is in
     let up : bound c.args.self.now.label ≡ c.deref_mut.result.now.upper = inner_bound c.self.inside _ _ c.in-Inner.inner c.args.self.now c.in-Inner.is c.self.view_is ∙ sym (ap (λ b. b.upper) c.deref_mut.ensures.value) in
     let kids : c.args.self.now.children ≡ forest c.deref_mut.result.now.children.items = inner_forest c.self.inside _ _ c.in-Inner.inner c.args.self.now c.in-Inner.is c.self.view_is ∙ sym (ap (λ b. forest b.children.items) c.deref_mut.ensures.value) in
     let file : c.args.self.now.label.span.file ≡ c.self.inside.span.file = inner_file c.self.inside _ _ c.in-Inner.inner c.args.self.now c.in-Inner.is c.self.view_is in
-    if_numbered c.id-id.result c.args.self.now c.number-number.result c.deref_mut.result.now.upper (forest c.deref_mut.result.now.children.items) (rw file c.id-id.ensures) c.requires.numbered num up kids
+    if_numbered c.id-id.result c.args.self.now c.number-number.result c.deref_mut.result.now.upper (forest c.deref_mut.result.now.children.items) (rw file c.id-id.ensures) (c.requires.numbered fit) num up kids
 
-pub returns-in-Inner-clause-at : goal.returns-in-Inner-clause-at
-returns-in-Inner-clause-at c =
+pub returns-then-not-holds-clause-fits : goal.returns-then-not-holds-clause-fits
+returns-then-not-holds-clause-fits c =
+    let kids : trees c.args.self.now.children ≡ c.in-Inner.inner.value.children.items = inner_kids c.self.inside _ _ c.in-Inner.inner c.args.self.now c.in-Inner.is c.self.view_is in
+    let out : ¬ ((c.args.edit.from ≤ c.args.edit.to) × (c.args.edit.to ≤ length c.deref.result.now.children.items)) = search rules in
+    ((λ no. cc), (λ fit. absurd (out (fit.2, omega (arith, fit.3, ap length kids, ap (λ b. length b.children.items) c.deref.ensures)))))
+
+pub returns-in-Inner-clause-fits : goal.returns-in-Inner-clause-fits
+returns-in-Inner-clause-fits c =
+    let kids : trees c.args.self.now.children ≡ c.in-Inner.inner.value.children.items = inner_kids c.self.inside _ _ c.in-Inner.inner c.args.self.now c.in-Inner.is c.self.view_is in
+    let range : (c.args.edit.from ≤ c.args.edit.to) × (c.args.edit.to ≤ length c.deref.result.now.children.items) = search rules in
+    let fit : FitsInner [] c.args.edit.from c.args.edit.to c.args.self.now =
+    (tt, is_inner c.self.inside _ _ c.in-Inner.inner c.args.self.now c.in-Inner.is c.self.view_is, range.0, omega (arith, range.1, ap length kids, ap (λ b. length b.children.items) c.deref.ensures)) in
+    ((λ some. fit), (λ inner. refl))
+
+pub returns-in-Inner-clause-made : goal.returns-in-Inner-clause-made
+returns-in-Inner-clause-made c =
+    let here : trees c.args.self.now.children ≡ c.in-Inner.inner.value.children.items = inner_kids c.self.inside _ _ c.in-Inner.inner c.args.self.now c.in-Inner.is c.self.view_is in
+    let range : (c.args.edit.from ≤ c.args.edit.to) × (c.args.edit.to ≤ length c.deref.result.now.children.items) = search rules in
+    let fit : FitsInner [] c.args.edit.from c.args.edit.to c.args.self.now =
+    (tt, is_inner c.self.inside _ _ c.in-Inner.inner c.args.self.now c.in-Inner.is c.self.view_is, range.0, omega (arith, range.1, ap length here, ap (λ b. length b.children.items) c.deref.ensures)) in
     let t = c.args.self.now in
     let inner = is_inner c.self.inside _ _ c.in-Inner.inner t c.in-Inner.is c.self.view_is in
     let items : trees t.children ≡ c.in-Inner.inner.value.children.items = inner_kids c.self.inside _ _ c.in-Inner.inner t c.in-Inner.is c.self.view_is in
@@ -41,16 +76,16 @@ returns-in-Inner-clause-at c =
     let up : bound t.label ≡ c.deref_mut.result.now.upper = inner_bound c.self.inside _ _ c.in-Inner.inner t c.in-Inner.is c.self.view_is ∙ sym (ap (λ b. b.upper) c.deref_mut.ensures.value) in
     let file : t.label.span.file ≡ c.self.inside.span.file = inner_file c.self.inside _ _ c.in-Inner.inner t c.in-Inner.is c.self.view_is in
     let id = rw (← file) at c.id-id.ensures in
-    let a = c.args.range.start in
-    let b = c.args.range.end in
-    let ys = c.args.replacement.items in
+    let a = c.args.edit.from in
+    let b = c.args.edit.to in
+    let ys = c.args.edit.others.items in
     let s = site_of a b ys t in
     let result = c.replace.result in
     let new = c.replace.new.self in
     let at : site_among (c.number-number.result + 1) c.deref_mut.result.now.upper a b ys c.deref_mut.result.now.children.items ≡ s = λ i. site_among (sym num i + 1) (sym up i) a b ys (sym kids i) in
     let e : AreReplaced s c.id-id.result c.deref_mut.result.now new c.replace.new.len result = subst (λ (z : Site). AreReplaced z c.id-id.result c.deref_mut.result.now new c.replace.new.len result) at c.replace.ensures.made in
-    let range = c.requires.range inner in
-    let alike : map plain (all_at s) ≡ map plain (spliced a b ys t) = trimmed_plain (trees t.children) ys a b range.0 range.1 in
+    let numbered = c.requires.numbered fit in
+    let alike : map plain (all_at s) ≡ map plain (spliced a b ys t) = trimmed_plain (trees t.children) ys a b fit.2 fit.3 in
     let label = inner_label c.self.inside _ _ c.in-Inner.inner t c.in-Inner.is c.self.view_is new
     (e.upper ∙ ap (λ b. b.upper) c.deref_mut.ensures.value) (e.warnings ∙ ap (λ b. b.extras.warnings) c.deref_mut.ensures.value) in
     record {
@@ -78,5 +113,5 @@ returns-in-Inner-clause-at c =
           (h ∙ alike ∙ ap (λ ts. map plain (splice ts a b ys)) items)) e.plain;
       numbered = IfOk-weaker result _ _
           (λ r h. numbered_after c.id-id.result t (tree_of record { node = Inner _ c.in-Inner.len (with_value c.in-Inner.inner new); span = c.self.inside.span }) (number t.label) (bound t.label)
-          id c.requires.numbered refl refl label h) e.within;
+          id numbered refl refl label h) e.within;
     }

@@ -8,7 +8,7 @@ use Rattle.typst_node.proofs.node.window.find.Goals as goal
 
 pub loop-numbering-preserved : goal.loop-numbering-preserved
 loop-numbering-preserved c =
-    let s = site c.args.edit.now in
+    let s = site c.args.row.now in
     let t = c.loop-numbering.tried in
     let i = c.loop-numbering.invariant in
     let none : ¬ (HasRoom s c.loop-numbering.width) = c.in_default.ensures in
@@ -25,4 +25,4 @@ loop-numbering-preserved c =
     }
 
 pub overflow_add-nodes : goal.overflow_add-nodes
-overflow_add-nodes c = omega (arith, c.loop-numbering.invariant.nodes, c.count_gained-nodes.ensures, fewer_in (site c.args.edit.now) c.wider-next.result, c.requires.total)
+overflow_add-nodes c = omega (arith, c.loop-numbering.invariant.nodes, c.count_gained-nodes.ensures, fewer_in (site c.args.row.now) c.wider-next.result, c.requires.total)

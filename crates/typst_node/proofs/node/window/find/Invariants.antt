@@ -11,10 +11,10 @@ invariant-loop-numbering l = record {
   positive : 1 ≤ l.tried;
   few : l.tried ≤ l.width + 1;
   width : l.width ≡ reach (l.tried - 1);
-  nodes : l.nodes ≡ count_of_all (trees_in (site l.edit) l.width);
-  least : (j : ℕ) → j < l.tried - 1 → ¬ (HasRoom (site l.edit) (reach j));
-  among : (j : ℕ) → j < l.tried - 1 → ¬ (HoldsAll (site l.edit) (reach j));
+  nodes : l.nodes ≡ count_of_all (trees_in (site l.row) l.width);
+  least : (j : ℕ) → j < l.tried - 1 → ¬ (HasRoom (site l.row) (reach j));
+  among : (j : ℕ) → j < l.tried - 1 → ¬ (HoldsAll (site l.row) (reach j));
 }
 
 abbrev pub decreases-loop-numbering : goal.decreases-loop-numbering
-decreases-loop-numbering l = length l.edit.before.now + length l.edit.behind.now - l.width
+decreases-loop-numbering l = length l.row.before.now + length l.row.behind.now - l.width

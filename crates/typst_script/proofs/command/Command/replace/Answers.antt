@@ -1,5 +1,4 @@
-use Rattle.std.proofs.Common.{arith, ◌∷◌, ◌++◌}
-use Rattle.std.proofs.lemmas.Grind.{common_steps}
+use Rattle.std.proofs.Common.{◌∷◌, ◌++◌}
 use Rattle.typst_script.specs.Word.{blank}
 use Rattle.typst_script.proofs.Lines.{replace_rest}
 use Rattle.typst_script.proofs.command.Command.replace.Goals as goal
@@ -45,9 +44,8 @@ returns-in_err-count-clause-every c command is =
     let to = c.in_ok-end.ensures.every it.to it.other (rw from.1 it.split_end) in
     rw c.from_residual-in_err-count.ensures (c.in_err-count.ensures.every it.count (rw to.1 it.count_number))
 
-pub returns-then-not-is_path-clause-every : goal.returns-then-not-is_path-clause-every
-returns-then-not-is_path-clause-every c command is =
+pub returns-in_err-path-2-clause-every : goal.returns-in_err-path-2-clause-every
+returns-in_err-path-2-clause-every c command is =
     let it = replace_rest command _ is in
     let same = c.in_ok-path.ensures.every it.path (it.from ++ blank ∷ (it.to ++ blank ∷ it.other)) it.split in
-    let is_path = c.is_path.ensures.1 (rw same.0 it.a_path) in
-    grind (arith, common_steps, is_path, c.if-not-is_path.true)
+    rw c.from_residual-in_err-path-2.ensures (c.in_err-path-2.ensures.every (rw same.0 it.a_path))

@@ -1,0 +1,311 @@
+#!/usr/bin/env python3
+"""Builds the static library, runs the programs of bindings/ over it, and compares what declares its functions.
+
+    bench/door.py [--calls N]
+    bench/door.py --beside LOG     builds over the libraries that the run of `rt ci` with this log proves: the gate runs this
+    bench/door.py --declared       compares what declares the functions alone, in a second
+    bench/door.py --speed          times calls from C beside the same work in Rattle, where that is a row of bench/speed.py
+
+1. The kinds of the header and of the Rust crate must be those that bench/bindings.py writes.
+2. The exports of crates/typst_c, the functions of bindings/c/typst.h and those of bindings/rust/src/raw.rs must be the same, with
+   the same arguments: their names, their number and their widths. So must the fields of the structs that cross, and the functions
+   of the archive. Each export needs a function `typst_try_` in the header. Each status must say in C what its refusal says in
+   crates/typst_session, and be the error of the same name in Rust.
+3. The archive is built by `rt lib`, which proves what isn't kept.
+4. The example and the tests in C are compiled by gcc with all warnings, and run under the sanitizers of addresses and of undefined
+   behavior: a run with calls drawn at random, a million of them unless --calls says how many, and one that refuses each request for
+   memory in turn. The example must print what stands beside it.
+5. The tests, the lints and the documentation of the Rust crate are run by cargo, offline, and its examples must print what stands
+   beside them. One of them does what a script says: it must do what the vectors of scripts say and what the examples/ of the
+   repository say.
+
+It says so where gcc or cargo isn't there. The status is 1 where anything differs or fails.
+"""
+import argparse
+import os
+import re
+import shutil
+import subprocess
+import sys
+import tempfile
+from pathlib import Path
+
+import speed
+from bodies import Proved, Room, below, needs_of
+
+TOP = Path(__file__).resolve().parent.parent
+EXPORTS = TOP / "crates/typst_c"
+ARCHIVE = "out/libtypst_c.a"
+C, RUST = TOP / "bindings/c", TOP / "bindings/rust"
+SCRIPTS = [TOP / "crates/typst_script_tests/vectors", TOP / "examples"]
+HEADER, RAW = C / "typst.h", RUST / "src/raw.rs"
+STRICT = ["-std=c11", "-O1", "-g", "-Wall", "-Wextra", "-Werror", "-pedantic", f"-I{C}"]
+SANITIZED = ["-fsanitize=address,undefined", "-fno-sanitize-recover=all", "-fno-omit-frame-pointer"]
+REFUSALS = TOP / "crates/typst_session/src/refusal.rt"
+# The statuses that no refusal has: that a call was done, and that nothing is held.
+OWN_STATUSES = {"0", "1"}
+POINTER = "pointer"
+# The widths of types: in bits, or a pointer.
+WIDTHS = {"u8": 8, "u16": 16, "u32": 32, "u64": 64, "usize": 64, "uint8_t": 8, "uint16_t": 16, "uint32_t": 32, "uint64_t": 64,
+          "size_t": 64, "typst_status": 32}
+# The structs that cross, by their names in C, and where each stands in Rattle and in Rust.
+STRUCTS = {"typst_session": None, "typst_node_info": "NodeInfo", "typst_place": "Place", "typst_length": "Length",
+           "typst_range": "ByteRange", "typst_line_column": "LineColumn",
+           "typst_diagnostic": "Diagnostic", "typst_diagnostic_sizes": "DiagnosticSizes",
+           "typst_kind_info": "KindClasses", "typst_window": "Window", "typst_edited": "Edited"}
+# The rows of speed.c that have the work of a row of bench/speed.py: its operation, and how many steps its round has.
+BESIDE = {"all nodes by typst_preorder, a node": speed.over("", "preorder", "document", speed.HUNDRED_THOUSAND, 5),
+          "a node by its number": speed.Row("", f"find document {speed.HUNDRED_THOUSAND} 50000"),
+          "a leaf by one as long": speed.Row("", f"replace document {speed.HUNDRED_THOUSAND} 20000"),
+          "a letter in a text of 1,000 lines": speed.Row("", "letter 1000 1000", 2)}
+# The handle of an export is the session of a caller.
+HANDLE = ("session", POINTER)
+
+
+class Differs(Exception):
+    """What differs, or which step failed."""
+
+
+def code(folder, pattern):
+    """The code of these files, without comments."""
+    return "".join(re.sub(r"//.*", "", file.read_text()) for file in sorted(folder.glob(pattern)))
+
+
+def width(kind):
+    return POINTER if "*" in kind or kind.startswith("&") else WIDTHS.get(kind.strip(), kind.strip())
+
+
+def rattle_arguments(text):
+    """The arguments of an export as C passes them. A slice is a pointer and a number, which has no name of its own."""
+    arguments = []
+    for name, kind in re.findall(r"(\w+): ([^,]+)", text):
+        kind = kind.strip()
+        if kind == "&mut Handle":
+            arguments.append(HANDLE if name == "handle" else (name, POINTER))
+        elif kind != "Global":
+            arguments.append((name, width(kind)))
+            arguments += [(None, 64)] if "[" in kind else []
+    return arguments
+
+
+def exports():
+    found = re.findall(r'pub extern "C" fn (\w+)\((.*?)\)(?: -> (\w+))?', code(EXPORTS / "src", "*.rt"), re.S)
+    return {name: (rattle_arguments(text), width(result or "()")) for name, text, result in found}
+
+
+def declared(text):
+    """The functions that the header declares, without those that it defines."""
+    found = re.findall(r"^(typst_status|void) (\w+)\(([^)]*)\);", text, re.M)
+
+    def arguments(list_of):
+        parted = (re.match(r"(?:const )?(\w+) (\*?)(\w+)$", " ".join(one.split())) for one in list_of.split(","))
+        return [(it[3], width(it[1] + it[2])) for it in parted]
+
+    return {name: (arguments(list_of), width({"void": "()"}.get(result, result))) for result, name, list_of in found}
+
+
+def rust_declared(text):
+    found = re.findall(r"pub fn (\w+)\((.*?)\)(?: -> (\w+))?;", text, re.S)
+
+    def arguments(list_of):
+        return [(name, width(kind)) for name, kind in re.findall(r"(\w+): ([^,]+)", list_of)]
+
+    return {name: (arguments(list_of), width(result or "()")) for name, list_of, result in found}
+
+
+def without_free_names(wanted, told):
+    """The told arguments, without the names of numbers that have none in the export."""
+    arguments = [(None if wants[0] is None else has[0], has[1]) for wants, has in zip(wanted[0], told[0])]
+    return arguments + told[0][len(wanted[0]):], told[1]
+
+
+def compare(where, wanted, told):
+    differ = [f"{where} lacks {name}" for name in wanted if name not in told]
+    differ += [f"{where} has {name}, which is no export" for name in told if name not in wanted]
+    for name in wanted:
+        if name in told and without_free_names(wanted[name], told[name]) != wanted[name]:
+            differ.append(f"{where}: {name} is {told[name]}, and the export {wanted[name]}")
+    return differ
+
+
+def fields(text, opening, pattern):
+    body = re.search(opening + r"\s*\{(.*?)\n\}", text, re.S)
+    return re.findall(pattern, body[1]) if body else None
+
+
+def struct_differences(header, raw):
+    rattle = code(EXPORTS / "src", "*.rt") + code(TOP / "crates/typst_session/src", "*.rt")
+    differ = []
+    for name, rust_name in STRUCTS.items():
+        in_c = fields(header, f"typedef struct {name}", r"(\w+ \*?)(\w+(?:, \w+)*);")
+        in_c = [(one, width(kind.replace("typst_window", "Window").strip())) for kind, names in in_c or [] for one in names.split(", ")]
+        for where, text in [("Rattle", rattle), ("Rust", raw)]:
+            opening = f"pub struct {rust_name or ('Handle' if where == 'Rattle' else 'Session')}"
+            told = [(one, width(kind)) for one, kind in fields(text, opening, r"(\w+): ([^,{]+),") or []]
+            told = [(one, POINTER if kind == "At" else kind) for one, kind in told]
+            if told != in_c:
+                differ.append(f"{name} has {in_c} in C, and {told} in {where}")
+    return differ
+
+
+def status_differences(header):
+    """A status must say in C what its refusal says, and be the error of the same name in Rust."""
+    code_of = dict(re.findall(r"Refusal::(\w+) => (\d+),", REFUSALS.read_text()))
+    said = {code_of[name]: text for text, name in re.findall(r'#\[error\("(.*)"\)\]\n    (\w+),', REFUSALS.read_text())}
+    number_of = dict(re.findall(r"\b(TYPST_\w+) = (\d+)", header[: header.index("typedef struct typst_node_info")]))
+    texts = {number_of[name]: text for name, text in re.findall(r'case (\w+): return "(.*)";', header)}
+    told = {number: text for number, text in texts.items() if number not in OWN_STATUSES | {number_of["TYPST_NULL"]}}
+    errors = re.findall(r"(\d+) => Error::(\w+)", (RUST / "src/error.rs").read_text())
+    return ([f"the statuses of C say {told}, and the refusals {said}"] if told != said else []) + [
+        f"status {number} is {name} in Rust" for number, name in errors if code_of.get(name) != number]
+
+
+def compare_declarations():
+    wanted, text = exports(), re.sub(r"/\*.*?\*/", "", HEADER.read_text(), flags=re.S)
+    raw = re.sub(r"//.*", "", RAW.read_text())
+    if not wanted:
+        raise Differs("crates/typst_c has no exports")
+    differ = compare("typst.h", wanted, declared(text)) + compare("raw.rs", wanted, rust_declared(raw))
+    tries = set(re.findall(r"^static inline \w+ typst_try_(\w+)\(", text, re.M))
+    differ += [f"typst.h lacks typst_try_{name[6:]}" for name in wanted if name[6:] not in tries]
+    differ += struct_differences(text, raw) + status_differences(text)
+    if differ:
+        raise Differs("\n".join(differ))
+    return wanted
+
+
+def compare_archive(archive, wanted):
+    said = subprocess.run(["nm", "-g", "--defined-only", archive], capture_output=True, text=True, check=True).stdout
+    there = set(re.findall(r" T (typst_\w+)$", said, re.M))
+    if there != set(wanted):
+        raise Differs(f"the archive has {sorted(there ^ set(wanted))} or lacks them")
+
+
+def run(command, **more):
+    ran = subprocess.run([str(one) for one in command], capture_output=True, text=True, check=False, **more)
+    if ran.returncode:
+        raise Differs(f"{' '.join(map(str, command))} ends with {ran.returncode}:\n{ran.stdout[-3000:]}{ran.stderr[-6000:]}")
+    return ran.stdout
+
+
+def crate_over_proved(log, place):
+    """A copy of the crate of the exports, over the libraries that the run of `rt ci` with this log proves."""
+    proved_at = place / "proved"
+    proved_at.mkdir()
+    proved = Proved(log, proved_at)
+    if not proved.has(below(EXPORTS.name, needs_of(TOP))):
+        raise Differs(f"what {EXPORTS.name} stands on isn't proved")
+    crate = Room(TOP, EXPORTS.name, place / "room", 1, proved).crate
+    for part in ("specs", "proofs"):
+        shutil.copytree(EXPORTS / part, crate / part)
+    return crate
+
+
+def compare_printed(name, printed, wanted):
+    if printed != wanted.read_text():
+        raise Differs(f"{name} prints\n{printed}and should print\n{wanted.read_text()}")
+
+
+def programs_in_c(folder, archive, calls):
+    heap, model = C / "heap.c", C / "tests/model.c"
+    sources = {"editor": [C / "examples/editor.c", heap], "random": [C / "tests/random.c", model, heap],
+               "refuse": [C / "tests/refuse.c"]}
+    for name, files in sources.items():
+        run(["gcc", *STRICT, *SANITIZED, *files, archive, "-o", folder / name])
+    compare_printed("editor.c", run([folder / "editor"]), C / "examples/editor.stdout")
+    print(run([folder / "refuse"]), end="")
+    print(run([folder / "random", calls]), end="")
+    header = folder / "header.cc"
+    header.write_text('#include "typst.h"\n')
+    run(["g++", "-std=c++11", "-Wall", "-Wextra", "-Werror", f"-I{C}", "-fsyntax-only", header])
+
+
+def time_calls(folder, archive, turns):
+    """Prints the least time of each row of speed.c in some turns, and that of the same work in Rattle."""
+    optimized = ["-std=c11", "-D_POSIX_C_SOURCE=199309L", "-O2", "-Wall", "-Wextra", "-Werror", "-pedantic", f"-I{C}"]
+    run(["gcc", *optimized, C / "tests/speed.c", C / "heap.c", archive, "-o", folder / "speed"])
+    program = speed.proved()
+    rows = {}
+    for _ in range(turns):
+        for line in run([folder / "speed"]).splitlines():
+            name, _, told = line.rpartition(": ")
+            rows.setdefault(name, []).append(float(told))
+    print(speed.head(["A call from C", "ns", "in Rattle"]))
+    for name, times in rows.items():
+        inside = speed.timed(BESIDE[name], [program], turns)[0] if name in BESIDE else None
+        print(speed.lined([name, speed.digits(min(times)), speed.digits(min(inside)) if inside else ""]), flush=True)
+
+
+def run_scripts(program):
+    """Does each script of the vectors and of the examples, and compares what is printed, what is told and the status."""
+    count = 0
+    for script in (it for folder in SCRIPTS for it in sorted(folder.glob("*.script"))):
+        ran = subprocess.run([program], input=script.read_bytes(), capture_output=True, check=False)
+        beside = {it: script.with_suffix(f".{it}") for it in ("stdout", "stderr", "status")}
+        read = {it: file.read_bytes() if file.is_file() else b"" for it, file in beside.items()}
+        wanted = (read["stdout"], read["stderr"], int(read["status"] or 0))
+        if (ran.stdout, ran.stderr, ran.returncode) != wanted:
+            raise Differs(f"{script.name} gives {ran} by way of the Rust crate, and should give {wanted}")
+        count += 1
+    if not count:
+        raise Differs("there are no scripts")
+    print(f"{count} scripts done by way of the Rust crate")
+
+
+def crate_in_rust(folder, archive):
+    shutil.copy(archive, folder)
+    run(["gcc", "-O2", "-c", C / "heap.c", "-o", folder / "heap.o"])
+    run(["ar", "rcs", folder / "libtypst_heap.a", folder / "heap.o"])
+    more = {"cwd": RUST, "env": {**os.environ, "TYPST_C_DIR": str(folder), "CARGO_TARGET_DIR": str(folder / "target"),
+                                 "RUSTFLAGS": "-D warnings", "RUSTDOCFLAGS": "-D warnings"}}
+    run(["cargo", "test", "--offline", "--quiet"], **more)
+    for example in sorted(it for it in (RUST / "examples").glob("*.rs") if it.with_suffix(".stdout").is_file()):
+        printed = run(["cargo", "run", "--offline", "--quiet", "--example", example.stem], **more)
+        compare_printed(example.name, printed, example.with_suffix(".stdout"))
+    run(["cargo", "build", "--offline", "--quiet", "--example", "script"], **more)
+    run_scripts(folder / "target/debug/examples/script")
+    run(["cargo", "doc", "--offline", "--quiet", "--no-deps"], **more)
+    for lint in ["clippy", "fmt"]:
+        if subprocess.run(["cargo", lint, "--version"], capture_output=True, check=False).returncode:
+            print(f"cargo {lint} isn't there, so the Rust crate isn't judged by it")
+        else:
+            run(["cargo", lint, *({"clippy": ["--offline", "--quiet", "--all-targets"], "fmt": ["--check"]}[lint])], **more)
+
+
+def main():
+    parser = argparse.ArgumentParser(description=__doc__, formatter_class=argparse.RawDescriptionHelpFormatter)
+    parser.add_argument("--calls", type=int, default=1_000_000, help="how many calls are drawn at random")
+    parser.add_argument("--beside", metavar="LOG", help="build over what a run of rt ci proves")
+    parser.add_argument("--speed", action="store_true", help="time calls from C, and run nothing else")
+    parser.add_argument("--declared", action="store_true", help="compare what declares the functions, and build nothing")
+    asked = parser.parse_args()
+    try:
+        run([TOP / "bench/bindings.py", "--check"])
+        wanted = compare_declarations()
+        if asked.declared:
+            print(f"{len(wanted)} exports, declared in C and in Rust as they are")
+            return
+        with tempfile.TemporaryDirectory() as name:
+            folder = Path(name)
+            crate = crate_over_proved(asked.beside, folder) if asked.beside else EXPORTS
+            run(["rt", "lib"], cwd=crate)
+            archive = crate / ARCHIVE
+            compare_archive(archive, wanted)
+            if asked.speed:
+                time_calls(folder, archive, speed.TURNS)
+                return
+            if not shutil.which("gcc"):
+                print("gcc isn't there, so no program in C or Rust was run over the library")
+            else:
+                programs_in_c(folder, archive, asked.calls)
+                if shutil.which("cargo"):
+                    crate_in_rust(folder, archive)
+                else:
+                    print("cargo isn't there, so the Rust crate wasn't tested")
+    except Differs as differs:
+        print(differs)
+        sys.exit(1)
+    print(f"{len(wanted)} exports, declared in C and in Rust as they are")
+
+
+main()

@@ -1,0 +1,372 @@
+#!/usr/bin/env python3
+"""Runs the program behind ./show, and compares what it prints with what it must print.
+
+    bench/show.py [--program FILE]
+
+`bench/shown.py` works out what the program must print, apart from it, from trees that no program here made:
+
+- each text of crates/typst_agreement/data must give the tree next to it, with --plain and without, and turn into the
+  next text by an edit;
+- each tree of crates/typst_look whose views were asked must give with --views the answers that are written there;
+- `examples/letter.typ` with its edit, the program's own run, and a look with remarks must give what the small trees
+  below say, and the files with the wanted output must be the same;
+- each wrong input of the table below must give its message and status, and print nothing;
+- a page must have the text and the answers as text, even where they are markup.
+
+It runs the proved build, which `rt ci` and `rt run` make, or the given program.
+"""
+import re
+import subprocess
+import sys
+import tempfile
+from pathlib import Path
+
+import show_page
+import shown
+
+TOP = Path(__file__).resolve().parent.parent
+PAIRS = TOP / "crates/typst_agreement/data"
+PROGRAM = TOP / "crates/typst_show/out/typst_show"
+NEW_LINE = "\n"
+# How many paragraphs are put in at one place: the fifteenth finds its first window too narrow.
+TYPED = 16
+# A text of 13 bytes and 3 lines: `ä` takes two.
+TEXT = "= A\n\nHäuser"
+MOST_BYTES = 1 << 26
+FORMS = '; an edit is written 7..12 "text" or 2:5..2:9 "text"'
+BOUND = "which are the most that are shown"
+ENDS = "this ends with no tree: put `root` after the line that makes its last node"
+TOO_DEEP = f"the nodes nest in more than 1000 levels here, {BOUND}"
+NO_REMARK = "the newest node doesn't take this: only an error or a warning takes a hint, and a part A..B ends within the text and isn't empty"
+# A chain of 601 nodes, and a replacement that puts one below the leaf's parent in another.
+CHAIN = "leaf 6 a\n" + "inner 5 1\n" * 600
+DOWN = "replace " + ".".join(["0"] * 599) + " 0 1 1\n"
+
+# What is wrong, the words, the files that are there, standard error, and the status. A file of text.typ is always there.
+WRONG = [
+    ("no such file", ["none.typ"], {}, "none.typ: there is no such file", 1),
+    ("a folder", ["folder"], {}, "folder: this is a folder, and a file is needed", 1),
+    ("no UTF-8", ["a.typ"], {"a.typ": b"ab\xff"}, "a.typ: this isn't UTF-8 text: byte 2 begins no character", 1),
+    ("a character cut off", ["a.typ"], {"a.typ": b"a\xc3"}, "a.typ: this isn't UTF-8 text: byte 1 begins no character", 1),
+    ("a large text", ["a.typ"], {"a.typ": MOST_BYTES + 1}, f"a.typ: this has more than {MOST_BYTES} bytes, {BOUND}", 1),
+    ("no edits", ["text.typ", "--edits", "none"], {}, "none: there is no such file", 1),
+    ("twice standard input", ["-", "--edits", "-"], {}, "only one of the text and its edits can be standard input: name a file for the other", 2),
+    ("an edit behind the text", "1..99 \"\"", {}, "e:1: the edit ends at byte 99, and the text has only 12 bytes", 2),
+    ("an edit within a character", "7..12 \"\"", {}, "e:1: the edit starts at byte 7, which is within the character of the bytes 6..8", 2),
+    ("an edit backwards", "5..3 \"\"", {}, "e:1: the edit ends at byte 3, before it starts, at byte 5", 2),
+    ("no such line", "\n9:1..9:1 \"\"", {}, "e:2: the edit starts in line 9, and the text has only 3 lines", 2),
+    ("no such column", "3:1..3:9 \"\"", {}, "e:1: the edit ends at 3:9, and line 3 has only 6 characters", 2),
+    ("no range", "x", {}, "e:1:1: expected a byte, or a line and a column" + FORMS, 2),
+    ("no end", "1 \"\"", {}, "e:1:2: expected `..`" + FORMS, 2),
+    ("two kinds of places", "1:1..3 \"\"", {}, "e:1:7: expected `:` and a column" + FORMS, 2),
+    ("line 0", "0:1..1:1 \"\"", {}, "e:1:1: expected a line from 1" + FORMS, 2),
+    ("no text", "1..2", {}, "e:1:5: expected a blank" + FORMS, 2),
+    ("no quotes", "1..2 ab", {}, "e:1:6: expected a text in quotes" + FORMS, 2),
+    ("no closing quote", "1..2 \"ab", {}, "e:1:9: expected a closing quote" + FORMS, 2),
+    ("an unknown escape", "1..2 \"\\x\"", {}, "e:1:8: expected one of the escapes n, r, t, 0, \\, \", ' and u{..}" + FORMS, 2),
+    ("no character", "1..2 \"\\u{d800}\"", {}, "e:1:9: expected the hexadecimal digits of a character in braces" + FORMS, 2),
+    ("more behind the quotes", "1..2 \"\" ", {}, "e:1:8: expected the end of the line" + FORMS, 2),
+    ("a number too large", "99999999999999999999..1 \"\"", {}, "e:1:1: expected a byte, or a line and a column" + FORMS, 2),
+    ("a page into a folder", ["text.typ", "--page", "folder"], {}, "folder: this is a folder, and a file is needed", 1),
+    ("no FILE", [], {}, re.compile(r"error: the following required arguments were not provided:\n  <FILE>\n"), 2),
+    ("no look", ["none.look"], {}, "none.look: there is no such file", 1),
+    ("edits of a script", ["a.script", "--edits", "e"], {"a.script": "leaf 6 a\nroot\n", "e": ""}, "a.script: --edits edits a text, and a script builds a tree: let its own lines `replace` and `run` edit it", 2),
+    ("an empty script", ["a.script"], {"a.script": ""}, f"a.script: {ENDS}", 2),
+    ("a script with no root", ["a.script"], {"a.script": "leaf 6 a\n"}, f"a.script: {ENDS}", 2),
+    ("a script with an unknown word", ["a.script"], {"a.script": "leaf 6 a\ntree\n"}, "a.script:2: no line begins with this word: docs/SCRIPT.md lists those that do", 2),
+    ("a look with an unknown word", ["a.look"], {"a.look": "trees 1\n"}, "a.look:1: no line begins with this word: docs/LOOK.md lists those that do", 2),
+    ("a remark in a script", ["a.script"], {"a.script": "leaf 6 a\nhint x\n"}, "a.script:2: no line begins with this word: docs/SCRIPT.md lists those that do", 2),
+    ("a kind of errors", ["a.script"], {"a.script": "\nleaf 1 a\n"}, "a.script:2: expected `leaf K TEXT` with a kind from 0 to 136 but 1, and a blank before the text, as in `leaf 6 ab`", 2),
+    ("no tab", ["a.script"], {"a.script": "error a b\n"}, "a.script:1: expected `error MESSAGE<tab>TEXT` with a tab between message and text, as in `error wrong<tab>ab`", 2),
+    ("no numbers", ["a.look"], {"a.look": "warnat 1 x\n"}, "a.look:1: expected `warnat A B MESSAGE` with two bytes, as in `warnat 0 2 careful`", 2),
+    ("too few nodes", ["a.script"], {"a.script": "leaf 6 a\ninner 5 2\n"}, "a.script:2: this takes 2 nodes of the stack, and 1 are there: push them before", 2),
+    ("several nodes at the root", ["a.script"], {"a.script": "leaf 6 a\nleaf 6 b\nroot\n"}, "a.script:3: `root` takes the only node of the stack, and 2 are there: put `inner K 2` before", 2),
+    ("no node at the root", ["a.script"], {"a.script": "root\n"}, "a.script:1: this takes 1 nodes of the stack, and 0 are there: push them before", 2),
+    ("no tree to number", ["a.script"], {"a.script": "number 1 2 9\n"}, "a.script:1: there is no tree yet: put `root` before", 2),
+    ("a run without numbers", ["a.script"], {"a.script": "leaf 6 a\nroot\nrun\n"}, "a.script:3: the tree isn't numbered yet: put `number 1 2 140737488355328` before", 2),
+    ("a carriage return", ["a.script"], {"a.script": "leaf 6 a\ninner 5 1\r\n"}, "a.script:2: a carriage return ends this line, and a line feed alone may: take the carriage returns out", 2),
+    ("a hint on a text", ["a.look"], {"a.look": "leaf 6 a\nhint x\n"}, f"a.look:2: {NO_REMARK}", 2),
+    ("a warning about too much", ["a.look"], {"a.look": "leaf 6 a\nwarnat 0 2 x\n"}, f"a.look:2: {NO_REMARK}", 2),
+    ("a script that nests", ["a.script"], {"a.script": "leaf 6 a\n" + "inner 5 1\n" * 1000 + "root\n"}, f"a.script:1001: {TOO_DEEP}", 2),
+    ("a look that nests warnings", ["a.look"], {"a.look": "leaf 6 a\n" + "warnat 0 1 b\n" * 1000}, f"a.look:1001: {TOO_DEEP}", 2),
+    ("edits that nest", ["a.script"], {"a.script": CHAIN + "root\nnumber 1 2 140737488355328\n" + CHAIN + DOWN}, f"a.script:1205: {TOO_DEEP}", 2),
+    ("an unknown word", ["text.typ", "--trees"], {}, re.compile(r"error: unexpected argument '--trees' found\n"), 2),
+    ("trees of two kinds", ["text.typ", "--plain", "--views"], {}, re.compile(r"error: the argument '--plain' cannot be used with '--views'\n"), 2),
+    ("words that conflict", ["text.typ", "--plain", "--page", "x"], {}, re.compile(r"error: the argument '--plain' cannot be used with '--page <OUT.html>'\n"), 2),
+]
+
+
+def run(program, words, room, given=b""):
+    return subprocess.run([program, *words], cwd=room, input=given, capture_output=True, check=False)
+
+
+def fill(room, files):
+    """Writes the files: bytes, text, or so many bytes of a file that takes no room."""
+    for name, what in files.items():
+        path = Path(room, name)
+        if isinstance(what, int):
+            with path.open("wb") as it:
+                it.truncate(what)
+        else:
+            path.write_bytes(what if isinstance(what, bytes) else what.encode())
+
+
+def told_wrong(program, what, words, files, message, status):
+    """What differs where an input is wrong. Words that are a text are the edits of text.typ."""
+    if isinstance(words, str):
+        words, files = ["text.typ", "--edits", "e"], {"e": words}
+    with tempfile.TemporaryDirectory() as room:
+        Path(room, "folder").mkdir()
+        fill(room, {"text.typ": TEXT} | files)
+        ran = run(program, words, room)
+    said = ran.stderr.decode()
+    is_said = said == message + "\n" if isinstance(message, str) else message.match(said)
+    wrong = [] if is_said else [f"{what}: standard error is {said!r}, and should be {message!r}"]
+    # The tree of the text stands before an edit that doesn't fit it.
+    is_edit = "--edits" in words and isinstance(message, str) and ": the edit " in message
+    if ran.stdout and not is_edit:
+        wrong.append(f"{what}: it prints {ran.stdout[:80]!r}")
+    if ran.returncode != status:
+        wrong.append(f"{what}: the status is {ran.returncode}, and should be {status}")
+    return wrong
+
+
+def tree_beside(text):
+    return shown.numbered(shown.tree_of(text.with_suffix(".tree").read_bytes().decode()))
+
+
+def differing_pairs(program):
+    """What differs where texts are shown, plainly and not."""
+    wrong = []
+    for text in sorted(PAIRS.glob("*.typ")):
+        plain = text.with_suffix(".tree").read_bytes()
+        drawing = shown.printed(tree_beside(text), text.name).encode()
+        piped = shown.printed(tree_beside(text), "-").encode()
+        for words, given, wanted in (
+            ([text.name, "--plain"], b"", plain),
+            (["-", "--plain"], text.read_bytes(), plain),
+            ([text.name], b"", drawing),
+            (["-"], text.read_bytes(), piped),
+        ):
+            ran = run(program, words, PAIRS, given)
+            if (ran.stdout, ran.stderr, ran.returncode) != (wanted, b"", 0):
+                wrong.append(f"{text.name}: {' '.join(words)} gives another tree, or ends with {ran.returncode}: {ran.stderr!r}")
+    return wrong
+
+
+def differing_edits(program):
+    """What differs where each text becomes the next one by an edit."""
+    wrong = []
+    texts = sorted(PAIRS.glob("*.typ"))
+    for text, other in zip(texts, texts[1:] + texts[:1]):
+        old, new = tree_beside(text), tree_beside(other)
+        edit = f"0..{old.end} {shown.beginning(new.characters())}"
+        wanted = shown.printed(old, text.name)
+        wanted += shown.printed_edit(edit, old, new, range(new.end), text.name)
+        ran = run(program, [text.name, "--edits", "-"], PAIRS, edit.encode())
+        if (ran.stdout.decode(), ran.stderr, ran.returncode) != (wanted, b"", 0):
+            wrong.append(f"{text.name}: the edit to {other.name} gives another output, or ends with {ran.returncode}: {ran.stderr!r}")
+    return wrong
+
+
+def differing_views(program):
+    """What differs where the trees of looks are shown with what their views answer, and how many there are."""
+    wrong, count = [], 0
+    form_of, kind_of = shown.forms(), shown.kinds()
+    with tempfile.TemporaryDirectory() as room:
+        for name, lines, answers in shown.looks():
+            root = shown.built(lines, kind_of)
+            wanted = shown.drawn(root, shown.answers_of(root, answers, form_of))
+            Path(room, "a.look").write_bytes("\n".join(lines).encode(errors="surrogateescape"))
+            ran = run(program, ["a.look", "--views"], room)
+            got = ran.stdout.decode().partition("\n\n")[0].rstrip("\n").split("\n")
+            count += 1
+            page = show_page.Page(run(program, ["a.look", "--page", "-"], room).stdout.decode())
+            told = page.wrong + show_page.differing_step(page.steps[0], 0, root, shown.answers_of(root, answers, form_of))
+            wrong += [f"look {name}: its page has {it}" for it in told]
+            if got != wanted or ran.stderr or ran.returncode:
+                wrong.append(f"look {name}: --views gives {first_other(got, wanted)}, or ends with {ran.returncode}: {ran.stderr!r}")
+    return wrong, count
+
+
+def first_other(got, wanted):
+    """The first line that differs."""
+    pairs = [(ours, theirs) for ours, theirs in zip(got, wanted) if ours != theirs]
+    return f"{pairs[0][0]!r}, and should give {pairs[0][1]!r}" if pairs else f"{len(got)} lines, and should give {len(wanted)}"
+
+
+def differing_pages(program):
+    """What differs in the pages of texts, each with the edit that makes the next one of it."""
+    wrong = []
+    texts = sorted(PAIRS.glob("*.typ"))
+    for text, other in zip(texts, texts[1:] + texts[:1]):
+        old, new = tree_beside(text), tree_beside(other)
+        edit = f"0..{old.end} {shown.beginning(new.characters())}"
+        ran = run(program, [text.name, "--edits", "-", "--page", "-"], PAIRS, edit.encode())
+        page = show_page.Page(ran.stdout.decode())
+        told = [*page.wrong, *([] if not ran.returncode else [f"status {ran.returncode}, {ran.stderr!r}"])]
+        windows = shown.edited(old, new, range(len(old.children)), range(len(new.children)))
+        if len(page.steps) == 2:
+            told += show_page.differing_step(page.steps[0], 0, old) + show_page.differing_step(page.steps[1], 1, new)
+            told += show_page.differing_drawing(page.steps[1], new, windows[-1], windows)
+        else:
+            told.append(f"{len(page.steps)} steps")
+        if page.title != shown.told_of(edit, new, range(new.end), windows):
+            told.append(f"the title {page.title!r}")
+        wrong += [f"the page of {text.name} has {it}" for it in told]
+    return wrong
+
+
+def typed():
+    """Paragraphs that come in at one place, one by one, until a window is too narrow: each tree with what made it."""
+    paragraph = '  Text "a"\n  Parbreak "\\n\\n"\n'
+    tree, steps = shown.numbered(shown.tree_of("Markup\n" + 2 * paragraph)), []
+    for count in range(TYPED):
+        new = shown.tree_of("Markup\n" + (3 + count) * paragraph)
+        new.place()
+        # The block before the place is parsed anew, up to the end of the block that comes in.
+        steps.append((new, shown.edited(tree, new, range(2), range(4))))
+        tree = new
+    return steps
+
+
+def differing_typing(program):
+    """What differs where a window has no room, so that several are tried."""
+    steps = typed()
+    edit = '3..3 "a\\n\\n"'
+    titles = [shown.told_of(edit, new, range(6), windows, at + 1) for at, (new, windows) in enumerate(steps)]
+    with tempfile.TemporaryDirectory() as room:
+        fill(room, {"a.typ": "a\n\na\n\n", "e": f"{edit}\n" * TYPED})
+        printed = run(program, ["a.typ", "--edits", "e"], room).stdout.decode()
+        page = show_page.Page(run(program, ["a.typ", "--edits", "e", "--page", "-"], room).stdout.decode())
+    told = [] if max(len(windows) for _, windows in steps) > 1 else ["each first window has room"]
+    wanted = "".join(f"\n{title}\n\n{shown.printed(new, 'a.typ')}" for title, (new, _) in zip(titles, steps))
+    if not printed.endswith(wanted) or len(page.steps) != TYPED + 1:
+        told.append(f"{printed!r} with {len(page.steps)} steps, and should end with {wanted!r}")
+    for at, (step, (new, windows)) in enumerate(zip(page.steps[1:], steps)):
+        told += show_page.differing_step(step, at + 1, new) + show_page.differing_drawing(step, new, windows[-1], windows)
+        told += [] if step["title"] == titles[at] else [f"the title {step['title']!r}"]
+    return [f"typing has {it}" for it in told]
+
+
+def escaped(program):
+    """Whether markup in a text, in its name and in an edit is text in a page."""
+    markup = "<script>alert(1)</script> & \"'\0\n"
+    with tempfile.TemporaryDirectory() as room:
+        fill(room, {"<b>.typ": markup, "e": '0..0 "<i>"\n'})
+        ran = run(program, ["<b>.typ", "--edits", "e", "--page", "-"], room)
+    written = ran.stdout.decode()
+    page = show_page.Page(written)
+    texts = [step["text"] for step in page.steps]
+    wanted = [show_page.signed(markup), show_page.signed("<i>" + markup)]
+    wrong = [f"a page of markup has {it}" for it in page.wrong]
+    if texts != wanted or ran.returncode or ran.stderr:
+        wrong.append(f"a page of markup has the texts {texts!r}; status {ran.returncode}, {ran.stderr!r}")
+    count, outside = show_page.scripts_in(written)
+    if count != 1 or outside or "\0" in written or "&lt;b&gt;.typ" not in written:
+        wrong.append(f"a page of markup has {count} scripts, another's file ({outside}), a byte 0, or another name")
+    return wrong
+
+
+# The trees of examples/letter.typ, before its edit and after, and of the program's own run: by the rules of docs/MARKUP.md, by hand.
+BEFORE = """\
+Markup
+  Heading
+    HeadingMarker "="
+    Space " "
+    Markup
+      Text "Trees"
+  Parbreak "\\n\\n"
+  Text "See"
+  Space " "
+"""
+LETTER = f"""{BEFORE}\
+  Strong
+    Error "*": unclosed delimiter
+    Markup
+      Text "this tree."
+  Space "\\n"
+"""
+CLOSED = f"""{BEFORE}\
+  Strong
+    Star "*"
+    Markup
+      Text "this tree"
+    Star "*"
+  Text "."
+  Space "\\n"
+"""
+OWN = """\
+Markup
+  Strong
+    Error "*": unclosed delimiter
+    Markup
+      Text "Not closed,"
+      Space " "
+      Error "`raw\\n": unclosed raw text
+"""
+# The block that the edit of the letter is in, behind the paragraph break.
+PARSED = range(9, 26)
+# Remarks, and what is printed of them below the tree.
+REMARKS = "leaf 6 a\tb\nwarnat 1 2 odd\nhint write less\nerror wrong\t日本\nhintat 0 3 here\nhint there\ninner 5 2\nroot\n"
+REMARKED = """
+error: wrong
+ --> a.look:1:4
+  |
+1 | a    b日本
+  |       ^^^^
+  = hint: here
+  = hint: there
+
+warning: odd
+ --> a.look:1:2
+  |
+1 | a    b日本
+  |  ^^^^
+  = hint: write less
+"""
+
+
+def letter_of(edit):
+    """What the example prints, where its edit is written like this."""
+    old, new = shown.numbered(shown.tree_of(LETTER)), shown.numbered(shown.tree_of(CLOSED))
+    first = shown.printed(old, "examples/letter.typ")
+    return first + shown.printed_edit(edit, old, new, PARSED, "examples/letter.typ")
+
+
+def examples(program):
+    """What differs at the example, where its edit is written in bytes, at the program's own run, and at remarks."""
+    by_column, in_bytes = letter_of('3:15..3:15 "*"'), letter_of('23..23 "*"')
+    own = shown.printed(shown.numbered(shown.tree_of(OWN)), "-")
+    remarked = shown.numbered(shown.built(REMARKS.split("\n"), shown.kinds()))
+    with tempfile.TemporaryDirectory() as room:
+        fill(room, {"a.look": REMARKS})
+        look = run(program, ["a.look"], room).stdout.decode()
+    letter = ["examples/letter.typ", "--edits"]
+    compared = [
+        ("examples/letter.stdout", (TOP / "examples/letter.stdout").read_text(), by_column),
+        ("examples/letter.typ", run(program, [*letter, "examples/letter.edits"], TOP).stdout.decode(), by_column),
+        ("an edit in bytes", run(program, [*letter, "-"], TOP, b'23..23 "\\u{2a}"\n').stdout.decode(), in_bytes),
+        ("crates/typst_show/stdout", (TOP / "crates/typst_show/stdout").read_text(), own),
+        ("a look with remarks", look, "\n".join(shown.drawn(remarked)) + "\n" + REMARKED),
+    ]
+    return [f"{name}: {first_other(got.split(NEW_LINE), wanted.split(NEW_LINE))}" for name, got, wanted in compared if got != wanted]
+
+
+def main():
+    program = Path(sys.argv[2]).resolve() if sys.argv[1:2] == ["--program"] else PROGRAM
+    if not program.exists():
+        print(f"{program} isn't there: rt run in crates/typst_show makes it")
+        return 1
+    wrong = [line for row in WRONG for line in told_wrong(program, *row)]
+    different, views = differing_views(program)
+    wrong += differing_pairs(program) + differing_edits(program) + different
+    wrong += differing_pages(program) + differing_typing(program) + escaped(program) + examples(program)
+    pairs = len(list(PAIRS.glob("*.typ")))
+    counts = f"{pairs} texts with their trees and edits, {views} trees with their answers, {len(WRONG)} wrong inputs"
+    print("\n".join([*wrong, f"{counts}, {len(wrong)} differences"]))
+    return 1 if wrong else 0
+
+
+if __name__ == "__main__":
+    sys.exit(main())

@@ -1,0 +1,162 @@
+"""Reads a page of ./show as a browser does, and compares it with what bench/shown.py works out."""
+import re
+from html.parser import HTMLParser
+
+import shown
+
+# How many characters of a node's text stand beside it, and how many children are drawn beside a window and in all.
+NODE_CHARS, BESIDE, MOST = 48, 2, 60
+# The width of a child's place in the drawing of numbers, and where the first one begins.
+WIDTH, LEFT = 130, 10
+# The elements of a page, and those that have no end.
+KNOWN = "html head meta title style body h1 h2 p div pre span details summary code ul li b br svg line circle text rect script".split()
+VOID = {"meta", "br", "line", "circle", "rect"}
+
+
+class Page(HTMLParser):
+    """The steps of a page: of each its title, its text, its nodes, its reports, and the shapes of its drawing."""
+
+    def __init__(self, page):
+        super().__init__()
+        self.steps, self.title, self.open, self.wrong = [], None, [], []
+        self.feed(page)
+        self.close()
+        if self.open:
+            self.wrong.append(f"{self.open} don't end")
+
+    def handle_starttag(self, tag, attrs):
+        attrs = dict(attrs)
+        if tag not in KNOWN or any(it.startswith("on") for it in attrs):
+            self.wrong.append(f"<{tag} {attrs}> is of the text")
+        classes = (attrs.get("class") or "").split()
+        if tag == "h2":
+            self.title = ""
+        elif "numbers" in classes or ("pair" in classes and (not self.steps or self.steps[-1]["nodes"] is not None)):
+            self.steps.append({"title": self.title, "text": "", "nodes": None, "reports": [], "shapes": []})
+        if "pair" in classes:
+            self.steps[-1]["nodes"] = []
+        step = self.steps[-1] if self.steps else None
+        if tag == "details":
+            step["nodes"].append({"classes": classes, "summary": "", "items": [], **attrs})
+        elif tag == "li" and "details" in self.open:
+            step["nodes"][-1]["items"].append("")
+        elif tag == "li":
+            step["reports"].append("")
+        elif tag in ("circle", "rect", "text"):
+            step["shapes"].append({"tag": tag, "told": "", **attrs})
+        if tag not in VOID:
+            self.open.append(tag)
+
+    def handle_endtag(self, tag):
+        if tag in VOID:
+            return
+        if not self.open or self.open.pop() != tag:
+            self.wrong.append(f"</{tag}> ends nothing")
+
+    def handle_data(self, data):
+        within = self.open
+        if "h2" in within:
+            self.title += data
+        elif "pre" in within:
+            self.steps[-1]["text"] += data
+        elif "summary" in within:
+            self.steps[-1]["nodes"][-1]["summary"] += data
+        elif "li" in within and "details" in within:
+            self.steps[-1]["nodes"][-1]["items"][-1] += data
+        elif "li" in within:
+            self.steps[-1]["reports"][-1] += data
+        elif "text" in within:
+            self.steps[-1]["shapes"][-1]["told"] += data
+
+
+def signed(text):
+    """A text with the signs that stand for its control characters."""
+
+    def sign(char):
+        code = ord(char)
+        if char in "\t\n" or not (code < 0x20 or 0x7F <= code < 0xA0):
+            return char
+        return chr(0x2400 + code) if code < 0x20 else "\u2421" if code == 0x7F else "\ufffd"
+
+    return "".join(map(sign, text))
+
+
+def nodes_of(root, step, answers=None):
+    """What a page must tell of each node, with its answers where they are given."""
+    found, ids = [], {}
+    for index, (path, node) in enumerate(root.preorder()):
+        ids[path] = f"s{step}n{index}"
+        told = f"{node.kind} {node.start}..{node.end} #{node.number}  {shown.beginning(node.characters(), NODE_CHARS)}"
+        place = f"at {'.'.join(map(str, path)) or '-'}, bound {node.upper}"
+        items = [place, *map(signed, answers.get(path, []))] if answers is not None else [place]
+        found.append((ids[path], ids.get(path[:-1]) if path else None, node.is_new, told, items))
+    return found
+
+
+def differing_nodes(step, number, root, answers=None):
+    got = []
+    for it in step["nodes"]:
+        items = it["items"] if answers is not None else it["items"][:1]
+        got.append((it["id"], it.get("data-parent"), "new" in it["classes"], it["summary"].rstrip("\n"), [i.rstrip("\n") for i in items]))
+    wanted = nodes_of(root, number, answers)
+    return [f"{ours}, and should have {theirs}" for ours, theirs in zip(got, wanted) if ours != theirs][:1] + (
+        [f"{len(got)} nodes, and should have {len(wanted)}"] if len(got) != len(wanted) else []
+    )
+
+
+def reported(root):
+    """The errors that a page tells, without hints."""
+    found = []
+    for line in shown.reports(root, ""):
+        if line.startswith("error: "):
+            found.append(["error", "", line[len("error: ") :]])
+        elif "--> " in line:
+            found[-1][1] = line.partition("--> :")[2]
+    return [signed(" ".join(it)) for it in found]
+
+
+def drawing_of(new, window, windows):
+    """The children that are drawn with their numbers, and the windows that were tried, as ranges of children."""
+    first = max(window.start - BESIDE, 0)
+    drawn = range(first, min(window.stop + BESIDE, len(new.children), first + MOST))
+    children = [(new.children[at].kind, str(new.children[at].number), new.children[at].is_new) for at in drawn]
+    within = [range(max(it.start, drawn.start), min(it.stop, drawn.stop)) for it in windows]
+    return children, [(it.start - first, max(it.stop - it.start, 0)) for it in within]
+
+
+def drawn_in(step):
+    """The same, as a page draws it."""
+    shapes = step["shapes"]
+    circles = [it for it in shapes if it["tag"] == "circle"]
+    texts = [it["told"] for it in shapes if it["tag"] == "text"]
+    named = texts[: 2 * len(circles)]
+    children = [(kind, number, "new" in it["fill"]) for it, kind, number in zip(circles, named[::2], named[1::2])]
+    rects = [it for it in shapes if it["tag"] == "rect"]
+    windows = [((int(it["x"]) - LEFT) // WIDTH, int(it["width"]) // WIDTH) for it in rects]
+    return children, windows, texts[2 * len(circles) :]
+
+
+def differing_drawing(step, new, window, windows):
+    children, ranges = drawing_of(new, window, windows)
+    told = [f"window {at + 1}: {'room' if at + 1 == len(windows) else 'no room'}" for at in range(len(windows))]
+    got = drawn_in(step)
+    # A window of no children has no width, and its place is no child's.
+    clear = lambda all_: [(x if size else None, size) for x, size in all_]
+    wanted = (children, clear(ranges), told)
+    got = (got[0], clear(got[1]), got[2])
+    return [] if got == wanted else [f"the drawing {got}, and should have {wanted}"]
+
+
+def differing_step(step, number, root, answers=None):
+    """What differs between a step and a tree."""
+    wrong = differing_nodes(step, number, root, answers)
+    if step["text"] != signed(root.text()):
+        wrong.append(f"the text {step['text']!r}, and should have {signed(root.text())!r}")
+    if answers is None and [it.rstrip("\n") for it in step["reports"]] != reported(root):
+        wrong.append(f"the reports {step['reports']}, and should have {reported(root)}")
+    return wrong
+
+
+def scripts_in(page):
+    """How many scripts a page has, and whether something is read from elsewhere."""
+    return len(re.findall(r"<script", page)), re.search(r"(src|href)=|url\(|@import|https?://", re.sub(r"<(span|code)[^>]*>.*?</\1>", "", page, flags=re.S))

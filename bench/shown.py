@@ -1,0 +1,372 @@
+"""What ./show must print, worked out apart from it: from plain trees, by the rules of docs/SHOW.md and docs/LOOK.md.
+
+A plain tree comes from a `.tree` file or from the lines of a look. The numbers are those of typst-syntax's `numberize`
+and `replace_children`. Their rules are written here again.
+"""
+import re
+import unicodedata
+from pathlib import Path
+
+TOP = Path(__file__).resolve().parent.parent
+NUMBERS = (2, 1 << 47)
+# How many characters of an inner node's text are shown, and of a text and how many entries of a list in an answer.
+INNER_CHARS, ANSWER_CHARS, ANSWER_ENTRIES = 32, 60, 8
+# How many characters of a line stand before a part, in it and behind it.
+BEFORE, WITHIN, BEHIND = 60, 60, 40
+CHARACTER = re.compile(r"\\u\{([0-9a-f]+)\}|\\(.)|(.)", re.S)
+ESCAPES = {"n": "\n", "r": "\r", "t": "\t", "0": "\0"}
+SHORT = {"\n": "\\n", "\r": "\\r", "\t": "\\t", "\0": "\\0", '"': '\\"', "\\": "\\\\"}
+
+
+class Node:
+    """A node with the characters of its own text, each as it is and as it is quoted. An inner node has a list of children."""
+
+    def __init__(self, kind, characters=None, children=None, message=None):
+        self.kind, self.own, self.children, self.message = kind, characters, children, message
+        self.number = self.upper = 0
+        self.start = self.end = 0
+        self.is_new = False
+
+    def characters(self):
+        if self.children is None:
+            return self.own
+        return [it for child in self.children for it in child.characters()]
+
+    def text(self):
+        return "".join(it for it, _ in self.characters())
+
+    def count(self):
+        return 1 + sum(child.count() for child in self.children or [])
+
+    def place(self, start=0):
+        """Sets the bytes of all nodes."""
+        self.start = self.end = start
+        if self.children is None:
+            self.end += len(self.text().encode())
+        for child in self.children or []:
+            self.end = child.place(self.end)
+        return self.end
+
+    def preorder(self, path=()):
+        yield path, self
+        for index, child in enumerate(self.children or []):
+            yield from child.preorder((*path, index))
+
+    def is_like(self, other):
+        """Whether both are the same but for their numbers."""
+        if (self.kind, self.own, self.message) != (other.kind, other.own, other.message):
+            return False
+        return are_alike(self.children, other.children)
+
+
+def are_alike(some, others):
+    if some is None or others is None:
+        return some is others
+    return len(some) == len(others) and all(a.is_like(b) for a, b in zip(some, others))
+
+
+def unquoted(quoted):
+    """The characters of a text in quotes, each with the form that it has there."""
+    found = []
+    for it in CHARACTER.finditer(quoted):
+        code, escaped, plain = it.groups()
+        char = chr(int(code, 16)) if code else ESCAPES.get(escaped, escaped) if escaped else plain
+        found.append((char, it.group()))
+    return found
+
+
+def quoted_of(text):
+    """The characters of a text, each with the form in which `{:?}` prints it."""
+    return [(char, SHORT.get(char) or (char if is_printed(char) else f"\\u{{{ord(char):x}}}")) for char in text]
+
+
+def is_printed(char):
+    return char == " " or unicodedata.category(char) not in ("Cc", "Cf", "Cs", "Co", "Cn", "Zl", "Zp", "Zs", "Mn", "Me")
+
+
+def tree_of(lines):
+    """The tree that lines of kinds and texts tell, two blanks a level."""
+    above = []
+    for line in lines.splitlines():
+        depth = (len(line) - len(line.lstrip(" "))) // 2
+        kind, _, rest = line.strip(" ").partition(" ")
+        # An error's text is in quotes, with its message behind them.
+        quoted = re.match(r'"((?:\\.|[^"\\])*)"(?:: (.*))?$', rest, re.S)
+        node = Node(kind, unquoted(quoted[1]), message=quoted[2]) if quoted else Node(kind, children=[])
+        del above[depth:]
+        if above:
+            above[-1].children.append(node)
+        above.append(node)
+    return above[0]
+
+
+def spread(node, low, high):
+    """Numbers a tree within a range. False where there are fewer numbers than nodes."""
+    if node.children is None:
+        node.number, node.upper = (low + high) // 2, (low + high) // 2 + 1
+        return low < high
+    space, count = high - low, node.count()
+    stride = space // (2 * count) or space // count
+    if space <= 0 or stride == 0:
+        return False
+    node.number, node.upper = (low + low + stride) // 2, high
+    return spread_all(node.children, low + stride, stride)
+
+
+def spread_all(nodes, start, stride):
+    for node in nodes:
+        end = start + node.count() * stride
+        if not spread(node, start, end):
+            return False
+        start = end
+    return True
+
+
+def edited(old, new, old_parsed, new_parsed):
+    """Numbers the new tree after an edit of the old one, whose children with these indices gave way to the new one's with those.
+    Answers the windows that were tried, the last of which had room."""
+    first, last = old_parsed.start, 0
+    while first < min(old_parsed.stop, new_parsed.stop) and old.children[first].is_like(new.children[first]):
+        first += 1
+    left = min(old_parsed.stop, new_parsed.stop) - first
+    while last < left and old.children[old_parsed.stop - 1 - last].is_like(new.children[new_parsed.stop - 1 - last]):
+        last += 1
+    end = new_parsed.stop - last
+    kept = len(new.children) - end
+    new.number, new.upper = old.number, old.upper
+    for ours, theirs in [*zip(new.children[:first], old.children), *zip(new.children[end:], old.children[len(old.children) - kept :])]:
+        keep(ours, theirs)
+    return widened(new, first, end)
+
+
+def keep(ours, theirs):
+    for (_, ours_), (_, theirs_) in zip(ours.preorder(), theirs.preorder()):
+        ours_.number, ours_.upper = theirs_.number, theirs_.upper
+
+
+def widened(new, first, end):
+    """Numbers the children in the first window round first..end that has room: for twice its nodes, or for all nodes of the tree."""
+    reach, tried = 0, []
+    while True:
+        start, stop = max(first - reach, 0), min(end + reach, len(new.children))
+        low = new.children[start - 1].upper if start else new.number + 1
+        high = new.children[stop].number if stop < len(new.children) else new.upper
+        tried.append(range(start, stop))
+        count = sum(child.count() for child in new.children[start:stop])
+        stride = ((high - low) // (2 * count) or (high - low) // new.count()) if count else 1
+        if stride and (not count or spread_all(new.children[start:stop], low, stride)):
+            for child in new.children[start:stop]:
+                for _, node in child.preorder():
+                    node.is_new = True
+            return tried
+        reach = 2 * reach or 1
+
+
+def beginning(characters, most=1 << 32):
+    """Characters in quotes, so many at most."""
+    return '"' + "".join(form for _, form in characters[:most]) + '"' + "…" * (len(characters) > most)
+
+
+def drawn(root, answers=None):
+    """The lines of a tree, with the answers for a path below the node's line where they are given."""
+    lines = []
+
+    def draw(node, path, before, branch, beside):
+        most = len(node.characters()) if node.children is None else INNER_CHARS
+        new = " new" * node.is_new
+        told = f"{node.kind} {node.start}..{node.end} #{node.number}{new}  {beginning(node.characters(), most)}"
+        lines.append(before + branch + told)
+        inside = before + beside
+        for answer in (answers or {}).get(path, []):
+            lines.append(inside + ("│  " if node.children else "   ") + answer)
+        for index, child in enumerate(node.children or []):
+            is_last = index + 1 == len(node.children)
+            draw(child, (*path, index), inside, "└─ " if is_last else "├─ ", "   " if is_last else "│  ")
+
+    draw(root, (), "", "", "")
+    return lines
+
+
+def width(text):
+    """How many columns of a terminal a text takes."""
+
+    def of(char):
+        if unicodedata.category(char) in ("Mn", "Me", "Cf"):
+            return 0
+        return 2 if unicodedata.east_asian_width(char) in "WF" else 1
+
+    return sum(of(char) for char in text)
+
+
+def visible(text):
+    return "".join("    " if it == "\t" else "\ufffd" if unicodedata.category(it) == "Cc" else it for it in text)
+
+
+def pointed(text, file, start, end):
+    """The lines that point to some bytes of a text."""
+    whole = text.encode()
+    ends = [it.end() for it in re.finditer(rb"\r\n|\n|\v|\f|\r|\xc2\x85|\xe2\x80[\xa8\xa9]", whole)]
+    line = sum(it <= start for it in ends)
+    begins = ends[line - 1] if line else 0
+    stops = ends[line] if line < len(ends) else len(whole)
+    before, rest = whole[begins:start].decode(), whole[start:stops].decode().rstrip("\r\n")
+    part = rest.encode()[: end - start].decode()
+    behind = rest[len(part) :]
+    shown = visible(before[-BEFORE:]) if len(before) <= BEFORE else "…" + visible(before[-BEFORE:])
+    inner = visible(part[:WITHIN]) + "…" * (len(part) > WITHIN)
+    after = visible(behind[:BEHIND]) + "…" * (len(behind) > BEHIND)
+    gutter = " " * len(str(line + 1))
+    return [
+        f"{gutter}--> {file}:{line + 1}:{len(before) + 1}",
+        f"{gutter} |",
+        f"{line + 1} | {shown}{inner}{after}",
+        f"{gutter} | {' ' * width(shown)}{'^' * max(width(inner), 1)}",
+    ]
+
+
+def reports(root, file):
+    """The errors of a tree without hints."""
+    lines = []
+    for _, node in root.preorder():
+        if node.message is not None:
+            lines += ["", f"error: {node.message}", *pointed(root.text(), file, node.start, node.end)]
+    return lines
+
+
+def printed(root, file):
+    """All that is printed of a tree."""
+    return "".join(line + "\n" for line in [*drawn(root), *reports(root, file)])
+
+
+def numbered(root, low=NUMBERS[0], high=NUMBERS[1]):
+    root.place()
+    assert spread(root, low, high)
+    return root
+
+
+def children_in(root, parsed):
+    """The indices of the children whose text lies in some bytes."""
+    inside = [index for index, it in enumerate(root.children) if parsed.start <= it.start and it.end <= parsed.stop]
+    return range(inside[0], inside[-1] + 1) if inside else range(0, 0)
+
+
+def told_of(edit, new, parsed, windows, line=1):
+    """What is told of the edit in a line that made a tree by parsing these bytes anew."""
+    window, count = windows[-1], new.count()
+    fresh = sum(child.count() for child in new.children[window.start : window.stop])
+    return (
+        f"line {line}: {edit}\nparsed {parsed.start}..{parsed.stop} of {new.end} bytes; numbered {fresh} of {count} nodes, "
+        f"window {window.start}..{window.stop}, tried {len(windows)}; {count - fresh} keep their numbers"
+    )
+
+
+def printed_edit(edit, old, new, parsed, file):
+    """What is printed of the edit in line 1 that made one tree of another by parsing these bytes anew."""
+    before = range(parsed.start, parsed.stop - (new.end - old.end))
+    windows = edited(old, new, children_in(old, before), children_in(new, parsed))
+    return f"\n{told_of(edit, new, parsed, windows)}\n\n{printed(new, file)}"
+
+
+# Looks.
+FORMS = re.compile(r"```text\n(.*?)```", re.S)
+PLACE = re.compile(r"'(?:\\.|[^'])*'|~(\w+)|(?<![\w-])(-|\d+(?:\.\d+)*)(?![\w])|\w+")
+KIND_ROW = re.compile(r"^\| (\d+) \| `(\w+)`", re.M)
+
+
+def kinds():
+    return {int(number): kind for number, kind in KIND_ROW.findall((TOP / "docs/KINDS.md").read_text())}
+
+
+def forms():
+    """The form of the answer of each accessor."""
+    found = {}
+    for line in FORMS.search((TOP / "docs/LOOK.md").read_text())[1].splitlines():
+        kind, _, accessors = line.partition(": ")
+        for accessor in accessors.split():
+            name, _, form = accessor.partition("=")
+            found[kind, name] = form or "view"
+    return found
+
+
+def built(lines, kind_of):
+    """The tree that lines of a look build, or none where they edit it."""
+    stack, root, within = [], None, NUMBERS
+    for line in lines:
+        word, _, rest = line.partition(" ")
+        first, _, behind = rest.partition(" ")
+        if word == "leaf":
+            stack.append(Node(kind_of[int(first)], quoted_of(behind)))
+        elif word == "error":
+            message, _, text = rest.partition("\t")
+            stack.append(Node("Error", quoted_of(text), message=message))
+        elif word == "inner":
+            count = int(behind)
+            children = stack[len(stack) - count :]
+            del stack[len(stack) - count :]
+            stack.append(Node(kind_of[int(first)], children=children))
+        elif word == "root":
+            root, within = stack.pop(), NUMBERS
+        elif word == "number":
+            low, high = (int(it) for it in behind.split())
+            within = (low, high) if high - low >= root.count() else within
+        elif word in ("replace", "run"):
+            return None
+    return numbered(root, *within) if root else None
+
+
+def answer_of(accessor, form, answer, places):
+    """An answer of a look, as ./show writes it."""
+
+    def put(found):
+        if found[1]:
+            return f"placeholder {found[1]}"
+        return places[found[2]] if found[2] else found[0]
+
+    if form in ("text", "string"):
+        characters = unquoted(answer[1:-1])
+        return f"{accessor}: {beginning(characters, ANSWER_CHARS)}"
+    if form in ("shown", "debug", "number", "newline", "bare") or answer == "none":
+        return f"{accessor}: {answer}"
+    if form in ("both", "names"):
+        entries = [PLACE.sub(put, it) for it in answer[1:-1].split(", ") if it]
+        more = [f"and {len(entries) - ANSWER_ENTRIES} more"] if len(entries) > ANSWER_ENTRIES else []
+        return f"{accessor}: [{', '.join(entries[:ANSWER_ENTRIES] + more)}]"
+    return f"{accessor}: {PLACE.sub(put, answer)}"
+
+
+def answers_of(root, lines, form_of):
+    """The answers of `look views`, by path, as ./show writes them."""
+    places = {".".join(map(str, path)) or "-": f"{it.kind} {it.start}..{it.end}" for path, it in root.preorder()}
+    found = {}
+    for line in lines:
+        path, kind, accessor, answer = re.match(r"(\S+) (\w+)\.((?:own )?\S+) (.*)$", line, re.S).groups()
+        form = {"hash": "shown", "is_literal": "shown", "bindings": "names", "own bindings": "names", "kind().bindings": "names"}
+        key = () if path == "-" else tuple(map(int, path.split(".")))
+        found.setdefault(key, []).append(answer_of(accessor, form.get(accessor) or form_of[kind, accessor], answer, places))
+    return found
+
+
+def looks():
+    """Each tree of crates/typst_look that is asked for its views alone or first: its name, its lines, and the answers."""
+    given = (TOP / "crates/typst_look/stdin").read_bytes().decode(errors="surrogateescape").split("\n")
+    wanted = (TOP / "crates/typst_look/stdout").read_bytes().decode(errors="surrogateescape").split("\n")
+    answered, name = {}, None
+    for line in wanted:
+        if line.startswith("#"):
+            name = line[1:]
+            answered[name] = []
+        elif name:
+            answered[name].append(line)
+    sections, name = {}, None
+    for line in given:
+        if line.startswith("mark "):
+            name = line[len("mark ") :]
+            sections[name] = []
+        elif line == "new":
+            name = None
+        elif name and not line.startswith("look "):
+            sections[name].append(line)
+    for name, lines in sections.items():
+        answers = [it for it in answered[name] if re.match(r"[-\d.]+ \w+\.", it)]
+        if answers and "no tree" not in answered[name]:
+            yield name, lines, answers

@@ -1,0 +1,405 @@
+#!/usr/bin/env python3
+"""Times the library's operations, alone or by turns with another build, and prints the tables of docs/PERFORMANCE.md. A row has the
+time of a step: the least of its turns, their median, and by how many percent the slowest lies above the fastest.
+
+    bench/speed.py                      times the proved build of crates/typst_bench, which it makes where it isn't there
+    bench/speed.py OTHER                by turns with another program, as an older commit's crates/typst_bench/out/typst_bench
+    bench/speed.py --only WORD          the rows whose operation has this word; several may be asked for
+    bench/speed.py --turns N            so many turns, in place of 7
+    bench/speed.py --document           puts what it prints into docs/PERFORMANCE.md, behind the heading of the figures
+    bench/speed.py --check              times nothing, and compares crates/typst_bench/stdout with what is worked out here
+    bench/speed.py --wanted             writes that file
+
+The other program has to read the same lines and print the same ones: it is given `time` as argument and `OPERATION SIZE ROUNDS` on
+standard input, and prints that line again with a check sum and the nanoseconds of processor time that all rounds took. A row that it
+has no operation for stays empty: it ends with another status then.
+
+Each turn of a row is a process of its own, first of this build, then of the other one. A check sum is compared with one that is worked
+out here, from what the tree or the text of the row is, and not by the program.
+"""
+import argparse
+import os
+import statistics
+import subprocess
+import sys
+import tempfile
+from bisect import bisect_right
+from dataclasses import dataclass
+from functools import cache
+from pathlib import Path
+
+TOP = Path(__file__).resolve().parent.parent
+CRATE = TOP / "crates/typst_bench"
+PROGRAM = CRATE / "out/typst_bench"
+TURNS = 7
+DOCUMENT, FIGURES = TOP / "docs/PERFORMANCE.md", "\n## The figures\n"
+# So malloc keeps what a program gives back, and rounds after the first take memory that the process has had before.
+KEEPING = {"MALLOC_MMAP_THRESHOLD_": str(1 << 32), "MALLOC_TRIM_THRESHOLD_": str(1 << 34)}
+# A document of paragraphs `some words *bold*.` with two line ends, fifty in a section: where the nodes of a paragraph begin.
+PARAGRAPH, PARAGRAPHS = 20, 50
+INNER, LEAF, TRIVIA = range(3)
+PARTS = [(0, INNER), (0, LEAF), (4, TRIVIA), (5, LEAF), (10, TRIVIA), (11, INNER)]
+PARTS += [(11, LEAF), (12, INNER), (12, LEAF), (16, LEAF), (17, LEAF), (18, TRIVIA)]
+# Its leaves that a walk from leaf to leaf comes to, which passes blanks and line ends.
+SOLID = sum(sort == LEAF for _, sort in PARTS)
+# A text of paragraphs of four lines.
+LINES = "= A heading\nSome *strong* words, _emphasis_ and a line.\n- an item with `raw text`\n\n"
+
+
+def place(turn, size):
+    """Where the program goes in this turn, of so many places."""
+    return ((turn * 0x9E3779B97F4A7C15) % 2**64 >> 32) % size
+
+
+def nodes(shape, size):
+    """How many nodes a tree has."""
+    if shape == "ten":
+        return 1 + size // 10 * 11
+    if shape == "document":
+        return 1 + size // PARAGRAPHS * (1 + PARAGRAPHS * len(PARTS))
+    return size + 1
+
+
+def length(shape, size):
+    """How many bytes its text has."""
+    each = {"document": PARAGRAPH, "long": 30}.get(shape, 2)
+    return 2 if shape == "chain" else each * size
+
+
+def starts(shape, size):
+    """Where each node begins, in preorder, and of which sort it is."""
+    if shape == "chain":
+        return [(0, INNER)] * size + [(0, LEAF)]
+    all_nodes = [(0, INNER)]
+    if shape == "ten":
+        for ten in range(0, 2 * size, 20):
+            all_nodes += [(ten, INNER), *((ten + 2 * leaf, LEAF) for leaf in range(10))]
+    elif shape == "document":
+        for paragraph in range(size):
+            begin = PARAGRAPH * paragraph
+            all_nodes += [(begin, INNER)] if paragraph % PARAGRAPHS == 0 else []
+            all_nodes += [(begin + part, sort) for part, sort in PARTS]
+    else:
+        all_nodes += [(2 * leaf, LEAF) for leaf in range(size)]
+    return all_nodes
+
+
+def begins(shape, size, *sorts):
+    """Where the nodes of some sorts begin."""
+    return [begin for begin, sort in starts(shape, size) if sort in sorts]
+
+
+def found(shape, size, rounds):
+    """The sum of where the nodes of drawn numbers begin."""
+    of_all = begins(shape, size, INNER, LEAF, TRIVIA)
+    return sum(of_all[place(turn, len(of_all))] for turn in range(rounds))
+
+
+def leaf_at(shape, size, rounds):
+    """The sum of where the leaves of drawn bytes begin."""
+    of_leaves = begins(shape, size, LEAF, TRIVIA)
+    drawn = (place(turn, length(shape, size)) for turn in range(rounds))
+    return sum(of_leaves[bisect_right(of_leaves, byte) - 1] for byte in drawn)
+
+
+def replaced(shape, size, rounds):
+    """The lengths after each replacement by a leaf as long, and the leaves that came and are there at the end."""
+    drawn = {
+        "wide": lambda turn: place(turn, size),
+        "ten": lambda turn: (place(turn, size // 10), turn % 10),
+        "document": lambda turn: (place(turn, size // PARAGRAPHS), turn % PARAGRAPHS),
+        "chain": lambda turn: 0,
+    }[shape]
+    return rounds * length(shape, size) + len({drawn(turn) for turn in range(rounds)})
+
+
+def resized(_shape, size, rounds):
+    """The same where leaves of one byte and of three come by turns."""
+    come, total, lengths = {}, 2 * size, 0
+    for turn in range(rounds):
+        at, new = place(turn, size), 1 if turn % 2 == 0 else 3
+        total += new - come.get(at, 2)
+        come[at] = new
+        lengths += total
+    return lengths + len(come)
+
+
+def typed(come):
+    """How many bytes an edit parses, of the paragraph with what comes and of the one that is left."""
+    return lambda _shape, _size, rounds: rounds * (2 * len(LINES) + come)
+
+
+def walk_over(*sorts):
+    """The sum of where the nodes begin that a walk comes to."""
+    return lambda shape, size, rounds: rounds * sum(begins(shape, size, *sorts))
+
+
+def per_node(shape, size, rounds):
+    return rounds * nodes(shape, size)
+
+
+# What each operation's check sum is, by the shape, the size and the rounds.
+CHECKS = {
+    **{verb: per_node for verb in ("build", "drop", "clone", "number", "synthesize", "spanless_eq")},
+    "full_text": lambda shape, size, rounds: rounds * length(shape, size),
+    "errors_and_warnings": lambda _shape, size, rounds: rounds * -(-size // 10),
+    **{verb: walk_over(LEAF) for verb in ("next_leaf", "prev_leaf")},
+    **{verb: walk_over(INNER, LEAF, TRIVIA) for verb in ("children", "preorder")},
+    "find": found,
+    "leaf_at": leaf_at,
+    "replace": replaced,
+    "resize": resized,
+    "insert_front": lambda _shape, size, rounds: sum(2 * (size + turn + 1) for turn in range(rounds)) + rounds,
+    "insert_end": lambda _shape, size, rounds: rounds * (2 * (size + 1) + 2 * size),
+    "replace_equal": lambda shape, size, rounds: rounds * length(shape, size),
+    "exprs": lambda _shape, size, rounds: rounds * 2 * size,
+    "str": lambda _shape, size, rounds: rounds * len("abc") * size,
+    **{verb: lambda _shape, size, rounds: rounds * size for verb in ("items", "arg_items", "math_shorthand", "binary")},
+    "parse": lambda _shape, size, rounds: rounds * size // 4 * len(LINES),
+    "letter": typed(1),
+    "paragraph": typed(len(LINES)),
+    "delimiter": typed(1),
+    "lines": lambda _shape, size, _rounds: size // 4 * 4 + 1,
+    "door": typed(1),
+}
+
+
+@cache
+def wanted(line):
+    """The check sum of a line."""
+    *operation, size, rounds = line.split()
+    verb, shape = (*operation, "")[:2]
+    return CHECKS[verb](shape, int(size), int(rounds))
+
+
+@dataclass(frozen=True)
+class Row:
+    """A row of a table: what is written in it, the line that is run, and how many steps each round has, of which it tells the time."""
+
+    name: str
+    line: str
+    steps: int = 1
+
+
+def over(name, verb, shape, size, rounds):
+    """A row of an operation that goes over all nodes, timed by the node."""
+    return Row(name, f"{verb} {shape} {size} {rounds}", nodes(shape, size))
+
+
+def typing(name, verb, rounds):
+    """Rows of edits of texts, each of which comes and goes in a round."""
+    return [Row(f"{name} {lines:,} lines", f"{verb} {lines} {rounds}", 2) for lines in (1_000, 10_000, 100_000, 1_000_000)]
+
+
+# How many paragraphs a document of about so many nodes has.
+HUNDRED_THOUSAND, MILLION = 8_300, 83_000
+TABLES = {
+    "An edit": [
+        *typing("a letter in a text of", "letter", 1_000),
+        *typing("a paragraph in a text of", "paragraph", 200),
+        *typing("a delimiter in a text of", "delimiter", 50),
+        Row("a letter, followed by the lines of a text of 100,000", "lines letter 100000 2000", 2),
+        Row("a paragraph, followed by them", "lines paragraph 100000 200", 2),
+        Row("a letter in 1,000 lines, by a handle of the C interface", "door 1000 1000", 2),
+        Row("a leaf by one as long, in a document of 10^5 nodes", f"replace document {HUNDRED_THOUSAND} 20000"),
+        Row("the same, of 10^5 leaves, ten a node", "replace ten 100000 20000"),
+        Row("the same, of 10^5 leaves in one node", "replace wide 100000 20000"),
+        Row("the same by one of another length", "resize wide 100000 20000"),
+        Row("a leaf before 10^5 in one node", "insert_front wide 100000 300"),
+        Row("a leaf behind 10^5 in one node, which goes again", "insert_end wide 100000 50000"),
+        Row("all nodes of a paragraph by equal ones, in the document", f"replace_equal document {HUNDRED_THOUSAND} 5000"),
+        Row("the leaf under forty nodes, one in another", "replace chain 40 20000"),
+    ],
+    "A search": [
+        Row("a node by its number, in the document", f"find document {HUNDRED_THOUSAND} 50000"),
+        Row("the same, of 10^5 leaves in one node", "find wide 100000 50000"),
+        Row("the leaf at a byte, in the document", f"leaf_at document {HUNDRED_THOUSAND} 50000"),
+        Row("the same, of 10^5 leaves, ten a node", "leaf_at ten 100000 50000"),
+        Row("the same, of 10^5 leaves in one node", "leaf_at wide 100000 50000"),
+    ],
+    "A walk and a reading": [
+        Row("next leaf, in the document", f"next_leaf document {HUNDRED_THOUSAND} 5", SOLID * HUNDRED_THOUSAND),
+        Row("previous leaf", f"prev_leaf document {HUNDRED_THOUSAND} 5", SOLID * HUNDRED_THOUSAND),
+        over("all nodes in preorder, a node", "preorder", "document", HUNDRED_THOUSAND, 5),
+        over("linked children of all nodes, a node", "children", "document", HUNDRED_THOUSAND, 5),
+        over("`spanless_eq` of two documents of 10^6 nodes, a node", "spanless_eq", "document", MILLION, 3),
+        over("`full_text` of one, a node", "full_text", "document", MILLION, 3),
+        Row("errors of 10^5 leaves, a tenth of them errors, a leaf", "errors_and_warnings errors 100000 20", 100_000),
+        Row("`Markup::exprs`, a child", "exprs 50000 30", 100_000),
+        Row("`Args::items`, an argument", "items 50000 30", 50_000),
+        Row("`MathArgs::arg_items`, an argument", "arg_items 50000 30", 50_000),
+        Row("`Binary`: operator and both sides", "binary 50000 30", 50_000),
+        Row("`Str::get` of three letters", "str 50000 30", 50_000),
+        Row("`MathShorthand::get`", "math_shorthand 50000 30", 50_000),
+    ],
+    "Building": [
+        Row("parse a text of 1,000 lines, a line", "parse 1000 50", 1_000),
+        Row("parse a text of 100,000 lines, a line", "parse 100000 1", 100_000),
+        over("a node of 10^6 leaves, a node", "build", "wide", 1_000_000, 4),
+        over("10^6 leaves, ten a node, a node", "build", "ten", 1_000_000, 3),
+        over("a document of 10^6 nodes, a node", "build", "document", MILLION, 3),
+        over("a chain of 50,000 nodes, a node", "build", "chain", 50_000, 30),
+        over("drop the document, a node", "drop", "document", MILLION, 3),
+        over("clone the document, a node", "clone", "document", MILLION, 3),
+        over("number 10^6 leaves in one node, a node", "number", "wide", 1_000_000, 5),
+        over("number 10^6 leaves, ten a node, a node", "number", "ten", 1_000_000, 5),
+        over("number the document, a node", "number", "document", MILLION, 5),
+        over("number the chain, a node", "number", "chain", 50_000, 30),
+        over("`synthesize` of the document, a node", "synthesize", "document", MILLION, 5),
+    ],
+}
+# What is built to be weighed: a row's name, the shape and the size of the larger tree. The smaller one has a tenth of it.
+WEIGHED = [
+    ("a leaf `ab` in one node of 4 times 10^6", "wide", 4_000_000),
+    ("a leaf of 30 bytes in one node of 10^6", "long", 1_000_000),
+    ("a node of 4 times 10^6 leaves, ten a node", "ten", 4_000_000),
+    ("a node of a document of 2 times 10^6", "document", 2 * MILLION),
+]
+
+
+def run(program, line, settings):
+    """The nanoseconds of all rounds of a line, and the peak memory of the process in bytes; nothing where it has no such operation.
+    The settings stand in the environment."""
+    with tempfile.TemporaryFile("w+") as asked, tempfile.TemporaryFile("w+") as told:
+        asked.write(line + "\n")
+        asked.seek(0)
+        child = subprocess.Popen([program, "time"], stdin=asked, stdout=told, stderr=subprocess.DEVNULL, env={**os.environ, **settings})
+        _, status, used = os.wait4(child.pid, 0)
+        child.returncode = os.waitstatus_to_exitcode(status)
+        told.seek(0)
+        words = told.read().split()
+    if child.returncode:
+        return None
+    if words[:-1] != [*line.split(), str(wanted(line))]:
+        sys.exit(f"speed: {program}: {line!r} gave {' '.join(words)!r}, and its check sum is {wanted(line)}")
+    return int(words[-1]), used.ru_maxrss * 1024
+
+
+def timed(row, programs, turns):
+    """The nanoseconds of a step in each turn, of each program; nothing of one that has no such operation."""
+    runs = [[run(program, row.line, KEEPING) for program in programs] for _ in range(turns)]
+    rounds = int(row.line.split()[-1])
+    return [[ran[0] / (rounds * row.steps) for ran in of_one] if all(of_one) else None for of_one in zip(*runs)]
+
+
+def weighed(shape, size, program):
+    """The bytes of a node in the peak memory of a process: what a tree takes more than one of half its size.
+
+    Both are far above the memory of this script, which the system counts as the peak of each process that it starts."""
+    large, small = (run(program, f"build {shape} {part} 1", {}) for part in (size, size // 2))
+    if not large or not small:
+        return None
+    return (large[1] - small[1]) / (nodes(shape, size) - nodes(shape, size // 2))
+
+
+def digits(number):
+    """A number by three digits or more."""
+    return f"{number:,.0f}" if number >= 100 else f"{number:.3g}"
+
+
+def cells(here, other=None):
+    """The least and the median of this build and how far its turns lie apart, the same of the other one, and the ratio of the least."""
+    of_here = [digits(min(here)), digits(statistics.median(here)), f"{100 * (max(here) / min(here) - 1):.0f} %"]
+    if other is None:
+        return of_here
+    return [*of_here, digits(min(other)), digits(statistics.median(other)), f"{min(other) / min(here):.2f}"]
+
+
+def lined(words):
+    """A line of a table."""
+    return f"| {' | '.join(words)} |"
+
+
+def head(words):
+    """The head of a table."""
+    return f"\n{lined(words)}\n|{'---|' * len(words)}"
+
+
+def table(name, rows, programs, turns):
+    """A table, each row as soon as it is measured."""
+    heads = [name, "ns", "median", "spread", *(["other", "median", "ratio"] if len(programs) > 1 else [])]
+    yield head(heads)
+    for row in rows:
+        here, *others = timed(row, programs, turns)
+        if here is None:
+            sys.exit(f"speed: {PROGRAM} doesn't do {row.line!r}")
+        written = [row.name, *cells(here, others[0] if others else None)]
+        yield lined(written + [""] * (len(heads) - len(written)))
+
+
+def memory(programs):
+    """The table of memory."""
+    yield head(["Memory", "bytes", *(["other", "ratio"] if len(programs) > 1 else [])])
+    for name, shape, size in WEIGHED:
+        here, *others = (weighed(shape, size, program) for program in programs)
+        written = [name, f"{here:.0f}"]
+        if others:
+            written += [f"{others[0]:.0f}", f"{others[0] / here:.2f}"] if others[0] else ["", ""]
+        yield lined(written)
+
+
+def measured(programs, turns, only):
+    """What was measured where, and all tables, or of the rows whose operation has one of some words."""
+    commit = subprocess.run(["git", "rev-parse", "--short", "HEAD"], cwd=TOP, capture_output=True, text=True, check=False)
+    yield f"Commit {commit.stdout.strip()}, {turns} turns a row, a load of {os.getloadavg()[0]:.1f} at the beginning, {processor()}."
+    for name, rows in TABLES.items():
+        chosen = [row for row in rows if not only or any(word in row.line for word in only)]
+        if chosen:
+            yield from table(name, chosen, programs, turns)
+    if not only:
+        yield from memory(programs)
+
+
+def processor():
+    """The name of the processor."""
+    with open("/proc/cpuinfo", encoding="utf-8") as lines:
+        return next((line.partition(":")[2].strip() for line in lines if line.startswith("model name")), "unknown processor")
+
+
+def small():
+    """The lines that the crate is run on by `rt ci`, with their check sums."""
+    return "".join(f"{line} {wanted(line)}\n" for line in (CRATE / "stdin").read_text().splitlines())
+
+
+def proved():
+    """The proved build, which is made where it isn't up to date."""
+    with open(CRATE / "stdin", "rb") as lines:
+        made = subprocess.run(["rt", "run"], cwd=CRATE, stdin=lines, capture_output=True, text=True, check=False)
+    if made.returncode or not PROGRAM.exists():
+        sys.exit(f"speed: `rt run` in {CRATE} failed: {made.stdout[-500:]}{made.stderr[-500:]}")
+    return PROGRAM
+
+
+def asked():
+    words = argparse.ArgumentParser(description="Times the library's operations.")
+    words.add_argument("other", nargs="?", type=Path, metavar="OTHER")
+    words.add_argument("--only", action="append", default=[], metavar="WORD")
+    words.add_argument("--turns", type=int, default=TURNS, metavar="N")
+    words.add_argument("--document", action="store_true")
+    words.add_argument("--check", action="store_true")
+    words.add_argument("--wanted", action="store_true")
+    return words.parse_args()
+
+
+def main():
+    words = asked()
+    if words.wanted:
+        (CRATE / "stdout").write_text(small())
+        return 0
+    if words.check:
+        is_right = (CRATE / "stdout").read_text() == small()
+        print("speed: the check sums are those of the shapes" if is_right else "speed: other check sums: bench/speed.py --wanted")
+        return 0 if is_right else 1
+    programs = [proved(), *([words.other.resolve()] if words.other else [])]
+    said = []
+    for line in measured(programs, words.turns, words.only):
+        print(line, flush=True)
+        said.append(line)
+    if words.document:
+        kept, heading, _ = DOCUMENT.read_text().partition(FIGURES)
+        DOCUMENT.write_text(kept + heading + "\n" + "\n".join(said) + "\n")
+    return 0
+
+
+if __name__ == "__main__":
+    sys.exit(main())

@@ -1,0 +1,79 @@
+/* An example of an editor: it opens a text and edits it as its user types. After each edit it asks for the leaf at the
+ * cursor and for what is wrong there. */
+#include "typst.h"
+
+#include <stdio.h>
+#include <stdlib.h>
+#include <string.h>
+
+/* Room for the path of a node of a document, and for what is wrong in the document. Trees of documents are at most 133
+ * nodes deep. */
+enum { DEPTH = 133, MOST = 16, TEXTS = 1024 };
+
+/* Ends the program if a call wasn't done. */
+static void need(const char *what, typst_status status)
+{
+    if (status == TYPST_DONE) return;
+    fprintf(stderr, "%s: %s\n", what, typst_status_text(status));
+    exit(1);
+}
+
+/* Prints the leaf before the cursor, and whether it is an error. */
+static void show_leaf(typst_session *session, size_t cursor)
+{
+    size_t path[DEPTH];
+    typst_place place;
+    typst_node_info info;
+
+    need("the leaf at the cursor", typst_try_leaf_at(session, cursor, TYPST_BEFORE, path, DEPTH, &place));
+    need("a node", typst_try_node(session, path, place.depth, &info));
+    printf("  before byte %zu stand the bytes %zu..%zu of kind %u%s\n", cursor, place.offset, place.offset + info.len,
+           (unsigned)info.kind, info.kind == TYPST_KIND_ERROR ? ", an error" : "");
+}
+
+/* Prints what is wrong, and at which line and column. Both count from 1 here, as readers count. */
+static void show_errors(typst_session *session)
+{
+    typst_diagnostic told[MOST];
+    typst_diagnostic_sizes sizes;
+    typst_line_column place;
+    char texts[TEXTS];
+    const char *text = texts;
+
+    need("diagnostics", typst_try_diagnostics(session, told, MOST, texts, TEXTS, &sizes));
+    for (size_t i = 0; i < sizes.count; text += told[i++].len) {
+        if (told[i].severity == TYPST_HINT) {
+            printf("  hint: %.*s\n", (int)told[i].len, text);
+            continue;
+        }
+        need("a place", typst_try_byte_to_line_column(session, told[i].start, TYPST_CHARACTERS, &place));
+        printf("  line %zu, column %zu: %.*s\n", place.line + 1, place.column + 1, (int)told[i].len, text);
+    }
+}
+
+/* Types a text at a place, and prints how much of the document was parsed anew. */
+static void type(typst_session *session, size_t at, const char *text)
+{
+    typst_edited edited;
+    typst_node_info root;
+
+    need("an edit", typst_try_edit(session, at, at, text, strlen(text), &edited));
+    need("the root", typst_try_node(session, NULL, 0, &root));
+    printf("typed \"%s\": %zu of %zu bytes parsed anew\n", text, edited.end - edited.start, root.len);
+    show_leaf(session, at + strlen(text));
+    show_errors(session);
+}
+
+int main(void)
+{
+    static const char text[] = "= Notes\n\nSome text.\n\nThe last paragraph.\n";
+    typst_session session = {0, NULL};
+
+    need("a session", typst_try_new(&session));
+    need("a document", typst_try_open(&session, 1, text, sizeof text - 1));
+    type(&session, 14, "*");
+    type(&session, 19, "*");
+    type(&session, 21, " `raw");
+    typst_free(&session);
+    return 0;
+}

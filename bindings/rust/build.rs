@@ -1,0 +1,20 @@
+//! Links the static library, and the three heap functions that it calls.
+//!
+//! `TYPST_C_DIR` is the folder that holds `libtypst_c.a` and `libtypst_heap.a`. `rt lib` in crates/typst_c makes the
+//! first. The second is made from bindings/c/heap.c.
+use std::env;
+use std::path::Path;
+
+fn main() {
+    println!("cargo:rerun-if-env-changed=TYPST_C_DIR");
+    let Ok(folder) = env::var("TYPST_C_DIR") else {
+        println!("cargo:warning=TYPST_C_DIR names no folder, so no program can be linked");
+        return;
+    };
+    println!("cargo:rustc-link-search=native={folder}");
+    for library in ["typst_c", "typst_heap"] {
+        println!("cargo:rustc-link-lib=static={library}");
+        let file = Path::new(&folder).join(format!("lib{library}.a"));
+        println!("cargo:rerun-if-changed={}", file.display());
+    }
+}

@@ -1,0 +1,117 @@
+//! The classes and the sets of kinds.
+
+use crate::handle;
+use crate::kind::SyntaxKind;
+use crate::raw::KindClasses;
+
+/// A named set of kinds. It holds the kinds that such a thing may begin with, or that it may be.
+#[derive(Clone, Copy, Debug, PartialEq, Eq, Hash)]
+#[repr(u32)]
+pub enum SyntaxSet {
+    /// What a statement may begin with.
+    Stmt,
+    /// What an expression in an equation may begin with.
+    MathExpr,
+    /// What a code expression without an operator may begin with.
+    AtomicCodeExpr,
+    /// A unary operator.
+    UnaryOp,
+    /// A binary operator.
+    BinaryOp,
+    /// What a code expression may begin with.
+    CodeExpr,
+    /// What an item of an array or a dictionary may begin with.
+    ArrayOrDictItem,
+    /// What an argument may begin with.
+    Arg,
+    /// What a pattern that holds no other may begin with.
+    PatternLeaf,
+    /// What a pattern may begin with.
+    Pattern,
+    /// What a parameter may begin with.
+    Param,
+    /// What an item of a destructuring pattern may begin with.
+    DestructuringItem,
+}
+
+impl SyntaxSet {
+    /// Whether the set holds a kind.
+    pub fn contains(self, kind: SyntaxKind) -> bool {
+        handle::kind_in_set(kind.to_u8(), self as u32).expect("there is such a kind and such a set")
+    }
+}
+
+/// # Classes
+impl SyntaxKind {
+    fn classes(self) -> KindClasses {
+        handle::kind_classes(self.to_u8()).expect("there is such a kind")
+    }
+
+    /// The kind with a name, as [`SyntaxKind::name`] returns it. No two kinds have the same name.
+    pub fn from_name(name: &str) -> Option<SyntaxKind> {
+        let number = handle::kind_of_name(name).ok()?;
+        u8::try_from(number).ok().and_then(SyntaxKind::from_u8)
+    }
+
+    /// Whether this is a bracket, a brace or a parenthesis.
+    pub fn is_grouping(self) -> bool {
+        self.classes().grouping == 1
+    }
+
+    /// Whether this ends an expression.
+    pub fn is_terminator(self) -> bool {
+        self.classes().terminator == 1
+    }
+
+    /// Whether this is a block of code or of content.
+    pub fn is_block(self) -> bool {
+        self.classes().block == 1
+    }
+
+    /// Whether this is a statement.
+    pub fn is_stmt(self) -> bool {
+        self.classes().stmt == 1
+    }
+
+    /// Whether this is a keyword.
+    pub fn is_keyword(self) -> bool {
+        self.classes().keyword == 1
+    }
+
+    /// Whether a parser skips this: a space, a comment or the like.
+    pub fn is_trivia(self) -> bool {
+        self.classes().trivia == 1
+    }
+}
+
+#[cfg(test)]
+mod tests {
+    use super::*;
+
+    #[test]
+    fn the_names_of_the_table_are_those_of_the_library() {
+        for kind in SyntaxKind::all() {
+            assert_eq!(
+                handle::kind_name(kind.to_u8(), kind.name().len()).as_deref(),
+                Ok(kind.name())
+            );
+            assert_eq!(SyntaxKind::from_name(kind.name()), Some(*kind));
+        }
+        assert_eq!(SyntaxKind::from_name("no kind"), None);
+    }
+
+    #[test]
+    fn kinds_are_in_their_classes_and_sets() {
+        assert!(SyntaxKind::Let.is_keyword() && SyntaxKind::Space.is_trivia() && SyntaxKind::LeftParen.is_grouping());
+        assert!(
+            SyntaxKind::CodeBlock.is_block()
+                && SyntaxKind::LetBinding.is_stmt()
+                && SyntaxKind::Semicolon.is_terminator()
+        );
+        assert!(!SyntaxKind::Text.is_trivia() && !SyntaxKind::Text.is_keyword() && !SyntaxKind::Let.is_stmt());
+        assert!(SyntaxSet::Stmt.contains(SyntaxKind::Let) && !SyntaxSet::UnaryOp.contains(SyntaxKind::Let));
+        assert!(
+            SyntaxSet::BinaryOp.contains(SyntaxKind::Star) && SyntaxSet::DestructuringItem.contains(SyntaxKind::Dots)
+        );
+    }
+}

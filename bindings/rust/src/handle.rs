@@ -1,0 +1,374 @@
+//! The calls of the library. Only this module is unsafe.
+//!
+//! A [`Handle`] is made by `new`, never copied, and freed once. It isn't `Sync`, and no call of the library calls Rust,
+//! so each call has the handle to itself. The library takes out what the handle points to and puts it back, even if it
+//! only reads it. That is why there is an `UnsafeCell`. Slices and texts are valid for each call that they are passed
+//! to. They aren't null, and they overlap with nothing that is written.
+#![allow(unsafe_code)]
+
+use crate::error::Error;
+use crate::raw::{
+    self, ByteRange, Diagnostic, DiagnosticSizes, Edited, KindClasses, Length, LineColumn, NodeInfo, Place, Window,
+};
+use std::cell::UnsafeCell;
+use std::ops::Range;
+use std::ptr;
+
+/// A session of the library.
+pub(crate) struct Handle(UnsafeCell<raw::Session>);
+
+/// A status as a result.
+fn outcome(status: u32) -> Result<(), Error> {
+    match (status, Error::of(status)) {
+        (0, _) => Ok(()),
+        (_, Some(error)) => Err(error),
+        (_, None) => unreachable!("the library answers status {status} to a call that this crate makes"),
+    }
+}
+
+impl Handle {
+    pub(crate) fn new() -> Result<Handle, Error> {
+        let mut session = raw::Session {
+            made: 0,
+            at: ptr::null_mut(),
+        };
+        // SAFETY: the session is all zero.
+        outcome(unsafe { raw::typst_new(&mut session) })?;
+        Ok(Handle(UnsafeCell::new(session)))
+    }
+
+    fn at(&self) -> *mut raw::Session {
+        self.0.get()
+    }
+
+    pub(crate) fn push_leaf(&mut self, kind: u8, text: &str) -> Result<(), Error> {
+        // SAFETY: what the head of this module says.
+        outcome(unsafe { raw::typst_push_leaf(self.at(), kind.into(), text.as_ptr(), text.len()) })
+    }
+
+    pub(crate) fn push_error(&mut self, message: &str, text: &str) -> Result<(), Error> {
+        // SAFETY: what the head of this module says.
+        outcome(unsafe { raw::typst_push_error(self.at(), message.as_ptr(), message.len(), text.as_ptr(), text.len()) })
+    }
+
+    pub(crate) fn wrap(&mut self, kind: u8, count: usize) -> Result<(), Error> {
+        // SAFETY: what the head of this module says.
+        outcome(unsafe { raw::typst_wrap(self.at(), kind.into(), count) })
+    }
+
+    pub(crate) fn push_copy(&mut self, path: &[usize]) -> Result<(), Error> {
+        // SAFETY: what the head of this module says.
+        outcome(unsafe { raw::typst_push_copy(self.at(), path.as_ptr(), path.len()) })
+    }
+
+    pub(crate) fn warn(&mut self, message: &str) -> Result<(), Error> {
+        // SAFETY: what the head of this module says.
+        outcome(unsafe { raw::typst_warn(self.at(), message.as_ptr(), message.len()) })
+    }
+
+    pub(crate) fn hint(&mut self, text: &str) -> Result<(), Error> {
+        // SAFETY: what the head of this module says.
+        outcome(unsafe { raw::typst_hint(self.at(), text.as_ptr(), text.len()) })
+    }
+
+    pub(crate) fn pop(&mut self, count: usize) -> Result<(), Error> {
+        // SAFETY: what the head of this module says.
+        outcome(unsafe { raw::typst_pop(self.at(), count) })
+    }
+
+    pub(crate) fn number(&mut self, file: u16, within: Range<u64>) -> Result<(), Error> {
+        // SAFETY: what the head of this module says.
+        outcome(unsafe { raw::typst_number(self.at(), file, within.start, within.end) })
+    }
+
+    pub(crate) fn renumber(&mut self, file: u16, within: Range<u64>) -> Result<(), Error> {
+        // SAFETY: what the head of this module says.
+        outcome(unsafe { raw::typst_renumber(self.at(), file, within.start, within.end) })
+    }
+
+    pub(crate) fn take_tree(&mut self) -> Result<(), Error> {
+        // SAFETY: what the head of this module says.
+        outcome(unsafe { raw::typst_take_tree(self.at()) })
+    }
+
+    pub(crate) fn replace(&mut self, path: &[usize], range: Range<usize>, count: usize) -> Result<Window, Error> {
+        let mut window = Window::default();
+        let (from, to) = (range.start, range.end);
+        // SAFETY: what the head of this module says.
+        outcome(unsafe { raw::typst_replace(self.at(), path.as_ptr(), path.len(), from, to, count, &mut window) })?;
+        Ok(window)
+    }
+
+    pub(crate) fn node(&self, path: &[usize]) -> Result<NodeInfo, Error> {
+        let mut info = NodeInfo::default();
+        // SAFETY: what the head of this module says.
+        outcome(unsafe { raw::typst_node(self.at(), path.as_ptr(), path.len(), &mut info) })?;
+        Ok(info)
+    }
+
+    /// What is read of each child. There are `many` children.
+    pub(crate) fn children(&self, path: &[usize], many: usize) -> Result<Vec<NodeInfo>, Error> {
+        let mut length = Length::default();
+        let mut out = vec![NodeInfo::default(); many];
+        // SAFETY: what the head of this module says.
+        outcome(unsafe {
+            raw::typst_children(
+                self.at(),
+                path.as_ptr(),
+                path.len(),
+                out.as_mut_ptr(),
+                out.len(),
+                &mut length,
+            )
+        })?;
+        Ok(out)
+    }
+
+    /// What is read of each node of a subtree, in preorder. There are `many` nodes.
+    pub(crate) fn preorder(&self, path: &[usize], many: usize) -> Result<Vec<NodeInfo>, Error> {
+        let mut length = Length::default();
+        let mut out = vec![NodeInfo::default(); many];
+        // SAFETY: what the head of this module says.
+        outcome(unsafe {
+            raw::typst_preorder(
+                self.at(),
+                path.as_ptr(),
+                path.len(),
+                out.as_mut_ptr(),
+                out.len(),
+                &mut length,
+            )
+        })?;
+        Ok(out)
+    }
+
+    pub(crate) fn leaf_text(&self, path: &[usize], len: usize) -> Result<String, Error> {
+        let mut length = Length::default();
+        let mut out = vec![0; len];
+        // SAFETY: what the head of this module says.
+        outcome(unsafe {
+            raw::typst_leaf_text(
+                self.at(),
+                path.as_ptr(),
+                path.len(),
+                out.as_mut_ptr(),
+                out.len(),
+                &mut length,
+            )
+        })?;
+        Ok(text(out, length))
+    }
+
+    pub(crate) fn full_text(&self, path: &[usize], len: usize) -> Result<String, Error> {
+        let mut length = Length::default();
+        let mut out = vec![0; len];
+        // SAFETY: what the head of this module says.
+        outcome(unsafe {
+            raw::typst_full_text(
+                self.at(),
+                path.as_ptr(),
+                path.len(),
+                out.as_mut_ptr(),
+                out.len(),
+                &mut length,
+            )
+        })?;
+        Ok(text(out, length))
+    }
+
+    /// The index of a child of a class.
+    pub(crate) fn child_of_class(
+        &self,
+        path: &[usize],
+        class: u32,
+        index: usize,
+        from_end: bool,
+    ) -> Result<usize, Error> {
+        let (many, from_end, mut child) = (path.len(), from_end.into(), 0);
+        // SAFETY: what the head of this module says.
+        outcome(unsafe {
+            raw::typst_child_of_class(self.at(), path.as_ptr(), many, class, index, from_end, &mut child)
+        })?;
+        Ok(child)
+    }
+
+    /// The errors, warnings and hints, and their texts one after the other.
+    pub(crate) fn diagnostics(&self) -> Result<(Vec<Diagnostic>, String), Error> {
+        let mut sizes = DiagnosticSizes { count: 16, len: 1024 };
+        loop {
+            let mut out = vec![Diagnostic::default(); sizes.count];
+            let mut texts = vec![0; sizes.len];
+            // SAFETY: what the head of this module says.
+            let told = outcome(unsafe {
+                raw::typst_diagnostics(
+                    self.at(),
+                    out.as_mut_ptr(),
+                    out.len(),
+                    texts.as_mut_ptr(),
+                    texts.len(),
+                    &mut sizes,
+                )
+            });
+            match told {
+                Ok(()) => {
+                    out.truncate(sizes.count);
+                    return Ok((out, text(texts, Length { len: sizes.len })));
+                }
+                Err(Error::Buffer) => {}
+                Err(error) => return Err(error),
+            }
+        }
+    }
+
+    /// Whether the subtrees at two paths are equal apart from spans. The second one is a subtree of another handle or
+    /// of this one.
+    pub(crate) fn spanless_eq(&self, path: &[usize], other: &Handle, other_path: &[usize]) -> Result<bool, Error> {
+        let (many, other_many, mut equal) = (path.len(), other_path.len(), 0);
+        let (path, other_path) = (path.as_ptr(), other_path.as_ptr());
+        // SAFETY: what the head of this module says. No call gets the same handle twice.
+        outcome(unsafe {
+            if ptr::eq(self, other) {
+                raw::typst_spanless_eq_within(self.at(), path, many, other_path, other_many, &mut equal)
+            } else {
+                raw::typst_spanless_eq(self.at(), path, many, other.at(), other_path, other_many, &mut equal)
+            }
+        })?;
+        Ok(equal == 1)
+    }
+
+    pub(crate) fn find(&self, number: u64) -> Result<Vec<usize>, Error> {
+        found(|path, place| {
+            // SAFETY: what the head of this module says.
+            unsafe { raw::typst_find(self.at(), number, path.as_mut_ptr(), path.len(), place) }
+        })
+    }
+
+    pub(crate) fn leaf_at(&self, cursor: usize, side: u32) -> Result<Vec<usize>, Error> {
+        found(|path, place| {
+            // SAFETY: what the head of this module says.
+            unsafe { raw::typst_leaf_at(self.at(), cursor, side, path.as_mut_ptr(), path.len(), place) }
+        })
+    }
+
+    pub(crate) fn range_of(&self, path: &[usize]) -> Result<Range<usize>, Error> {
+        let mut range = ByteRange::default();
+        // SAFETY: what the head of this module says.
+        outcome(unsafe { raw::typst_range_of(self.at(), path.as_ptr(), path.len(), &mut range) })?;
+        Ok(range.start..range.end)
+    }
+
+    pub(crate) fn neighbor(&self, from: &[usize], which: u32) -> Result<Vec<usize>, Error> {
+        found(|path, place| {
+            // SAFETY: what the head of this module says.
+            unsafe {
+                raw::typst_neighbor(
+                    self.at(),
+                    from.as_ptr(),
+                    from.len(),
+                    which,
+                    path.as_mut_ptr(),
+                    path.len(),
+                    place,
+                )
+            }
+        })
+    }
+
+    pub(crate) fn open(&mut self, file: u16, text: &str) -> Result<(), Error> {
+        // SAFETY: what the head of this module says.
+        outcome(unsafe { raw::typst_open(self.at(), file, text.as_ptr(), text.len()) })
+    }
+
+    pub(crate) fn edit(&mut self, range: Range<usize>, with: &str) -> Result<Edited, Error> {
+        let mut edited = Edited::default();
+        let (from, to) = (range.start, range.end);
+        // SAFETY: what the head of this module says.
+        outcome(unsafe { raw::typst_edit(self.at(), from, to, with.as_ptr(), with.len(), &mut edited) })?;
+        Ok(edited)
+    }
+
+    pub(crate) fn len_lines(&self) -> Result<usize, Error> {
+        let mut count = 0;
+        // SAFETY: what the head of this module says.
+        outcome(unsafe { raw::typst_len_lines(self.at(), &mut count) })?;
+        Ok(count)
+    }
+
+    pub(crate) fn byte_to_line_column(&self, byte: usize, unit: u32) -> Result<LineColumn, Error> {
+        let mut place = LineColumn::default();
+        // SAFETY: what the head of this module says.
+        outcome(unsafe { raw::typst_byte_to_line_column(self.at(), byte, unit, &mut place) })?;
+        Ok(place)
+    }
+
+    pub(crate) fn line_column_to_byte(&self, line: usize, column: usize, unit: u32) -> Result<usize, Error> {
+        let mut byte = 0;
+        // SAFETY: what the head of this module says.
+        outcome(unsafe { raw::typst_line_column_to_byte(self.at(), line, column, unit, &mut byte) })?;
+        Ok(byte)
+    }
+}
+
+/// The name of the kind with a number, if it has at most `most` bytes. The crate itself has a table of the
+/// names, which a test compares with these.
+#[cfg(test)]
+pub(crate) fn kind_name(kind: u8, most: usize) -> Result<String, Error> {
+    let mut length = Length::default();
+    let mut out = vec![0; most];
+    // SAFETY: what the head of this module says.
+    outcome(unsafe { raw::typst_kind_name(kind.into(), out.as_mut_ptr(), out.len(), &mut length) })?;
+    Ok(text(out, length))
+}
+
+/// The number of the kind with a name.
+pub(crate) fn kind_of_name(name: &str) -> Result<u32, Error> {
+    let mut kind = 0;
+    // SAFETY: what the head of this module says.
+    outcome(unsafe { raw::typst_kind_of_name(name.as_ptr(), name.len(), &mut kind) })?;
+    Ok(kind)
+}
+
+/// The classes of the kind with a number.
+pub(crate) fn kind_classes(kind: u8) -> Result<KindClasses, Error> {
+    let mut classes = KindClasses::default();
+    // SAFETY: what the head of this module says.
+    outcome(unsafe { raw::typst_kind_classes(kind.into(), &mut classes) })?;
+    Ok(classes)
+}
+
+/// Whether the set with a number holds the kind with a number.
+pub(crate) fn kind_in_set(kind: u8, set: u32) -> Result<bool, Error> {
+    let mut held = 0;
+    // SAFETY: what the head of this module says.
+    outcome(unsafe { raw::typst_kind_in_set(kind.into(), set, &mut held) })?;
+    Ok(held == 1)
+}
+
+/// The text of a length at the beginning of a buffer.
+fn text(mut out: Vec<u8>, length: Length) -> String {
+    out.truncate(length.len);
+    String::from_utf8(out).expect("texts of nodes are UTF-8")
+}
+
+/// Makes a search with a buffer for its path, and once more with a longer buffer if the first one was too short.
+fn found(mut search: impl FnMut(&mut [usize], &mut Place) -> u32) -> Result<Vec<usize>, Error> {
+    let mut place = Place::default();
+    let mut path = vec![0; 16];
+    loop {
+        match outcome(search(&mut path, &mut place)) {
+            Ok(()) => {
+                path.truncate(place.depth);
+                return Ok(path);
+            }
+            Err(Error::Buffer) => path.resize(place.depth, 0),
+            Err(error) => return Err(error),
+        }
+    }
+}
+
+impl Drop for Handle {
+    fn drop(&mut self) {
+        // SAFETY: the session was made by `new`, and is freed once.
+        unsafe { raw::typst_free(self.at()) }
+    }
+}

@@ -1,0 +1,96 @@
+//! Edits a document of markup, and tells after each edit what was parsed anew and which nodes keep their numbers.
+//!
+//! `example_editor TEXT EDITS` reads two files: the text, and a line for each edit, as `7..12 "Trees"`, whose range is in bytes
+//! and whose text is written with the escapes `\n`, `\"` and `\\`.
+#![tactic(auto)]
+
+use anyhow::{Context, Result, bail};
+use std::alloc::{AllocError, Global};
+use std::ops::Range;
+use std::{env, fs};
+use typst_markup::Markup;
+use typst_source::{Edited, Source};
+use typst_tree::{FileId, SyntaxNode};
+
+/// The range of bytes that `A..B` writes.
+fn range_of(word: &str) -> Option<Range<usize>> {
+    let (start, end) = word.split_once("..")?;
+    Some(start.parse().ok()?..end.parse().ok()?)
+}
+
+/// The text that stands in quotes, with its escapes read.
+fn unquoted(alloc: Global, quoted: &str) -> Result<Option<String>, AllocError> {
+    let Some(inside) = quoted
+        .strip_prefix('"')
+        .and_then(|rest| rest.strip_suffix('"'))
+    else {
+        return Ok(None);
+    };
+    let mut text = String::new(alloc);
+    let mut is_escaped = false;
+    for c in inside.chars() {
+        match c {
+            '\\' if !is_escaped => is_escaped = true,
+            'n' if is_escaped => {
+                text.push('\n')?;
+                is_escaped = false;
+            }
+            other => {
+                text.push(other)?;
+                is_escaped = false;
+            }
+        }
+    }
+    Ok(Some(text))
+}
+
+/// How many nodes some trees have.
+fn count(nodes: &[SyntaxNode]) -> usize {
+    nodes
+        .iter()
+        .fold(0usize, |sum, node| sum.saturating_add(node.descendants()))
+}
+
+/// What an edit did, in words.
+fn told(alloc: Global, source: &Source<Markup>, done: &Edited) -> Result<String, AllocError> {
+    let Range { start, end } = done.reparsed;
+    let window = done.renumbered.window.start..done.renumbered.window.end;
+    let all = source.root().descendants();
+    let anew = count(source.root().child_slice().get(window).unwrap_or(&[]));
+    format!(in alloc;
+        "parsed {start}..{end} of {} bytes; numbered {anew} of {all} nodes, tried {}; {} keep their numbers",
+        source.text().len(),
+        done.renumbered.tried,
+        all.saturating_sub(anew)
+    )
+}
+
+/// Does the edit that a line writes.
+fn edit(alloc: Global, source: &mut Source<Markup>, line: &str) -> Result<Edited> {
+    let (word, quoted) = line
+        .split_once(' ')
+        .context("an edit is written A..B \"text\"")?;
+    let range = range_of(word).context("an edit begins with a range of bytes, as 7..12")?;
+    let text = unquoted(alloc, quoted)?.context("the text of an edit stands in quotes")?;
+    if !source.fits(&range) {
+        bail!(
+            "{word} isn't a range of the text's {} bytes",
+            source.text().len()
+        );
+    }
+    Ok(source.edit(alloc, range, &text)?)
+}
+
+fn main(rt: HostRuntime) -> Result<()> {
+    let alloc = rt.alloc();
+    let mut words = env::args(&rt)?.skip(1);
+    let text = fs::read_to_string(&rt, words.next().context("no file of a text")?.as_str())?;
+    let edits = fs::read_to_string(&rt, words.next().context("no file of edits")?.as_str())?;
+    let mut source = Source::new(alloc, FileId::FIRST, &text, Markup)?;
+    for line in edits.lines() {
+        let done = edit(alloc, &mut source, line)?;
+        rt.println(told(alloc, &source, &done)?)?;
+    }
+    rt.print(source.text())?;
+    Ok(())
+}

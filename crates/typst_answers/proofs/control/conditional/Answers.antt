@@ -1,4 +1,0 @@
-use Rattle.typst_answers.proofs.control.conditional.Goals as goal
-
-pub returns : goal.returns
-returns c = record { kept = λ before told. c.expr_option.ensures.kept before (c.expr_view-2.ensures.kept before (c.expr_view.ensures.kept before told)) }

@@ -1,5 +1,0 @@
-use Rattle.typst_answers.specs.Kept.{Keeps}
-use Rattle.typst_answers.proofs.math.math_content_items.Given as goal
-
-abbrev pub invariant-loop-index : goal.invariant-loop-index
-invariant-loop-index l = Keeps l.initial.out l.out

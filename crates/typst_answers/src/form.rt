@@ -1,0 +1,87 @@
+//! The forms in which answers are written.
+
+use std::alloc::{AllocError, Global};
+use typst_tree::{LinkedNode, SyntaxKind};
+
+/// How many characters of a text are written if a form cuts it.
+const MOST_CHARS: usize = 60;
+
+/// How many entries of a list are written if a form cuts it.
+const MOST_ENTRIES: usize = 8;
+
+/// How answers are written.
+#[derive(Clone, Copy, Debug, PartialEq, Eq)]
+pub enum Form {
+    /// `PATH KIND.ACCESSOR ANSWER`, with nodes by their paths. Each line makes sense by itself.
+    Paths,
+    /// `ACCESSOR: ANSWER`, with nodes by their kinds and bytes, and with long texts and lists cut. This form is for a
+    /// person who sees which node the lines are about.
+    Ranges,
+}
+
+impl Form {
+    /// The beginning of a line, up to its answer.
+    pub fn beginning(self, alloc: Global, head: &str, what: &str) -> Result<String, AllocError> {
+        match self {
+            Form::Paths => format!(in alloc; "{head}{what} "),
+            Form::Ranges => format!(in alloc; "{what}: "),
+        }
+    }
+
+    /// How a node is written.
+    pub fn node(self, alloc: Global, node: &LinkedNode) -> Result<String, AllocError> {
+        match self {
+            Form::Paths => path_of(alloc, node),
+            Form::Ranges => {
+                let kind = node.get().kind();
+                let range = node.range();
+                let (start, end) = (range.start, range.end);
+                format!(in alloc; "{kind:?} {start}..{end}")
+            }
+        }
+    }
+
+    /// How the placeholder of a kind is written.
+    pub fn placeholder(self, alloc: Global, kind: SyntaxKind) -> Result<String, AllocError> {
+        match self {
+            Form::Paths => format!(in alloc; "~{kind:?}"),
+            Form::Ranges => format!(in alloc; "placeholder {kind:?}"),
+        }
+    }
+
+    /// How a text is written, in quotes.
+    pub fn text(self, alloc: Global, text: &str) -> Result<String, AllocError> {
+        let cut = match self {
+            Form::Paths => None,
+            Form::Ranges => text.char_indices().nth(MOST_CHARS),
+        };
+        match cut {
+            Some((end, _)) => {
+                let beginning = text.get(..end).unwrap_or("");
+                format!(in alloc; "{beginning:?}…")
+            }
+            None => format!(in alloc; "{text:?}"),
+        }
+    }
+
+    /// The entries of a list that are written.
+    pub fn entries<T>(self, list: &[T]) -> &[T] {
+        match self {
+            Form::Paths => list,
+            Form::Ranges => list.get(..MOST_ENTRIES).unwrap_or(list),
+        }
+    }
+}
+
+/// `-` for the root, or the child indices joined by dots.
+pub fn path_of(alloc: Global, node: &LinkedNode) -> Result<String, AllocError> {
+    let path = node.path(alloc)?;
+    let Some((first, rest)) = path.split_first() else {
+        return String::from_str(alloc, "-");
+    };
+    let mut text = format!(in alloc; "{first}")?;
+    for index in rest {
+        write!(text, ".{index}")?;
+    }
+    Ok(text)
+}

@@ -1,8 +1,0 @@
-use Rattle.std.proofs.Common.{sym, ◌∙◌}
-use Rattle.typst_ast.specs.EqualViews.{equal_array_items}
-use Rattle.typst_ast.proofs.array_item.ArrayItem.is_equal.Goals as goal
-
-pub returns : goal.returns
-returns c =
-    let law = equal_array_items c.args.self c.args.other in
-    ((λ t. law.0 (sym c.eq.ensures ∙ t)), (λ e. c.eq.ensures ∙ law.1 e))

@@ -1,5 +1,0 @@
-use Rattle.typst_atoms.proofs.Lasts.{optional_last}
-use Rattle.typst_atoms.proofs.casts.last_in.Goals as goal
-
-pub returns : goal.returns
-returns g c = optional_last _ _ _ _ _ _ _ _ c.over.ensures.left c.next_back.ensures.steps

@@ -1,0 +1,125 @@
+//! Texts of markup, with their trees and their edits.
+use crate::asked::Asked;
+use crate::stopwatch::Stopwatch;
+use anyhow::{Result, ensure};
+use std::alloc::{AllocError, Global};
+use std::ops::Range;
+use typst_markup::Markup;
+use typst_source::Source;
+use typst_tree::FileId;
+
+/// A paragraph of four lines, the last of which is empty.
+pub const PARAGRAPH: &str =
+    "= A heading\nSome *strong* words, _emphasis_ and a line.\n- an item with `raw text`\n\n";
+
+/// How many lines the paragraph has.
+const LINES: usize = 4;
+
+/// Where a letter is inserted and removed in a paragraph, in bytes: inside the word `emphasis` of its second line.
+pub const LETTER: usize = 40;
+
+/// A text that is inserted at a byte of a paragraph, and removed again.
+#[derive(Clone, Copy)]
+pub struct Edit {
+    /// Where the text is inserted, in bytes of the paragraph.
+    pub at: usize,
+    /// The text.
+    pub with: &'static str,
+}
+
+/// A text of so many lines.
+pub fn text(alloc: Global, lines: usize) -> Result<String, AllocError> {
+    let mut text = String::new(alloc);
+    for _ in 0..lines / LINES {
+        text.push_str(PARAGRAPH)?;
+    }
+    Ok(text)
+}
+
+/// Where the paragraph in the middle of such a text begins, in bytes.
+pub fn middle(lines: usize) -> usize {
+    (lines / LINES / 2).saturating_mul(PARAGRAPH.len())
+}
+
+/// How many bytes a range has.
+pub fn bytes(range: &Range<usize>) -> usize {
+    range.end.saturating_sub(range.start)
+}
+
+/// What is typed, or none if the text is parsed as a whole.
+pub fn typed(verb: &str) -> Option<Edit> {
+    Some(match verb {
+        "letter" => Edit {
+            at: LETTER,
+            with: "x",
+        },
+        "paragraph" => Edit {
+            at: 0,
+            with: PARAGRAPH,
+        },
+        "delimiter" => Edit { at: 12, with: "*" },
+        _ => return None,
+    })
+}
+
+/// Parses a text or edits it in each round. Returns how many bytes were parsed in all.
+pub fn made(alloc: Global, watch: &mut Stopwatch<'_>, asked: Asked<'_>) -> Result<Option<usize>> {
+    let text = text(alloc, asked.size)?;
+    Ok(Some(match typed(asked.verb) {
+        Some(edit) => edited(alloc, watch, &text, edit, asked)?,
+        None => parsed(alloc, watch, &text, asked.rounds)?,
+    }))
+}
+
+/// In each round, makes an edit in the middle of a text and takes it back.
+fn edited(
+    alloc: Global,
+    watch: &mut Stopwatch<'_>,
+    text: &str,
+    edit: Edit,
+    asked: Asked<'_>,
+) -> Result<usize> {
+    let mut source = Source::new(alloc, FileId::FIRST, text, Markup)?;
+    let at = middle(asked.size).saturating_add(edit.at);
+    let mut seen = 0usize;
+    watch.start()?;
+    for _ in 0..asked.rounds {
+        seen = seen.saturating_add(round(alloc, &mut source, at, edit)?);
+    }
+    watch.stop()?;
+    ensure!(source.text() == text, "the text is another one");
+    Ok(seen)
+}
+
+/// Makes an edit at a byte and takes it back, and returns how many bytes were parsed anew.
+fn round(alloc: Global, source: &mut Source<Markup>, at: usize, edit: Edit) -> Result<usize> {
+    let come = put(alloc, source, at..at, edit.with)?;
+    let gone = put(alloc, source, at..at.saturating_add(edit.with.len()), "")?;
+    Ok(come.saturating_add(gone))
+}
+
+/// Parses the whole text in each round, and returns how many bytes the trees have together. The first parse takes
+/// memory that the process hasn't had before, so it is neither timed nor counted.
+fn parsed(alloc: Global, watch: &mut Stopwatch<'_>, text: &str, rounds: usize) -> Result<usize> {
+    let mut seen = 0usize;
+    drop(Source::new(alloc, FileId::FIRST, text, Markup)?);
+    for _ in 0..rounds {
+        watch.start()?;
+        let source = Source::new(alloc, FileId::FIRST, text, Markup)?;
+        watch.stop()?;
+        seen = seen.saturating_add(source.root().len());
+    }
+    Ok(seen)
+}
+
+/// Replaces a range of bytes by a text, and returns how many bytes were parsed anew.
+fn put(
+    alloc: Global,
+    source: &mut Source<Markup>,
+    range: Range<usize>,
+    with: &str,
+) -> Result<usize> {
+    ensure!(source.fits(&range), "the range isn't one of the text");
+    let done = source.edit(alloc, range, with)?;
+    Ok(bytes(&done.reparsed))
+}

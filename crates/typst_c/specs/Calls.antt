@@ -1,0 +1,29 @@
+-- What calls on a handle do.
+use Rattle.std.specs.Prelude.{ℕ, ◌≡◌, Option, Some, None, Result, Ok, Err}
+use Rattle.typst_session.specs.Codes.{code_of}
+use Rattle.typst_session.specs.declared.session.Session.{Session}
+use Rattle.typst_session.specs.declared.refusal.Refusal.{Refusal}
+
+-- the status of a call: 0 if the call was done, else the code of the refusal
+abbrev pub status_of : {X : Type 0} → Result X Refusal → ℕ
+status_of (Ok x) = 0
+status_of (Err refusal) = code_of refusal
+
+-- a call that may change what a handle holds; if it holds nothing, the status is 1 and it still holds nothing
+abbrev pub Changes : (Session → Session → Type 0) → Option Session → ℕ → Option Session → Type 0
+Changes call None status new = (status ≡ 1) × (new ≡ None)
+Changes call (Some old) status None = ⊥
+Changes call (Some old) status (Some new) = call old new
+
+-- a call on a session has an outcome with this status
+abbrev pub HasOutcome : (Session → Result (Unit {0}) Refusal → Session → Type 0) → ℕ → Session → Session → Type 0
+HasOutcome call status old new = (outcome : Result (Unit {0}) Refusal) × (status ≡ status_of outcome) × call old outcome new
+
+-- a call that returns only a status
+abbrev pub Does : (Session → Result (Unit {0}) Refusal → Session → Type 0) → Option Session → ℕ → Option Session → Type 0
+Does call old status new = Changes (HasOutcome call status) old status new
+
+-- a call that reads what a handle holds; if the handle holds nothing, the status is 1
+abbrev pub Reads : (Session → Type 0) → Option Session → ℕ → Type 0
+Reads call None status = status ≡ 1
+Reads call (Some s) status = call s

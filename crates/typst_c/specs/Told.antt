@@ -1,0 +1,105 @@
+-- How outcomes are told to C.
+use Rattle.std.specs.Prelude.{ℕ, ◌≡◌, ◌↔◌, ◌==◌, ◌⊎◌, Bool, not, List, IsTrue, Result, Ok, Err, if◌then◌else◌}
+use Rattle.std.specs.declared.ops.Range.{Range}
+use Rattle.typst_lines.specs.declared.column.ColumnUnit.{ColumnUnit}
+use Rattle.typst_lines.specs.declared.column.ColumnUnit.TheVariants.{Byte, Character, Utf16}
+use Rattle.typst_linked.specs.declared.cursor.Side.{Side}
+use Rattle.typst_linked.specs.declared.cursor.Side.TheVariants.{Before, After}
+use Rattle.typst_node.specs.declared.node.replace.Renumbered.{Renumbered}
+use Rattle.typst_source.specs.declared.edited.Edited.{Edited as SourceEdited}
+use Rattle.typst_session.specs.Codes.{code_of}
+use Rattle.typst_session.specs.Texts.{IsWritten, IsTooShort}
+use Rattle.typst_session.specs.declared.finding.Found.{Found}
+use Rattle.typst_session.specs.declared.info.NodeInfo.{NodeInfo}
+use Rattle.typst_session.specs.declared.kinds.KindClasses.{KindClasses}
+use Rattle.typst_session.specs.declared.neighbors.Neighbor.{Neighbor}
+use Rattle.typst_session.specs.declared.neighbors.Neighbor.TheVariants.{NextLeaf, PrevLeaf, NextSibling, PrevSibling}
+use Rattle.typst_session.specs.declared.places.LineColumn.{LineColumn}
+use Rattle.typst_session.specs.declared.refusal.Refusal.{Refusal}
+use Rattle.typst_session.specs.declared.refusal.Refusal.TheVariants.{Buffer}
+use Rattle.typst_c.specs.declared.told.Window.{Window}
+use Rattle.typst_c.specs.declared.told.Edited.{Edited}
+use Rattle.typst_c.specs.declared.told.Place.{Place}
+use Rattle.typst_c.specs.declared.told.ByteRange.{ByteRange}
+
+-- the info was told, or why there is none
+abbrev pub TellsInfo : NodeInfo → ℕ → Result NodeInfo Refusal → Type 0
+TellsInfo told status (Ok info) = (status ≡ 0) × (told ≡ info)
+TellsInfo told status (Err refusal) = status ≡ code_of refusal
+
+-- the number was told, or why there is none
+abbrev pub TellsNumber : ℕ → ℕ → Result ℕ Refusal → Type 0
+TellsNumber told status (Ok number) = (status ≡ 0) × (told ≡ number)
+TellsNumber told status (Err refusal) = status ≡ code_of refusal
+
+-- the line and the column were told, or why there are none
+abbrev pub TellsLineColumn : LineColumn → ℕ → Result LineColumn Refusal → Type 0
+TellsLineColumn told status (Ok place) = (status ≡ 0) × (told ≡ place)
+TellsLineColumn told status (Err refusal) = status ≡ code_of refusal
+
+-- 1 was told if it holds, and another number if not, or why nothing was told
+abbrev pub TellsFlag : ℕ → ℕ → Result Bool Refusal → Type 0
+TellsFlag told status (Ok flag) = (status ≡ 0) × ((told ≡ 1) ↔ IsTrue flag)
+TellsFlag told status (Err refusal) = status ≡ code_of refusal
+
+-- the classes were told, or why there are none
+abbrev pub TellsClasses : KindClasses → ℕ → Result KindClasses Refusal → Type 0
+TellsClasses told status (Ok classes) = (status ≡ 0) × (told ≡ classes)
+TellsClasses told status (Err refusal) = status ≡ code_of refusal
+
+-- the range was told, or why there is none
+abbrev pub TellsRange : ByteRange → ℕ → Result (Range ℕ) Refusal → Type 0
+TellsRange told status (Ok range) = (status ≡ 0) × (told.start ≡ range.start) × (told.end ≡ range.end)
+TellsRange told status (Err refusal) = status ≡ code_of refusal
+
+-- the children that were numbered anew, and the number of windows that were tried
+pub record IsWindow (done : Renumbered) (told : Window) : Type 0 where
+  pub start : told.start ≡ done.window.start
+  pub end : told.end ≡ done.window.end
+  pub tried : told.tried ≡ done.tried
+
+-- the window was told, or why there is none
+abbrev pub TellsWindow : Window → ℕ → Result Renumbered Refusal → Type 0
+TellsWindow told status (Ok done) = (status ≡ 0) × IsWindow done told
+TellsWindow told status (Err refusal) = status ≡ code_of refusal
+
+-- the bytes that were parsed anew, and the window
+pub record IsEdit (done : SourceEdited) (told : Edited) : Type 0 where
+  pub start : told.start ≡ done.reparsed.start
+  pub end : told.end ≡ done.reparsed.end
+  pub window : IsWindow done.renumbered told.window
+
+-- what an edit did was told, or why it wasn't done
+abbrev pub TellsEdit : Edited → ℕ → Result SourceEdited Refusal → Type 0
+TellsEdit told status (Ok done) = (status ≡ 0) × IsEdit done told
+TellsEdit told status (Err refusal) = status ≡ code_of refusal
+
+-- The path that was found was written into a buffer with room for it, or only its length was told. Where its text
+-- begins was told in both cases.
+abbrev pub TellsPlace : List ℕ → List ℕ → Place → ℕ → Result Found Refusal → Type 0
+TellsPlace old new told status (Ok found) =
+    (told.offset ≡ found.offset)
+    × (((status ≡ 0) × IsWritten found.path.items old new told.depth) ⊎ ((status ≡ code_of Buffer) × IsTooShort found.path.items old new told.depth))
+TellsPlace old new told status (Err refusal) = (status ≡ code_of refusal) × (new ≡ old)
+
+-- the side of a cursor that a number means: 0 is before it, any other number after it
+abbrev pub side_of : ℕ → Side
+side_of side = if side == 0 then Before else After
+
+-- the neighbor that a number means: 0 is the next leaf, 1 the leaf before, 2 the next sibling, and any other number the
+-- sibling before
+abbrev pub neighbor_from : ℕ → Neighbor
+neighbor_from which =
+    if which == 0 then NextLeaf else (if which == 1 then PrevLeaf else (if which == 2 then NextSibling else PrevSibling))
+
+-- the unit of columns that a number means: 0 is bytes, 1 characters, and any other number units of UTF-16
+abbrev pub unit_of : ℕ → ColumnUnit
+unit_of unit = if unit == 0 then Byte else (if unit == 1 then Character else Utf16)
+
+-- whether a number means that children are counted from the end: 0 doesn't, any other number does
+abbrev pub is_from_end : ℕ → Bool
+is_from_end number = not (number == 0)
+
+-- the range with these ends
+abbrev pub range_from : ℕ → ℕ → Range ℕ
+range_from from to = record { start = from; end = to }

@@ -1,0 +1,32 @@
+//! The errors, warnings and hints of the tree that a handle holds.
+ghost use Rattle.std.specs.Prelude.{◌≡◌, Result};
+ghost use Rattle.typst_c.specs.Calls.{Reads, status_of};
+ghost use Rattle.typst_session.specs.Diagnostics.{ReadsDiagnostics};
+ghost use Rattle.typst_session.specs.declared.refusal.Refusal.{Refusal};
+
+use crate::handle::Handle;
+use crate::told::{NOT_MADE, status};
+use std::alloc::Global;
+use typst_session::{Diagnostic, DiagnosticSizes};
+
+/// Writes the errors and the warnings of the tree, and their hints, with their texts.
+#[unsafe(no_mangle)]
+pub extern "C" fn typst_diagnostics(
+    alloc: Global,
+    handle: &mut Handle,
+    out: &mut [Diagnostic],
+    texts: &mut [u8],
+    sizes: &mut DiagnosticSizes,
+) -> u32
+    ensures kept { handle.new.at.value ≡ handle.old.at.value }
+    ensures read { Reads (λ s. (outcome : Result (Unit {0}) Refusal) × (result ≡ status_of outcome)
+        × ReadsDiagnostics s (record { list = out.old; texts = texts.old }) (record { list = out.new; texts = texts.new })
+        sizes.new outcome) handle.old.at.value result }
+{
+    let Some(session) = handle.take(alloc) else {
+        return NOT_MADE;
+    };
+    let outcome = session.diagnostics(alloc, out, texts, sizes);
+    handle.put(session);
+    status(outcome)
+}

@@ -1,0 +1,45 @@
+//! Documents: texts that are edited together with their trees.
+ghost use Rattle.std.specs.Prelude.{Result};
+ghost use Rattle.typst_c.specs.Calls.{Changes, Does};
+ghost use Rattle.typst_c.specs.Told.{TellsEdit, range_from};
+ghost use Rattle.typst_session.specs.Documents.{Opens, EditsText};
+ghost use Rattle.typst_session.specs.declared.refusal.Refusal.{Refusal};
+ghost use Rattle.typst_source.specs.declared.edited.Edited.{Edited as Done};
+
+use crate::handle::Handle;
+use crate::told::{Edited, NOT_MADE, status, tell_edit};
+use std::alloc::Global;
+
+/// Parses a text of markup, and makes it the document.
+#[unsafe(no_mangle)]
+pub extern "C" fn typst_open(alloc: Global, handle: &mut Handle, file: u16, text: &[u8]) -> u32
+    ensures { Does (Opens file text.now) handle.old.at.value result handle.new.at.value }
+{
+    let Some(mut session) = handle.take(alloc) else {
+        return NOT_MADE;
+    };
+    let outcome = session.open(alloc, file, text);
+    handle.put(session);
+    status(outcome)
+}
+
+/// Replaces the document's bytes from `from` up to, not including, `to` by a text.
+#[unsafe(no_mangle)]
+pub extern "C" fn typst_edit(
+    alloc: Global,
+    handle: &mut Handle,
+    from: usize,
+    to: usize,
+    with: &[u8],
+    edited: &mut Edited,
+) -> u32
+    ensures { Changes (λ s t. (outcome : Result Done Refusal) × TellsEdit edited.new result outcome
+        × EditsText (range_from from to) with.now s outcome t) handle.old.at.value result handle.new.at.value }
+{
+    let Some(mut session) = handle.take(alloc) else {
+        return NOT_MADE;
+    };
+    let outcome = session.edit(alloc, from..to, with);
+    handle.put(session);
+    tell_edit(outcome, edited)
+}

@@ -1,0 +1,33 @@
+//! Making and freeing what a handle holds.
+ghost use Rattle.std.specs.Prelude.{◌≡◌, ◌⊎◌, [], None, IsSomeAnd};
+ghost use Rattle.typst_session.specs.Codes.{code_of};
+ghost use Rattle.typst_session.specs.declared.refusal.Refusal.TheVariants.{Memory};
+ghost use Rattle.typst_session.specs.declared.session.Held.TheVariants.{Nothing};
+
+use crate::handle::Handle;
+use std::alloc::Global;
+use typst_session::{Refusal, Session};
+
+/// Frees what the handle holds, and makes an empty session in its place.
+#[unsafe(no_mangle)]
+pub extern "C" fn typst_new(alloc: Global, handle: &mut Handle) -> u32
+    ensures made { result ≡ 0 → IsSomeAnd handle.new.at.value (λ s. (s.stack.items ≡ []) × (s.held ≡ Nothing)) }
+    ensures status { (result ≡ 0) ⊎ ((result ≡ code_of Memory) × (handle.new.at.value ≡ None)) }
+{
+    handle.take(alloc);
+    match Box::new(alloc, Session::new(alloc)) {
+        Ok(session) => {
+            handle.put(session);
+            0
+        }
+        Err(_) => Refusal::Memory.code(),
+    }
+}
+
+/// Frees what the handle holds, and leaves nothing in it.
+#[unsafe(no_mangle)]
+pub extern "C" fn typst_free(alloc: Global, handle: &mut Handle)
+    ensures { handle.new.at.value ≡ None }
+{
+    handle.take(alloc);
+}

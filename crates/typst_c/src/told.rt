@@ -1,0 +1,241 @@
+//! How outcomes are told to C: by a status, and by what is written for the caller.
+ghost use Rattle.std.specs.Prelude.{◌≡◌};
+ghost use Rattle.typst_session.specs.Texts.{Writes};
+ghost use Rattle.typst_c.specs.Calls.{status_of};
+ghost use Rattle.typst_c.specs.Told.{IsWindow, TellsClasses, TellsEdit, TellsFlag, TellsInfo, TellsLineColumn, TellsNumber, TellsPlace, TellsRange, TellsWindow};
+
+use std::ops::Range;
+use typst_session::finding::Found;
+use typst_session::kinds::KindClasses;
+use typst_session::{LineColumn, NodeInfo, Refusal};
+use typst_source::Edited as SourceEdited;
+use typst_tree::Renumbered;
+
+/// The status of a handle that holds nothing.
+pub const NOT_MADE: u32 = 1;
+
+/// The range of children that were numbered anew.
+#[repr(C)]
+#[derive(Clone, Copy, Drop)]
+pub struct Window {
+    /// The index of the first child.
+    pub start: usize,
+    /// The index after the last child.
+    pub end: usize,
+    /// How many windows were tried.
+    pub tried: usize,
+}
+
+/// What an edit of a text did.
+#[repr(C)]
+#[derive(Clone, Copy, Drop)]
+pub struct Edited {
+    /// Where the bytes that were parsed anew begin in the new text.
+    pub start: usize,
+    /// Where they end.
+    pub end: usize,
+    /// The children of the root that were numbered anew.
+    pub window: Window,
+}
+
+/// Where a node was found.
+#[repr(C)]
+#[derive(Clone, Copy, Drop)]
+pub struct Place {
+    /// The number of child indices in its path.
+    pub depth: usize,
+    /// Where its text begins, in bytes.
+    pub offset: usize,
+}
+
+/// The length of a text or of a list.
+#[repr(C)]
+#[derive(Clone, Copy, Drop)]
+pub struct Length {
+    /// The length in bytes or in items.
+    pub len: usize,
+}
+
+/// A range of bytes of a text.
+#[repr(C)]
+#[derive(Clone, Copy, Drop)]
+pub struct ByteRange {
+    /// Where the range begins.
+    pub start: usize,
+    /// Where they end.
+    pub end: usize,
+}
+
+/// The status of an outcome.
+pub(crate) fn status(outcome: Result<(), Refusal>) -> u32
+    ensures { result ≡ status_of outcome }
+{
+    match outcome {
+        Ok(()) => 0,
+        Err(refusal) => refusal.code(),
+    }
+}
+
+/// Tells an info.
+pub(crate) fn tell_info(outcome: Result<NodeInfo, Refusal>, told: &mut NodeInfo) -> u32
+    ensures { TellsInfo told.new result outcome }
+{
+    match outcome {
+        Ok(info) => {
+            *told = info;
+            0
+        }
+        Err(refusal) => refusal.code(),
+    }
+}
+
+/// Tells a number.
+pub(crate) fn tell_number(outcome: Result<u32, Refusal>, told: &mut u32) -> u32
+    ensures { TellsNumber told.new result outcome }
+{
+    match outcome {
+        Ok(number) => {
+            *told = number;
+            0
+        }
+        Err(refusal) => refusal.code(),
+    }
+}
+
+/// Tells a length, a count or a place in a text.
+pub(crate) fn tell_size(outcome: Result<usize, Refusal>, told: &mut usize) -> u32
+    ensures { TellsNumber told.new result outcome }
+{
+    match outcome {
+        Ok(size) => {
+            *told = size;
+            0
+        }
+        Err(refusal) => refusal.code(),
+    }
+}
+
+/// Tells a line and a column.
+pub(crate) fn tell_line_column(outcome: Result<LineColumn, Refusal>, told: &mut LineColumn) -> u32
+    ensures { TellsLineColumn told.new result outcome }
+{
+    match outcome {
+        Ok(place) => {
+            *told = place;
+            0
+        }
+        Err(refusal) => refusal.code(),
+    }
+}
+
+/// Tells whether something holds, as 1 or 0.
+pub(crate) fn tell_flag(outcome: Result<bool, Refusal>, told: &mut u32) -> u32
+    ensures { TellsFlag told.new result outcome }
+{
+    match outcome {
+        Ok(flag) => {
+            *told = if flag { 1 } else { 0 };
+            0
+        }
+        Err(refusal) => refusal.code(),
+    }
+}
+
+/// Tells classes.
+pub(crate) fn tell_classes(outcome: Result<KindClasses, Refusal>, told: &mut KindClasses) -> u32
+    ensures { TellsClasses told.new result outcome }
+{
+    match outcome {
+        Ok(classes) => {
+            *told = classes;
+            0
+        }
+        Err(refusal) => refusal.code(),
+    }
+}
+
+/// Tells a range of bytes.
+pub(crate) fn tell_range(outcome: Result<Range<usize>, Refusal>, told: &mut ByteRange) -> u32
+    ensures { TellsRange told.new result outcome }
+{
+    match outcome {
+        Ok(range) => {
+            *told = ByteRange {
+                start: range.start,
+                end: range.end,
+            };
+            0
+        }
+        Err(refusal) => refusal.code(),
+    }
+}
+
+/// The window of a replacement.
+fn window_of(done: &Renumbered) -> Window
+    ensures { IsWindow done.now result }
+{
+    Window {
+        start: done.window.start,
+        end: done.window.end,
+        tried: done.tried,
+    }
+}
+
+/// Tells a window.
+pub(crate) fn tell_window(outcome: Result<Renumbered, Refusal>, told: &mut Window) -> u32
+    ensures { TellsWindow told.new result outcome }
+{
+    match outcome {
+        Ok(done) => {
+            *told = window_of(&done);
+            0
+        }
+        Err(refusal) => refusal.code(),
+    }
+}
+
+/// Tells what an edit did.
+pub(crate) fn tell_edit(outcome: Result<SourceEdited, Refusal>, told: &mut Edited) -> u32
+    ensures { TellsEdit told.new result outcome }
+{
+    match outcome {
+        Ok(done) => {
+            *told = Edited {
+                start: done.reparsed.start,
+                end: done.reparsed.end,
+                window: window_of(&done.renumbered),
+            };
+            0
+        }
+        Err(refusal) => refusal.code(),
+    }
+}
+
+/// Writes a path into a buffer if it has room for it, and tells in any case how long it is.
+fn write_path(path: &[usize], out: &mut [usize], len: &mut usize) -> Result<(), Refusal>
+    ensures { Writes path.now out.old out.new len.new result }
+{
+    *len = path.len();
+    if out.len() < path.len() {
+        return Err(Refusal::Buffer);
+    }
+    out[..path.len()].copy_from_slice(path);
+    Ok(())
+}
+
+/// Tells where a node was found.
+pub(crate) fn tell_place(
+    outcome: Result<Found, Refusal>,
+    out: &mut [usize],
+    told: &mut Place,
+) -> u32
+    ensures { TellsPlace out.old out.new told.new result outcome }
+{
+    match outcome {
+        Ok(found) => {
+            told.offset = found.offset;
+            status(write_path(&found.path, out, &mut told.depth))
+        }
+        Err(refusal) => refusal.code(),
+    }
+}

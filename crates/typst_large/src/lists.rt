@@ -1,0 +1,77 @@
+//! Calls that give long lists.
+use anyhow::Result;
+use std::alloc::Global;
+use typst_tree::ast::{Destructuring, LetBinding, Pattern};
+use typst_tree::{RangeMapper, SyntaxKind, SyntaxNode};
+
+/// Makes the call of this name, and answers whether it gave the right answer.
+pub fn made(alloc: Global, name: &str, size: usize) -> Result<Option<bool>> {
+    Ok(Some(match name {
+        "errors_and_warnings, many" => are_told(alloc, size)?,
+        "bindings, many" => are_bound(alloc, size)?,
+        "hints, many" => are_kept(alloc, size)?,
+        "RangeMapper::new, many" => is_mapped(alloc, size)?,
+        _ => return Ok(None),
+    }))
+}
+
+/// Whether `size` errors and as many warnings are reported.
+fn are_told(alloc: Global, size: usize) -> Result<bool> {
+    let mut nodes = Vec::new(alloc);
+    for _ in 0..size {
+        let mut error = SyntaxNode::error(alloc, "m", "a")?;
+        error.warn(alloc, "w")?;
+        nodes.push(error)?;
+    }
+    let tree = SyntaxNode::inner(alloc, SyntaxKind::Markup, nodes)?;
+    let (errors, warnings) = tree.errors_and_warnings(alloc)?;
+    Ok(errors.len() == size && warnings.len() == size)
+}
+
+/// Whether `size` names are bound: by the parts, by the pattern and by the binding.
+fn are_bound(alloc: Global, size: usize) -> Result<bool> {
+    let mut names = Vec::new(alloc);
+    for _ in 0..size {
+        names.push(SyntaxNode::leaf(alloc, SyntaxKind::Ident, "x")?)?;
+    }
+    let parts = SyntaxNode::inner(alloc, SyntaxKind::Destructuring, names)?;
+    let own = match parts.cast::<Destructuring>() {
+        Some(view) => view.bindings(alloc)?.len(),
+        None => 0,
+    };
+    let as_pattern = match parts.cast::<Pattern>() {
+        Some(view) => view.bindings(alloc)?.len(),
+        None => 0,
+    };
+    let binding = SyntaxNode::inner(alloc, SyntaxKind::LetBinding, vec![in alloc; parts]?)?;
+    let as_kind = match binding.cast::<LetBinding>() {
+        Some(view) => view.kind().bindings(alloc)?.len(),
+        None => 0,
+    };
+    Ok(own == size && as_pattern == size && as_kind == size)
+}
+
+/// Whether an error keeps `size` hints.
+fn are_kept(alloc: Global, size: usize) -> Result<bool> {
+    let mut error = SyntaxNode::error(alloc, "m", "a")?;
+    for _ in 0..size {
+        if !error.can_hint() {
+            return Ok(false);
+        }
+        error.hint(alloc, "h")?;
+    }
+    let (errors, _) = error.errors_and_warnings(alloc)?;
+    Ok(errors.first().is_some_and(|it| it.hints.len() == size))
+}
+
+/// Whether `size` segments of two bytes, each with a gap of one byte before it, make one text.
+fn is_mapped(alloc: Global, size: usize) -> Result<bool> {
+    let mut segments = Vec::new(alloc);
+    let mut start = 1usize;
+    for _ in 0..size {
+        segments.push(start..start.saturating_add(2))?;
+        start = start.saturating_add(3);
+    }
+    let mapper = RangeMapper::new(alloc, segments.as_slice())?;
+    Ok(mapper.total_len() / 2 == size)
+}

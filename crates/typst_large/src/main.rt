@@ -1,0 +1,72 @@
+//! Makes calls on large trees, long chains of nodes, long texts and long lists. The gate compares how each call ends
+//! with memory at hand. bench/growth.py counts the instructions of calls at two sizes.
+//!
+//! A line of standard input is a call's name, a size and a count, as `find 70000 1`. The program builds what the call
+//! needs, and makes the call that many times. It prints the line with `right`, or with `wrong` if one call gave a wrong
+//! answer.
+#![tactic(auto)]
+
+use anyhow::Result;
+use std::alloc::Global;
+use std::process::ExitCode;
+
+mod deep;
+mod edits;
+mod lists;
+mod texts;
+mod wide;
+
+fn main(rt: HostRuntime) -> ExitCode {
+    match answer(&rt) {
+        Ok(true) => ExitCode::SUCCESS,
+        Ok(false) => ExitCode::from(2),
+        Err(_) => ExitCode::from(1),
+    }
+}
+
+/// Makes the calls that each line asks for. Answers whether all lines ask for some.
+fn answer(rt: &(impl Input + Print + AllocGlobal)) -> Result<bool> {
+    for line in rt.lines(rt.alloc()) {
+        let line = line?;
+        let Some(asked) = Asked::parse(line.as_str()) else {
+            return Ok(false);
+        };
+        let Some(right) = asked.make(rt.alloc())? else {
+            return Ok(false);
+        };
+        let end = if right { "right" } else { "wrong" };
+        println!(rt; "{line} {end}")?;
+    }
+    Ok(true)
+}
+
+/// What a line asks for.
+#[derive(Clone, Copy)]
+pub struct Asked<'a> {
+    name: &'a str,
+    size: usize,
+    /// How often the call is made.
+    count: usize,
+}
+
+impl<'a> Asked<'a> {
+    /// A name, which may have blanks, and two numbers.
+    fn parse(line: &'a str) -> Option<Asked<'a>> {
+        let (rest, count) = line.rsplit_once(' ')?;
+        let (name, size) = rest.rsplit_once(' ')?;
+        Some(Asked {
+            name,
+            size: size.parse().ok()?,
+            count: count.parse().ok()?,
+        })
+    }
+
+    /// Makes the calls, or answers nothing if no call has this name.
+    fn make(self, alloc: Global) -> Result<Option<bool>> {
+        let made = wide::made(alloc, self.name, self.size, self.count)?;
+        let made = made.or(edits::made(alloc, self.name, self.size, self.count)?);
+        let made = made.or(deep::made(alloc, self.name, self.size)?);
+        let made = made.or(texts::made(alloc, self.name, self.size)?);
+        Ok(made.or(lists::made(alloc, self.name, self.size)?))
+    }
+}

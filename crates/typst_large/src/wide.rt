@@ -1,0 +1,118 @@
+//! Calls that read a node of many children, each a text of two bytes.
+use anyhow::Result;
+use std::alloc::Global;
+use typst_tree::session::Reply;
+use typst_tree::{FileId, LinkedNode, NumberedTree, Side, Span, SyntaxKind, SyntaxNode};
+
+/// Makes the call of this name `count` times, and answers whether each call gave the right answer.
+pub fn made(alloc: Global, name: &str, size: usize, count: usize) -> Result<Option<bool>> {
+    Ok(Some(match name {
+        "inner" => ends_after(&texts(alloc, size)?, size),
+        "clone" => is_cloned(&texts(alloc, size)?)?,
+        "full_text" => texts(alloc, size)?.full_text(alloc)?.len() / 2 == size,
+        "find" => are_found(alloc, size, count)?,
+        "leaf_at" => are_leaves(alloc, size, count)?,
+        "errors_and_warnings" => are_clean(alloc, size, count)?,
+        "children" => are_children(alloc, &texts(alloc, size)?, size)?,
+        "preorder" => are_nodes(alloc, &texts(alloc, size)?, size)?,
+        _ => return Ok(None),
+    }))
+}
+
+/// A node of `size` texts.
+pub fn texts(alloc: Global, size: usize) -> Result<SyntaxNode> {
+    let mut nodes = Vec::new(alloc);
+    for _ in 0..size {
+        nodes.push(SyntaxNode::leaf(alloc, SyntaxKind::Text, "ab")?)?;
+    }
+    Ok(SyntaxNode::inner(alloc, SyntaxKind::Markup, nodes)?)
+}
+
+/// The tree with numbers, or nothing if the numbers don't suffice. They do.
+pub fn numbered(root: SyntaxNode) -> Option<NumberedTree> {
+    NumberedTree::number(root, FileId::FIRST, Span::FULL).ok()
+}
+
+/// Whether the node has `size` children, the last of which ends at the end of the text.
+fn ends_after(tree: &SyntaxNode, size: usize) -> bool {
+    let Some(last) = tree.child_slice().len().checked_sub(1) else {
+        return false;
+    };
+    last < size && size - last == 1 && tree.child_end(last) == tree.len() && tree.len() / 2 == size
+}
+
+/// Whether a clone equals the tree.
+fn is_cloned(tree: &SyntaxNode) -> Result<bool> {
+    let same = tree.clone()?;
+    Ok(same == *tree)
+}
+
+/// Whether the last child is found by its number.
+fn are_found(alloc: Global, size: usize, count: usize) -> Result<bool> {
+    let Some(tree) = numbered(texts(alloc, size)?) else {
+        return Ok(false);
+    };
+    let Some(last) = tree.root().child_slice().last() else {
+        return Ok(false);
+    };
+    let span = last.span();
+    for _ in 0..count {
+        let Reply::Found { path, offset, .. } = tree.find(alloc, span) else {
+            return Ok(false);
+        };
+        let is_last = path
+            .first()
+            .is_some_and(|index| size.saturating_sub(*index) == 1);
+        if !is_last || size.saturating_sub(offset / 2) != 1 {
+            return Ok(false);
+        }
+    }
+    Ok(true)
+}
+
+/// Whether the leaf before the last byte is the last child.
+fn are_leaves(alloc: Global, size: usize, count: usize) -> Result<bool> {
+    let tree = texts(alloc, size)?;
+    let root = LinkedNode::new(&tree);
+    let cursor = tree.len().saturating_sub(1);
+    for _ in 0..count {
+        let leaf = root.leaf_at(alloc, cursor, Side::Before)?;
+        if !leaf.is_some_and(|leaf| size.saturating_sub(leaf.index()) == 1) {
+            return Ok(false);
+        }
+    }
+    Ok(true)
+}
+
+/// Whether no error and no warning is reported.
+fn are_clean(alloc: Global, size: usize, count: usize) -> Result<bool> {
+    let tree = texts(alloc, size)?;
+    for _ in 0..count {
+        let (errors, warnings) = tree.errors_and_warnings(alloc)?;
+        if !errors.is_empty() || !warnings.is_empty() {
+            return Ok(false);
+        }
+    }
+    Ok(true)
+}
+
+/// Whether there are `size` linked children, the last of which ends where the text does.
+fn are_children(alloc: Global, tree: &SyntaxNode, size: usize) -> Result<bool> {
+    let mut seen = 0usize;
+    let mut end = 0;
+    for child in LinkedNode::new(tree).children(alloc)? {
+        end = child?.range().end;
+        seen = seen.saturating_add(1);
+    }
+    Ok(seen == size && end == tree.len())
+}
+
+/// Whether a walk in preorder gives the root and `size` nodes after it.
+fn are_nodes(alloc: Global, tree: &SyntaxNode, size: usize) -> Result<bool> {
+    let mut seen = 0usize;
+    for node in LinkedNode::new(tree).preorder(alloc)? {
+        let _node = node?;
+        seen = seen.saturating_add(1);
+    }
+    Ok(seen.saturating_sub(1) == size)
+}

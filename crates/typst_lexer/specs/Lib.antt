@@ -1,0 +1,11 @@
+pub mod Characters
+pub mod Rules
+pub mod Steps
+pub mod First
+pub mod Tokens
+pub mod Left
+pub mod Blocks
+pub mod Laws
+pub mod HexValues
+pub mod FirstCodes
+pub mod Plain

@@ -1,0 +1,11 @@
+pub mod Picked
+pub mod Pieces
+pub mod Seams
+pub mod Numbered
+pub mod Widths
+pub mod Places
+pub mod Offsets
+pub mod LinesOf
+pub mod Characters
+pub mod OnlyLines
+pub mod Seamed

@@ -1,0 +1,142 @@
+//! A caller can promise that `==` of spans, of values with spans and of sets says whether both hold the same, by value
+//! and by reference.
+ghost use Rattle.std.specs.Prelude.{◌≡◌, ◌≢◌, ◌↔◌, IsTrue};
+
+use crate::rows::assert_all;
+use std::test::Fail;
+use typst_base::{DiagSpan, FileId, Span, SpanNumber, Spanned, SubRange, SyntaxKind, SyntaxSet};
+
+/// Equality of spans.
+fn are_same_spans(a: Span, b: Span) -> bool
+    ensures { IsTrue result ↔ (a ≡ b) }
+{
+    a == b
+}
+
+/// Equality of spans behind references.
+fn are_same_spans_behind(a: &Span, b: &Span) -> bool
+    ensures { IsTrue result ↔ (a.now ≡ b.now) }
+{
+    a == b
+}
+
+/// Inequality of spans behind references.
+fn are_other_spans_behind(a: &Span, b: &Span) -> bool
+    ensures { IsTrue result ↔ (a.now ≢ b.now) }
+{
+    a != b
+}
+
+/// Equality of diagnostic spans.
+fn are_same_places(a: DiagSpan, b: DiagSpan) -> bool
+    ensures { IsTrue result ↔ (a ≡ b) }
+{
+    a == b
+}
+
+/// Equality of diagnostic spans behind references.
+fn are_same_places_behind(a: &DiagSpan, b: &DiagSpan) -> bool
+    ensures { IsTrue result ↔ (a.now ≡ b.now) }
+{
+    a == b
+}
+
+/// Equality of values with spans behind references.
+fn are_same_values_behind(a: &Spanned<u8>, b: &Spanned<u8>) -> bool
+    ensures { IsTrue result ↔ (a.now ≡ b.now) }
+{
+    a == b
+}
+
+/// Equality of sets.
+fn are_same_sets(a: SyntaxSet, b: SyntaxSet) -> bool
+    ensures { IsTrue result ↔ (a ≡ b) }
+{
+    a == b
+}
+
+/// Equality of sets behind references.
+fn are_same_sets_behind(a: &SyntaxSet, b: &SyntaxSet) -> bool
+    ensures { IsTrue result ↔ (a.now ≡ b.now) }
+{
+    *a == *b
+}
+
+#[test]
+fn spans_are_equal_where_file_and_number_are(rt: HostRuntime) -> Result<(), Fail> {
+    let id = FileId::FIRST;
+    let other_id = FileId::new(2).ok_or("an id")?;
+    let span = Span::from_number(id, SpanNumber(5));
+    let again = Span::from_number(id, SpanNumber(5));
+    let other_file = Span::from_number(other_id, SpanNumber(5));
+    let other_number = Span::from_number(id, SpanNumber(6));
+    let value = Spanned::new(3u8, span);
+    let rows = [
+        ("the same", are_same_spans(span, again)),
+        ("another file", !are_same_spans(span, other_file)),
+        ("another number", !are_same_spans(span, other_number)),
+        ("the same behind", are_same_spans_behind(&span, &again)),
+        (
+            "another file behind",
+            are_other_spans_behind(&span, &other_file),
+        ),
+        (
+            "values",
+            are_same_values_behind(&value, &Spanned::new(3u8, again)),
+        ),
+        (
+            "another value",
+            !are_same_values_behind(&value, &Spanned::new(4u8, span)),
+        ),
+        (
+            "another span",
+            !are_same_values_behind(&value, &Spanned::new(3u8, other_number)),
+        ),
+    ];
+    assert_all(&rt, &rows);
+    Ok(())
+}
+
+#[test]
+fn diagnostic_spans_are_equal_where_span_and_part_are(rt: HostRuntime) -> Result<(), Fail> {
+    let span = Span::from_number(FileId::FIRST, SpanNumber(5));
+    let part = SubRange::new(0, 2).ok_or("a part")?;
+    let other_part = SubRange::new(0, 3).ok_or("a part")?;
+    let place = DiagSpan::from_span(span, Some(part));
+    let again = DiagSpan::from_span(span, Some(part));
+    let rows = [
+        ("the same", are_same_places(place, again)),
+        (
+            "another part",
+            !are_same_places(place, DiagSpan::from_span(span, Some(other_part))),
+        ),
+        (
+            "no part",
+            !are_same_places(place, DiagSpan::from_span(span, None)),
+        ),
+        ("the same behind", are_same_places_behind(&place, &again)),
+        (
+            "another span",
+            !are_same_places_behind(&place, &DiagSpan::from_span(Span::detached(), Some(part))),
+        ),
+    ];
+    assert_all(&rt, &rows);
+    Ok(())
+}
+
+#[test]
+fn sets_are_equal_where_they_hold_the_same_kinds(rt: HostRuntime) -> Result<(), Fail> {
+    let hash = SyntaxSet::new().add(SyntaxKind::Hash);
+    let again = SyntaxSet::new()
+        .add(SyntaxKind::Let)
+        .add(SyntaxKind::Hash)
+        .remove(SyntaxKind::Let);
+    let import = SyntaxSet::new().add(SyntaxKind::Import);
+    let rows = [
+        ("the same kinds", are_same_sets(hash, again)),
+        ("another kind", !are_same_sets(hash, import)),
+        ("the same kinds behind", are_same_sets_behind(&hash, &again)),
+    ];
+    assert_all(&rt, &rows);
+    Ok(())
+}

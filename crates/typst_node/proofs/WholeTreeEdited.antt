@@ -1,0 +1,125 @@
+-- The whole tree after an edit at a path.
+use Rattle.std.proofs.Common.{◌≡◌, ℕ, suc, zero, ◌+◌, ◌<◌, ◌≤◌, ◌^◌, inl, inr, List, [], ◌∷◌, length, set, get_or, refl, sym, ap, subst, ◌∙◌, arith, length-append}
+use Rattle.std.specs.Prelude.{Result, Ok, Err, OnOk, slice_range}
+use Rattle.std.specs.List.{splice}
+use Rattle.typst_node.specs.Tree.{Tree, forest, trees}
+use Rattle.typst_node.specs.Text.{text, text_of_all, own_text, joined}
+use Rattle.typst_node.specs.Count.{count, count_of_all, SumsFit}
+use Rattle.typst_node.specs.Preorder.{preorder}
+use Rattle.typst_node.specs.Labels.{number, bound}
+use Rattle.typst_node.specs.Interval.{IsWithin, IsTreeWithin}
+use Rattle.typst_node.specs.Numbered.{IsNumberedFor}
+use Rattle.typst_node.specs.Paths.{no_tree, IsPath, tree_at, with_children}
+use Rattle.typst_node.specs.PlainEdit.{edited_at}
+use Rattle.typst_node.specs.Edit.{IsNumberedOrUnfiled}
+use Rattle.typst_node.specs.EditBelow.{IsEdit, IsReplacement}
+use Rattle.typst_node.specs.declared.node.replace.Renumbered.{Renumbered}
+use Rattle.typst_node.specs.declared.node.replace.ReplaceError.{ReplaceError}
+use Rattle.typst_node.proofs.Trees.{forest-trees, count_at, count_of_all-cons, length-text_of_all-cons, count_of_trees}
+use Rattle.typst_node.proofs.Opens.{splice_count, splice_text}
+use Rattle.typst_node.proofs.EditsBelow.{edit_below, child_within, text_at}
+use Rattle.typst_node.proofs.Ordered.{within_from_numbered, numbered_from_within}
+use Rattle.typst_node.proofs.Edited.{below_within, file_within}
+
+-- counts
+count_set : (ts : List Tree) (i : ℕ) (new d : Tree) → i < length ts → count_of_all (set ts i new) + count (get_or ts i d) ≡ count_of_all ts + count new
+count_set [] i new d h = absurd (omega arith)
+count_set (t ∷ ts) zero new d h = omega (arith, count_of_all-cons t ts, count_of_all-cons new ts)
+count_set (t ∷ ts) (suc i) new d h = omega (arith, count_of_all-cons t ts, count_of_all-cons t (set ts i new), count_set ts i new d (omega arith))
+
+text_set : (ts : List Tree) (i : ℕ) (new d : Tree) → i < length ts → length (text_of_all (set ts i new)) + length (text (get_or ts i d)) ≡ length (text_of_all ts) + length (text new)
+text_set [] i new d h = absurd (omega arith)
+text_set (t ∷ ts) zero new d h = omega (arith, length-text_of_all-cons t ts, length-text_of_all-cons new ts)
+text_set (t ∷ ts) (suc i) new d h = omega (arith, length-text_of_all-cons t ts, length-text_of_all-cons t (set ts i new), text_set ts i new d (omega arith))
+
+count_tree : (t : Tree) → count t ≡ suc (count_of_all (trees t.children))
+count_tree t = ap suc (sym (count_of_trees t.children))
+
+text_tree : (t : Tree) → length (text t) ≡ length (own_text t.label) + length (text_of_all (trees t.children))
+text_tree t = length-append (own_text t.label) (joined (preorder t.children)) ∙ ap (λ f. length (own_text t.label) + length (joined (preorder f))) (sym (forest-trees t.children))
+
+pub text_forest : (t : Tree) (ts : List Tree) → length (text (with_children [] ts t)) ≡ length (own_text t.label) + length (text_of_all ts)
+text_forest t ts = length-append (own_text t.label) (joined (preorder (forest ts)))
+
+count_kids : (path : List ℕ) (ks : List Tree) (t : Tree) → IsPath path t → count (with_children path ks t) + count_of_all (trees (tree_at path t).children) ≡ count t + count_of_all ks
+count_kids [] ks t h = omega (arith, count_tree t)
+count_kids (i ∷ path) ks t h =
+    let old = get_or (trees t.children) i no_tree in
+    omega (arith, count_tree t, count_set (trees t.children) i (with_children path ks old) no_tree h.0, count_kids path ks old h.1)
+
+text_kids : (path : List ℕ) (ks : List Tree) (t : Tree) → IsPath path t → length (text (with_children path ks t)) + length (text_of_all (trees (tree_at path t).children)) ≡ length (text t) + length (text_of_all ks)
+text_kids [] ks t h = omega (arith, text_tree t, text_forest t ks)
+text_kids (i ∷ path) ks t h =
+    let old = get_or (trees t.children) i no_tree in
+    let new = set (trees t.children) i (with_children path ks old) in
+    omega (arith, text_tree t, text_forest t new, text_set (trees t.children) i (with_children path ks old) no_tree h.0, text_kids path ks old h.1)
+
+pub count_edited : (path : List ℕ) (from to : ℕ) (others : List Tree) (t : Tree) → IsPath path t → from ≤ to → count (edited_at path from to others t) + count_of_all (slice_range (trees (tree_at path t).children) from to) ≡ count t + count_of_all others
+count_edited path from to others t h order =
+    omega (arith, count_kids path (splice (trees (tree_at path t).children) from to others) t h, splice_count (trees (tree_at path t).children) others from to order)
+
+pub text_edited : (path : List ℕ) (from to : ℕ) (others : List Tree) (t : Tree) → IsPath path t → from ≤ to → length (text (edited_at path from to others t)) + length (text_of_all (slice_range (trees (tree_at path t).children) from to)) ≡ length (text t) + length (text_of_all others)
+text_edited path from to others t h order =
+    omega (arith, text_kids path (splice (trees (tree_at path t).children) from to others) t h, splice_text (trees (tree_at path t).children) others from to order)
+
+pub count_below : (path : List ℕ) (t : Tree) → IsPath path t → suc (count_of_all (trees (tree_at path t).children)) ≤ count t
+count_below [] t h = omega (arith, count_tree t)
+count_below (i ∷ path) t h = omega (arith, count_tree t, count_at (trees t.children) i no_tree h.0, count_below path (get_or (trees t.children) i no_tree) h.1)
+
+pub text_below : (path : List ℕ) (t : Tree) → IsPath path t → length (text_of_all (trees (tree_at path t).children)) ≤ length (text t)
+text_below [] t h = omega (arith, text_tree t)
+text_below (i ∷ path) t h = omega (arith, text_tree t, text_at (trees t.children) i no_tree h.0, text_below path (get_or (trees t.children) i no_tree) h.1)
+
+-- the sums of the edited node fit where those of the whole do
+pub edit_at : (path : List ℕ) (from to : ℕ) (others : List Tree) (t : Tree) → IsEdit path from to others t → SumsFit (splice (trees (tree_at path t).children) from to others)
+edit_at [] from to others t e = (omega (arith, e.sums.0, text_forest t (splice (trees t.children) from to others)), e.sums.1)
+edit_at (i ∷ path) from to others t e = edit_at path from to others (get_or (trees t.children) i no_tree) (edit_below i path from to others t e)
+
+-- numbers
+within_set : (file a b : ℕ) (ts : List Tree) (i : ℕ) (new d : Tree) → i < length ts → new.label ≡ (get_or ts i d).label → IsWithin file (number new.label + 1) (bound new.label) new.children → IsWithin file a b (forest ts) → IsWithin file a b (forest (set ts i new))
+within_set file a b [] i new d h same below w = absurd (omega arith)
+within_set file a b (t ∷ ts) zero new d h same below w = (coe 1 0 (i. (same i).span.file ≡ file) w.0, coe 1 0 (i. a ≤ number (same i)) w.1, below, coe 1 0 (i. IsWithin file (bound (same i)) b (forest ts)) w.3)
+within_set file a b (t ∷ ts) (suc i) new d h same below w = (w.0, w.1, w.2, within_set file (bound t.label) b ts i new d (omega arith) same below w.3)
+
+label_kids : (path : List ℕ) (ks : List Tree) (t : Tree) → (with_children path ks t).label ≡ t.label
+label_kids [] ks t = refl
+label_kids (i ∷ path) ks t = refl
+
+below_kids : (path : List ℕ) (file : ℕ) (ks : List Tree) (t : Tree) → IsPath path t → IsWithin file (number t.label + 1) (bound t.label) t.children → IsWithin file (number (tree_at path t).label + 1) (bound (tree_at path t).label) (forest ks)
+    → IsWithin file (number t.label + 1) (bound t.label) (with_children path ks t).children
+below_kids [] file ks t h w k = k
+below_kids (i ∷ path) file ks t h w k =
+    let old = get_or (trees t.children) i no_tree in
+    let kids = subst (λ f. IsWithin file (number t.label + 1) (bound t.label) f) (sym (forest-trees t.children)) w in
+    let child = child_within file (number t.label + 1) (bound t.label) (trees t.children) i no_tree h.0 kids in
+    let new = below_kids path file ks old h.1 child.2 k in
+    within_set file (number t.label + 1) (bound t.label) (trees t.children) i (with_children path ks old) no_tree h.0 (label_kids path ks old)
+    (coe 1 0 (j. IsWithin file (number (label_kids path ks old j) + 1) (bound (label_kids path ks old j)) (with_children path ks old).children) new) kids
+
+file_at : (path : List ℕ) (file a b : ℕ) (t : Tree) → IsPath path t → IsTreeWithin file a b t → (tree_at path t).label.span.file ≡ file
+file_at [] file a b t h w = w.0
+file_at (i ∷ path) file a b t h w =
+    let kids = subst (λ f. IsWithin file (number t.label + 1) (bound t.label) f) (sym (forest-trees t.children)) w.2 in
+    file_at path file (number t.label + 1) (bound t.label) (get_or (trees t.children) i no_tree) h.1 (child_within file (number t.label + 1) (bound t.label) (trees t.children) i no_tree h.0 kids)
+
+pub numbered_kids : (path : List ℕ) (file : ℕ) (t u : Tree) → IsPath path t → IsNumberedFor file t → u ≡ with_children path (trees (tree_at path u).children) t → (tree_at path u).label ≡ (tree_at path t).label → IsNumberedFor (tree_at path t).label.span.file (tree_at path u) → IsNumberedFor file u
+numbered_kids path file t u h n frame same at =
+    let w = within_from_numbered file t n in
+    let ks = trees (tree_at path u).children in
+    let here : IsNumberedFor file (tree_at path u) = subst (λ f. IsNumberedFor f (tree_at path u)) (file_at path file 2 (2 ^ 47) t h w) at in
+    let kids : IsWithin file (number (tree_at path t).label + 1) (bound (tree_at path t).label) (forest ks) =
+    coe 0 1 (i. IsWithin file (number (same i) + 1) (bound (same i)) (sym (forest-trees (tree_at path u).children) i)) (below_within file (tree_at path u) here) in
+    let below = below_kids path file ks t h w.2 kids in
+    let whole : IsTreeWithin file 2 (2 ^ 47) (with_children path ks t) = coe 1 0 (i. let l = label_kids path ks t i in (l.span.file ≡ file) × (2 ≤ number l) × IsWithin file (number l + 1) (bound l) (with_children path ks t).children × (bound l ≤ 2 ^ 47)) (w.0, w.1, below, w.3) in
+    subst (IsNumberedFor file) (sym frame) (numbered_from_within file 2 (2 ^ 47) (with_children path ks t) (omega arith) (omega arith) whole)
+
+numbered_ok : (path : List ℕ) (from to : ℕ) (others : List Tree) (t u : Tree) (x : Renumbered) → IsPath path t → IsReplacement from to others (tree_at path t) (tree_at path u) (Ok x) → SumsFit (splice (trees (tree_at path t).children) from to others)
+    → u ≡ with_children path (trees (tree_at path u).children) t → IsNumberedOrUnfiled path t → IsNumberedFor t.label.span.file u
+numbered_ok path from to others t u x h at fit frame (inl z) = let e = at.unnumberable.1 (fit, inl z) in cc
+numbered_ok path from to others t u x h at fit frame (inr n) =
+    numbered_kids path t.label.span.file t u h (subst (λ f. IsNumberedFor f t) (sym (file_within n.0 t n.2)) n.2) frame at.label at.numbered
+
+pub numbered_whole : (path : List ℕ) (from to : ℕ) (others : List Tree) (t u : Tree) (r : Result Renumbered ReplaceError) → IsPath path t → IsReplacement from to others (tree_at path t) (tree_at path u) r → SumsFit (splice (trees (tree_at path t).children) from to others)
+    → u ≡ with_children path (trees (tree_at path u).children) t → IsNumberedOrUnfiled path t → OnOk r (IsNumberedFor t.label.span.file u)
+numbered_whole path from to others t u (Ok x) h at fit frame n = numbered_ok path from to others t u x h at fit frame n
+numbered_whole path from to others t u (Err e) h at fit frame n = tt

@@ -1,0 +1,4 @@
+pub mod Listed
+pub mod Tops
+pub mod OwnPlaces
+pub mod Picked

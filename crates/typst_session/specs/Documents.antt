@@ -1,0 +1,80 @@
+-- What calls on documents do.
+use Rattle.std.specs.Prelude.{ℕ, ◌≡◌, ◌≢◌, ◌≤◌, ◌^◌, List, IsUtf8, Result, Ok, Err}
+use Rattle.std.specs.List.{replace_range}
+use Rattle.std.specs.declared.ops.Range.{Range as Interval}
+use Rattle.typst_node.specs.Tree.{Tree}
+use Rattle.typst_node.specs.Count.{count}
+use Rattle.typst_node.specs.Numbered.{IsNumberedFor}
+use Rattle.typst_node.specs.Plain.{plain}
+use Rattle.typst_node.specs.Text.{text}
+use Rattle.typst_source.specs.Blocks.{document}
+use Rattle.typst_source.specs.Edited.{IsEdited, IsCrowdedBy}
+use Rattle.typst_source.specs.Fits.{FitsText}
+use Rattle.typst_source.specs.Source.{IsTooLarge}
+use Rattle.typst_source.specs.declared.edited.Edited.{Edited}
+use Rattle.typst_source.specs.declared.error.SourceError.{SourceError}
+use Rattle.typst_source.specs.declared.error.SourceError.TheVariants as source_error
+use Rattle.typst_markup.specs.Block.{first}
+use Rattle.typst_session.specs.Sessions.{IsKept, Holds}
+use Rattle.typst_session.specs.declared.session.Session.{Session}
+use Rattle.typst_session.specs.declared.session.Held.TheVariants as held
+use Rattle.typst_session.specs.declared.refusal.Refusal.{Refusal}
+use Rattle.typst_session.specs.declared.refusal.Refusal.TheVariants.{Memory, Text, Size, NoDocument, File, Unnumberable, Range}
+
+-- the tree of a text of markup, numbered for a file
+pub record IsDocumentOf (file : ℕ) (source : List ℕ) (tree : Tree) : Type 0 where
+  pub text_is : text tree ≡ source
+  pub fresh : plain tree ≡ document first source
+  pub numbered : IsNumberedFor file tree
+
+-- why no document is made of a text
+abbrev pub WhyNoDocument : List ℕ → SourceError → Type 0
+WhyNoDocument source source_error.Unnumberable = 2 ^ 46 ≤ count (document first source)
+WhyNoDocument source source_error.Overflow = IsTooLarge first source
+WhyNoDocument source source_error.Memory = Unit {0}
+
+-- no document is held
+abbrev pub HoldsNoDocument : Session → Type 0
+HoldsNoDocument s = (tree : Tree) → s.held ≢ held.Document tree
+
+-- the document of a text is held
+pub record IsOpened (file : ℕ) (source : List ℕ) (old new : Session) : Type 0 where
+  pub utf8 : IsUtf8 source
+  pub tree : Tree
+  pub document_is : IsDocumentOf file source tree
+  pub holds : Holds old.stack.items (held.Document tree) new
+
+-- a text becomes the document that is held, or why not
+abbrev pub Opens : ℕ → List ℕ → Session → Result (Unit {0}) Refusal → Session → Type 0
+Opens file source old (Ok done) new = IsOpened file source old new
+Opens file source old (Err File) new = (file ≡ 0) × IsKept old new
+Opens file source old (Err Text) new = ¬ (IsUtf8 source) × IsKept old new
+Opens file source old (Err Unnumberable) new = (2 ^ 46 ≤ count (document first source)) × IsKept old new
+Opens file source old (Err Size) new = IsTooLarge first source × IsKept old new
+Opens file source old (Err Memory) new = IsKept old new
+Opens file source old (Err _) new = ⊥
+
+-- the text of the document that is held was edited
+pub record IsEditedText (range : Interval ℕ) (with : List ℕ) (old : Session) (done : Edited) (new : Session) : Type 0 where
+  pub utf8 : IsUtf8 with
+  pub tree : Tree
+  pub after : Tree
+  pub was : old.held ≡ held.Document tree
+  pub edited : IsEdited first tree range with done after
+  pub holds : Holds old.stack.items (held.Document after) new
+
+-- why the text of a document isn't edited
+abbrev pub WhyNotEdited : Interval ℕ → List ℕ → Tree → Refusal → Type 0
+WhyNotEdited range with tree Text = ¬ (IsUtf8 with)
+WhyNotEdited range with tree Range = ¬ (FitsText (text tree) range)
+WhyNotEdited range with tree Unnumberable = IsCrowdedBy first tree (replace_range (text tree) range.start range.end with)
+WhyNotEdited range with tree Size = IsTooLarge first (replace_range (text tree) range.start range.end with)
+WhyNotEdited range with tree Memory = Unit {0}
+WhyNotEdited range with tree _ = ⊥
+
+-- another text replaces a range of bytes of the document's text, or why not
+abbrev pub EditsText : Interval ℕ → List ℕ → Session → Result Edited Refusal → Session → Type 0
+EditsText range with old (Ok done) new = IsEditedText range with old done new
+EditsText range with old (Err NoDocument) new = HoldsNoDocument old × IsKept old new
+EditsText range with old (Err refusal) new =
+    (tree : Tree) × (old.held ≡ held.Document tree) × WhyNotEdited range with tree refusal × IsKept old new

@@ -1,0 +1,16 @@
+pub mod Codes
+pub mod Sessions
+pub mod Reading
+pub mod Building
+pub mod Trees
+pub mod Finding
+pub mod Neighbors
+pub mod Infos
+pub mod Texts
+pub mod Documents
+pub mod Places
+pub mod Remarks
+pub mod Diagnostics
+pub mod Comparing
+pub mod Classes
+pub mod Kinds

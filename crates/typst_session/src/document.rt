@@ -1,0 +1,150 @@
+//! Texts that are edited together with their trees and lines.
+ghost use Rattle.std.specs.Prelude.{ℕ, ◌≡◌, ◌≤◌, ◌↔◌, length, IsTrue, MatchOption, MatchResult};
+ghost use Rattle.std.specs.List.{replace_range, splice};
+ghost use Rattle.std.specs.Str.{IsCharBoundary};
+ghost use Rattle.typst_lines.specs.Columns.{IsPlace};
+ghost use Rattle.typst_lines.specs.LineStarts.{line_starts};
+ghost use Rattle.typst_lines.specs.LineTable.{AreLines};
+ghost use Rattle.typst_lines.specs.TextLines.{lines};
+ghost use Rattle.typst_markup.specs.Block.{first};
+ghost use Rattle.typst_node.specs.Numbered.{IsNumbered};
+ghost use Rattle.typst_node.specs.Text.{text};
+ghost use Rattle.typst_source.specs.Edited.{IsEdited, IsRefusedBy};
+ghost use Rattle.typst_source.specs.Fits.{FitsText};
+ghost use Rattle.typst_session.specs.Documents.{IsDocumentOf, WhyNoDocument};
+
+use crate::places::LineColumn;
+use std::alloc::Global;
+use std::marker::Model;
+use std::ops::Range;
+use typst_lines::{ColumnUnit, Lines};
+use typst_markup::Markup;
+use typst_source::{Edited, Source, SourceError};
+use typst_tree::{FileId, SyntaxNode};
+
+/// A text of markup with its tree and its lines, edited together.
+///
+/// In contracts a document is the root of the tree, and the root's text is the text.
+#[derive(Drop)]
+pub struct Document {
+    source: Source<Markup>,
+    lines: Lines,
+}
+
+impl Model for Document {
+    ghost use Rattle.typst_node.specs.Tree.{Tree};
+    ghost use Rattle.typst_node.specs.Codes.{tree_code};
+
+    ghost Value = { Tree };
+
+    ghost coded = { tree_code };
+
+    ghost use Rattle.typst_lines.specs.LineTable.{AreLines};
+    ghost use Rattle.typst_node.specs.Text.{text};
+
+    ghost view = { λ a. a.source };
+
+    ghost invariant = { λ a. AreLines a.lines (text a.source) };
+}
+
+/// Makes lines follow the reverse of an edit that they followed. In that edit `with` replaced the text's `range`.
+fn follow_back(lines: &mut Lines, text: &str, range: Range<usize>, with: &str)
+    requires lines { AreLines lines.old (splice text.now range.start range.end with.now) }
+    requires fits { FitsText text.now range }
+    requires room { length (line_starts text.now) ≤ lines.old.room }
+    ensures { AreLines lines.new text.now }
+{
+    let (front, gone, back) = (
+        &text[..range.start],
+        &text[range.start..range.end],
+        &text[range.end..],
+    );
+    match lines.replace(front, with, gone, back) {
+        Ok(()) => {}
+        Err(_) => unreachable!(),
+    }
+}
+
+/// # A text, its tree and its lines
+impl Document {
+    /// Parses a text, numbers its tree for a file, and finds its lines.
+    pub fn new(alloc: Global, file: FileId, content: &str) -> Result<Document, SourceError>
+        ensures { MatchResult result (IsDocumentOf file content.now) (WhyNoDocument content.now) }
+    {
+        let source = Source::new(alloc, file, content, Markup)?;
+        let lines = Lines::new(alloc, content)?;
+        Ok(Document { source, lines })
+    }
+
+    /// The root of the tree.
+    pub fn root(&self) -> &SyntaxNode
+        ensures same { result.now ≡ self.now }
+        ensures numbered { IsNumbered self.now }
+    {
+        self.source.root()
+    }
+
+    /// Whether a range of bytes can be edited: it is a range of the text, and both of its ends lie between characters.
+    pub fn fits(&self, range: &Range<usize>) -> bool
+        ensures { IsTrue result ↔ FitsText (text self.now) range.now }
+    {
+        self.source.fits(range)
+    }
+
+    /// Replaces a range of bytes by another text, as [`Source::edit`] does, and makes the lines follow. After an error
+    /// nothing has changed. [`Document::fits`] tests the condition.
+    pub fn edit(
+        &mut self,
+        alloc: Global,
+        range: Range<usize>,
+        with: &str,
+    ) -> Result<Edited, SourceError>
+        requires fits_ask_fits { FitsText (text self.old) range }
+        ensures { MatchResult result (λ done. IsEdited first self.old range with.now done self.new)
+            (λ error. IsRefusedBy error first self.old (replace_range (text self.old) range.start range.end with.now)
+            × (self.new ≡ self.old)) }
+    {
+        let (start, end) = (range.start, range.end);
+        self.lines.edit(self.source.text(), start..end, with)?;
+        match self.source.edit(alloc, range, with) {
+            Ok(done) => Ok(done),
+            Err(error) => {
+                follow_back(&mut self.lines, self.source.text(), start..end, with);
+                Err(error)
+            }
+        }
+    }
+}
+
+/// # Lines and columns
+impl Document {
+    /// How many lines the text has: one more than it has line ends.
+    pub fn len_lines(&self) -> usize
+        ensures { result ≡ length (lines (text self.now)) }
+    {
+        self.lines.len_lines()
+    }
+
+    /// The line and the column of a byte, both from 0. `None` if the byte is past the end of the text or within a
+    /// character. The cost is a walk over the line up to the byte.
+    pub fn byte_to_line_column(&self, byte: usize, unit: ColumnUnit) -> Option<LineColumn>
+        ensures { MatchOption result (¬ (IsCharBoundary (text self.now) byte))
+            (λ place. IsPlace unit (text self.now) place.line place.column byte) }
+    {
+        let text = self.source.text();
+        let line = self.lines.byte_to_line(text, byte)?;
+        let column = self.lines.byte_to_column(text, byte, unit)?;
+        Some(LineColumn { line, column })
+    }
+
+    /// The byte at a line and a column, both from 0. `None` if no byte has them. The cost is a walk over the line.
+    pub fn line_column_to_byte(&self, place: LineColumn, unit: ColumnUnit) -> Option<usize>
+        ensures { MatchOption result
+            ((at : ℕ) → ¬ (IsPlace unit (text self.now) place.line place.column at))
+            (λ at. IsPlace unit (text self.now) place.line place.column at) }
+    {
+        let text = self.source.text();
+        self.lines
+            .line_column_to_byte(text, place.line, place.column, unit)
+    }
+}

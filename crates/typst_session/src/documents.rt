@@ -1,0 +1,48 @@
+//! Documents: texts that are edited together with their trees.
+ghost use Rattle.typst_session.specs.Documents.{Opens, EditsText};
+
+use crate::building::text_of;
+use crate::document::Document;
+use crate::refusal::Refusal;
+use crate::session::{Held, Session};
+use std::alloc::Global;
+use std::ops::Range;
+use typst_source::Edited;
+use typst_tree::FileId;
+
+/// # Documents
+impl Session {
+    /// Parses a text of markup, numbers its tree for a file, and holds both and the text's lines. They replace what was
+    /// held before.
+    pub fn open(&mut self, alloc: Global, file: u16, text: &[u8]) -> Result<(), Refusal>
+        ensures { Opens file text.now self.old result self.new }
+    {
+        let Some(file) = FileId::new(file) else {
+            return Err(Refusal::File);
+        };
+        let text = text_of(text)?;
+        let document = Document::new(alloc, file, text)?;
+        self.held = Held::Document(document);
+        Ok(())
+    }
+
+    /// Replaces a range of bytes of the document's text by another text, and tells which bytes were parsed anew and
+    /// which children of the root were numbered anew.
+    pub fn edit(
+        &mut self,
+        alloc: Global,
+        range: Range<usize>,
+        with: &[u8],
+    ) -> Result<Edited, Refusal>
+        ensures { EditsText range with.now self.old result self.new }
+    {
+        let Held::Document(document) = &mut self.held else {
+            return Err(Refusal::NoDocument);
+        };
+        let with = text_of(with)?;
+        if !document.fits(&range) {
+            return Err(Refusal::Range);
+        }
+        Ok(document.edit(alloc, range, with)?)
+    }
+}

@@ -1,0 +1,86 @@
+//! What the words of the command line ask for.
+
+use crate::language::Language;
+use crate::problem::Problem;
+use clap::{Arg, ArgAction, Command};
+use std::alloc::{AllocError, Global};
+
+/// What the words of the command line ask for.
+#[derive(Debug, Drop)]
+pub(crate) struct Asked<'a> {
+    /// The file with the text or the script; `-` for a text on standard input.
+    pub(crate) file: &'a str,
+    pub(crate) language: Language,
+    /// The file with the edits; `-` for standard input.
+    pub(crate) edits: Option<&'a str>,
+    /// The file that the page is written to; `-` for standard output.
+    pub(crate) page: Option<&'a str>,
+    pub(crate) is_plain: bool,
+    /// Whether the answers of views are shown in the terminal.
+    pub(crate) has_views: bool,
+}
+
+/// What `--help` prints below the words.
+const AFTER_HELP: &str = "\
+FILE is a text of markup; or a script or a look that builds a tree, if its name ends in .script or .look. Each line of EDITS is an edit, as 7..12 \"text\" in bytes, or as 2:5..2:9 \"text\" in lines and columns, both from 1. Escapes in the quotes are those of Rust.
+docs/SHOW.md explains what is shown. The status is 0, or 1 where a file or memory failed, or 2 where words, edits or scripts are wrong.
+";
+
+impl<'a> Asked<'a> {
+    /// Reads the words, the first of which is the name of the program.
+    pub(crate) fn parse(alloc: Global, words: &'a [String]) -> Result<Asked<'a>, Problem<'a>> {
+        let matches = command(alloc)?.try_get_matches_from(words)?;
+        let file = matches.get_str("file").unwrap_or("-");
+        let asked = Asked {
+            file,
+            language: Language::of(file),
+            edits: matches.get_str("edits"),
+            page: matches.get_str("page"),
+            is_plain: matches.get_flag("plain"),
+            has_views: matches.get_flag("views"),
+        };
+        if asked.file == "-" && asked.edits == Some("-") {
+            return Err(Problem::TwoInputs);
+        }
+        if asked.language != Language::Markup && asked.edits.is_some() {
+            return Err(Problem::NoText { file });
+        }
+        Ok(asked)
+    }
+}
+
+/// The words that the program takes.
+fn command<'a>(alloc: Global) -> Result<Command<'a>, AllocError> {
+    let file = Arg::new(alloc, "file")
+        .value_name("FILE")
+        .required(true)
+        .help("The text or script whose tree is shown; - is a text on standard input");
+    let edits = Arg::new(alloc, "edits")
+        .long("edits")
+        .value_name("EDITS")
+        .help("Does the edits of this file, and tells what each did");
+    let page = Arg::new(alloc, "page")
+        .long("page")
+        .value_name("OUT.html")
+        .help("Writes a page for a browser");
+    let plain = flag(alloc, "plain").help(
+        "Shows kinds and texts alone; with --edits the tree after all edits",
+    );
+    let plain = plain.conflicts_with("page")?.conflicts_with("views")?;
+    let views = flag(alloc, "views").help("Shows what the view of each node answers, by name");
+    Command::new(alloc, "show")
+        .bin_name("./show")?
+        .version("0.1.0")
+        .about("Shows the syntax tree of a text or a script")
+        .after_help(AFTER_HELP)
+        .arg(file)?
+        .arg(edits)?
+        .arg(page)?
+        .arg(views)?
+        .arg(plain)
+}
+
+/// A word that may be there or not.
+fn flag<'a>(alloc: Global, name: &'a str) -> Arg<'a> {
+    Arg::new(alloc, name).long(name).action(ArgAction::SetTrue)
+}

@@ -1,0 +1,122 @@
+//! The numbers of the root's children after an edit, drawn on a line with the windows that were tried.
+
+use crate::windows::Change;
+use std::io;
+use std::io::Write;
+use std::ops::Range;
+use typst_rows::{EditReport, Row};
+
+/// How many children are drawn on each side of the window.
+const BESIDE: usize = 2;
+
+/// How many children are drawn in all.
+const MOST: usize = 60;
+
+/// How far the first child is from the left edge, in pixels.
+const LEFT: usize = 10;
+
+/// The width of the place of a child, in pixels.
+const WIDTH: usize = 130;
+
+/// How far the first window is from the upper edge, in pixels.
+const TOP: usize = 80;
+
+/// How far each window is below the one before, in pixels.
+const HEIGHT: usize = 24;
+
+/// Draws the numbers of the children in the window and next to it, both those that stayed and new ones.
+pub(crate) fn write_numbers<W: Write>(
+    out: &mut W,
+    rows: &[Row],
+    report: &EditReport,
+    change: &Change,
+) -> io::Result<()> {
+    let count = rows.iter().filter(|row| row.depth == 1).count();
+    let first = report.window.start.saturating_sub(BESIDE);
+    let behind = report.window.end.saturating_add(BESIDE).min(count);
+    let drawn = first..behind.min(first.saturating_add(MOST));
+    let width = x_of(&drawn, drawn.end).saturating_add(LEFT);
+    let height = TOP.saturating_add(report.tried.saturating_mul(HEIGHT));
+    let left_out = behind.saturating_sub(drawn.end);
+    write!(out, "<div class=\"numbers\"><svg width=\"{width}\" ")?;
+    writeln!(
+        out,
+        "height=\"{height}\" role=\"img\" aria-label=\"numbers\">"
+    )?;
+    write!(out, "<line x1=\"0\" y1=\"40\" x2=\"{width}\" y2=\"40\" ")?;
+    writeln!(out, "stroke=\"#8a919b\"/>")?;
+    for row in rows.iter().filter(|row| row.depth == 1) {
+        if drawn.contains(&row.index) {
+            write_number(out, &drawn, row, report.is_new(row))?;
+        }
+    }
+    write_windows(out, &drawn, report, change)?;
+    out.write_all(b"</svg>")?;
+    if left_out > 0 {
+        write!(out, "<p>{left_out} children behind these aren't drawn.</p>")?;
+    }
+    out.write_all(b"</div>\n")
+}
+
+/// Where the place of a child begins.
+fn x_of(drawn: &Range<usize>, index: usize) -> usize {
+    index
+        .min(drawn.end)
+        .saturating_sub(drawn.start)
+        .saturating_mul(WIDTH)
+        .saturating_add(LEFT)
+}
+
+/// Draws the kind of a child above the line, and its number below.
+fn write_number<W: Write>(
+    out: &mut W,
+    drawn: &Range<usize>,
+    row: &Row,
+    is_new: bool,
+) -> io::Result<()> {
+    let x = x_of(drawn, row.index).saturating_add(WIDTH / 2);
+    let colour = if is_new { "var(--new)" } else { "var(--kept)" };
+    let Row { kind, number, .. } = row;
+    writeln!(
+        out,
+        "<circle cx=\"{x}\" cy=\"40\" r=\"5\" fill=\"{colour}\"/>"
+    )?;
+    let text = "text-anchor=\"middle\" font-size=\"12\"";
+    writeln!(
+        out,
+        "<text x=\"{x}\" y=\"24\" {text} fill=\"currentColor\">{kind:?}</text>"
+    )?;
+    writeln!(
+        out,
+        "<text x=\"{x}\" y=\"62\" {text} fill=\"{colour}\">{number}</text>"
+    )
+}
+
+/// Draws the windows that were tried, one below the other.
+fn write_windows<W: Write>(
+    out: &mut W,
+    drawn: &Range<usize>,
+    report: &EditReport,
+    change: &Change,
+) -> io::Result<()> {
+    let Some(turns) = change.tried(report) else {
+        return Ok(());
+    };
+    for turn in turns {
+        let window = change.window(turn);
+        let x = x_of(drawn, window.start);
+        let width = x_of(drawn, window.end).saturating_sub(x).max(4);
+        let y = TOP.saturating_add(turn.saturating_mul(HEIGHT));
+        let (baseline, from) = (y.saturating_add(14), x.saturating_add(8));
+        let has_room = turn.saturating_add(1) == report.tried;
+        let colour = if has_room { "var(--new)" } else { "#8a919b" };
+        write!(out, "<rect x=\"{x}\" y=\"{y}\" width=\"{width}\" ")?;
+        write!(out, "height=\"20\" rx=\"5\" fill=\"{colour}\" ")?;
+        writeln!(out, "fill-opacity=\"0.15\" stroke=\"{colour}\"/>")?;
+        let told = if has_room { "room" } else { "no room" };
+        let number = turn.saturating_add(1);
+        write!(out, "<text x=\"{from}\" y=\"{baseline}\" font-size=\"12\" ")?;
+        writeln!(out, "fill=\"currentColor\">window {number}: {told}</text>")?;
+    }
+    Ok(())
+}

@@ -1,0 +1,192 @@
+//! What can go wrong, as it is reported on standard error.
+
+use crate::bad_line::BadLine;
+use crate::misfit::Misfit;
+use std::alloc::{AllocError, AllocFailed};
+use std::io;
+use std::io::ErrorKind;
+use thiserror::Error;
+use typst_source::SourceError;
+
+/// Why nothing more is shown.
+#[derive(Debug, Drop, Error)]
+pub(crate) enum Problem<'a> {
+    /// The words of the command line ask for help, or are wrong. `clap` writes the message.
+    #[error("{0}")]
+    Words(clap::Error),
+    #[error("only one of the text and its edits can be standard input: name a file for the other")]
+    TwoInputs,
+    #[error("{file}: --edits edits a text, and a script builds a tree: let its own lines `replace` and `run` edit it")]
+    NoText {
+        file: &'a str,
+    },
+    #[error("{file}: there is no such file")]
+    NoFile {
+        file: &'a str,
+    },
+    #[error("{file}: this is a folder, and a file is needed")]
+    Folder {
+        file: &'a str,
+    },
+    #[error("{file}: cannot read it: {error}")]
+    Read {
+        file: &'a str,
+        error: io::Error,
+    },
+    #[error("{file}: this isn't UTF-8 text: byte {byte} begins no character")]
+    NotText {
+        file: &'a str,
+        byte: usize,
+    },
+    #[error("{file}: this has more than {most} bytes, which are the most that are shown")]
+    TooLarge {
+        file: &'a str,
+        most: u64,
+    },
+    #[error("{file}:{line}:{column}: expected {expected}; an edit is written 7..12 \"text\" or 2:5..2:9 \"text\"")]
+    BadEdit {
+        file: &'a str,
+        line: usize,
+        column: usize,
+        expected: &'static str,
+    },
+    #[error("{file}:{line}: {misfit}")]
+    Misfit {
+        file: &'a str,
+        line: usize,
+        misfit: Misfit,
+    },
+    #[error("{file}: {error}")]
+    Refused {
+        file: &'a str,
+        error: SourceError,
+    },
+    #[error("{file}:{line}: {bad}")]
+    BadLine {
+        file: &'a str,
+        line: u64,
+        bad: BadLine,
+    },
+    #[error("{file}:{line}: the nodes nest in more than {most} levels here, which are the most that are shown")]
+    TooDeep {
+        file: &'a str,
+        line: u64,
+        most: usize,
+    },
+    #[error("{file}: this ends with no tree: put `root` after the line that makes its last node")]
+    NoTree {
+        file: &'a str,
+    },
+    #[error("{file}: the tree has more bytes or nodes than can be counted or numbered")]
+    TooManyNodes {
+        file: &'a str,
+    },
+    #[error("out of memory")]
+    Memory,
+    #[error("{file}: cannot write it: {error}")]
+    Save {
+        file: &'a str,
+        error: io::Error,
+    },
+    #[error("cannot write: {0}")]
+    Write(io::Error),
+}
+
+impl<'a> Problem<'a> {
+    /// The status: 1 for files and memory, and 2 for words, edits and the lines of scripts.
+    pub(crate) fn status(&self) -> u8 {
+        match self {
+            Problem::Words(_)
+            | Problem::TwoInputs
+            | Problem::NoText { .. }
+            | Problem::BadLine { .. }
+            | Problem::TooDeep { .. }
+            | Problem::NoTree { .. }
+            | Problem::BadEdit { .. }
+            | Problem::Misfit { .. } => 2,
+            Problem::NoFile { .. }
+            | Problem::Folder { .. }
+            | Problem::Read { .. }
+            | Problem::NotText { .. }
+            | Problem::TooLarge { .. }
+            | Problem::TooManyNodes { .. }
+            | Problem::Refused { .. }
+            | Problem::Memory
+            | Problem::Save { .. }
+            | Problem::Write(_) => 1,
+        }
+    }
+
+    /// The words of the command line can't be read.
+    pub(crate) fn of_words(error: io::Error) -> Problem<'a> {
+        match error.kind() {
+            ErrorKind::OutOfMemory => Problem::Memory,
+            _ => Problem::Read {
+                file: "the command line",
+                error,
+            },
+        }
+    }
+
+    /// A file can't be opened or read.
+    pub(crate) fn of_reading(file: &'a str, error: io::Error) -> Problem<'a> {
+        match error.kind() {
+            ErrorKind::OutOfMemory => Problem::Memory,
+            ErrorKind::NotFound => Problem::NoFile { file },
+            ErrorKind::IsADirectory => Problem::Folder { file },
+            _ => Problem::Read { file, error },
+        }
+    }
+
+    /// A file can't be written.
+    pub(crate) fn of_saving(file: &'a str, error: io::Error) -> Problem<'a> {
+        match error.kind() {
+            ErrorKind::OutOfMemory => Problem::Memory,
+            ErrorKind::IsADirectory => Problem::Folder { file },
+            _ => Problem::Save { file, error },
+        }
+    }
+
+    /// A text isn't parsed, or an edit of it isn't done.
+    pub(crate) fn of_source(file: &'a str, error: SourceError) -> Problem<'a> {
+        match error {
+            SourceError::Memory => Problem::Memory,
+            SourceError::Overflow | SourceError::Unnumberable => Problem::Refused { file, error },
+        }
+    }
+}
+
+/// Only writing gives an `io::Error` that isn't about a file.
+impl<'a> From<io::Error> for Problem<'a> {
+    /// The problem of an error of writing.
+    fn from(error: io::Error) -> Problem<'a> {
+        match error.kind() {
+            ErrorKind::OutOfMemory => Problem::Memory,
+            _ => Problem::Write(error),
+        }
+    }
+}
+
+impl<'a> From<AllocError> for Problem<'a> {
+    /// Memory was refused.
+    fn from(_: AllocError) -> Problem<'a> {
+        Problem::Memory
+    }
+}
+
+impl<'a, T: Drop> From<AllocFailed<T>> for Problem<'a> {
+    /// Memory was refused.
+    fn from(_: AllocFailed<T>) -> Problem<'a> {
+        Problem::Memory
+    }
+}
+
+impl<'a> From<clap::Error> for Problem<'a> {
+    /// The problem of words that the program doesn't take.
+    fn from(error: clap::Error) -> Problem<'a> {
+        match error.kind() {
+            clap::error::ErrorKind::OutOfMemory => Problem::Memory,
+            _ => Problem::Words(error),
+        }
+    }
+}

@@ -1,0 +1,11 @@
+pub mod Laws
+pub mod Blocks
+pub mod Sums
+pub mod SoFar
+pub mod Kept
+pub mod Kids
+pub mod Made
+pub mod Trees
+pub mod Edits
+pub mod Ran
+pub mod TooLarge

@@ -1,0 +1,46 @@
+-- What an edit of a text leaves.
+use Rattle.std.specs.Prelude.{ℕ, [], ◌≡◌, ◌+◌, ◌-◌, ◌<◌, List, length}
+use Rattle.std.specs.List.{replace_range}
+use Rattle.std.specs.declared.ops.Range.{Range}
+use Rattle.typst_node.specs.Tree.{Tree}
+use Rattle.typst_node.specs.Text.{text}
+use Rattle.typst_node.specs.Plain.{plain}
+use Rattle.typst_node.specs.Count.{count}
+use Rattle.typst_node.specs.Labels.{number, bound}
+use Rattle.typst_node.specs.Numbered.{IsNumberedFor}
+use Rattle.typst_node.specs.Outside.{KeepsOutside}
+use Rattle.typst_node.specs.Accepted.{IsAccepted}
+use Rattle.typst_source.specs.Blocks.{Block, document}
+use Rattle.typst_source.specs.Reparsed.{AreReparsed, AreSeams, cut_of}
+use Rattle.typst_source.specs.Source.{IsTooLarge}
+use Rattle.typst_source.specs.declared.cut.Cut.{Cut}
+use Rattle.typst_source.specs.declared.edited.Edited.{Edited}
+use Rattle.typst_source.specs.declared.error.SourceError.{SourceError}
+use Rattle.typst_source.specs.declared.error.SourceError.TheVariants.{Unnumberable, Overflow, Memory}
+
+-- an accepted edit replaced the children of the blocks that were parsed anew
+abbrev pub IsReplaced : (List ℕ → Block) → Cut → Tree → Edited → Tree → Type 0
+IsReplaced first cut old done new =
+    (from to : ℕ) × (others : List Tree) × AreSeams first (text old) (text new) cut done.reparsed from to (length others)
+    × IsAccepted (record { path = []; from = from; to = to; others = others }) old done.renumbered new
+
+-- An edit was done. The text is the edited one. The tree is the one that the text is parsed into, numbered for the same
+-- file. The bytes that were parsed anew are those of `AreReparsed`. The nodes of the first window with room were
+-- numbered anew, and all nodes outside it keep their labels.
+pub record IsEdited (first : List ℕ → Block) (old : Tree) (range : Range ℕ) (with : List ℕ) (done : Edited) (new : Tree) : Type 0 where
+  pub edited : text new ≡ replace_range (text old) range.start range.end with
+  pub fresh : plain new ≡ document first (text new)
+  pub numbered : IsNumberedFor old.label.span.file new
+  pub reparsed : AreReparsed first (text old) (text new) (cut_of range (length with)) done.reparsed
+  pub replaced : IsReplaced first (cut_of range (length with)) old done new
+  pub outside : KeepsOutside [] done.renumbered old new
+
+-- the numbers after the root's own and below its bound are fewer than the nodes of the tree that a text is parsed into
+abbrev pub IsCrowdedBy : (List ℕ → Block) → Tree → List ℕ → Type 0
+IsCrowdedBy first root source = bound root.label - (number root.label + 1) < count (document first source)
+
+-- why an edit that results in this text is refused
+abbrev pub IsRefusedBy : SourceError → (List ℕ → Block) → Tree → List ℕ → Type 0
+IsRefusedBy Unnumberable first root source = IsCrowdedBy first root source
+IsRefusedBy Overflow first root source = IsTooLarge first source
+IsRefusedBy Memory first root source = Unit {0}

@@ -1,0 +1,13 @@
+pub mod Blocks
+pub mod Parsed
+pub mod Reparsed
+pub mod Extents
+pub mod Window
+pub mod Source
+pub mod Errors
+pub mod Change
+pub mod Fits
+pub mod Edited
+pub mod Runs
+pub mod Kept
+pub mod Found

@@ -1,0 +1,156 @@
+//! The tree of a text, with how far the text's blocks extend.
+ghost use Rattle.std.specs.Prelude.{ℕ, [], ◌≡◌, ◌+◌, ◌-◌, ◌^◌, ◌<◌, ◌≤◌, IfOk, OnOk, OnErr, IsErrOf};
+ghost use Rattle.typst_node.specs.Count.{count};
+ghost use Rattle.typst_node.specs.Labels.{number, bound};
+ghost use Rattle.typst_node.specs.Numbered.{IsNumberedFor};
+ghost use Rattle.typst_node.specs.Outside.{KeepsOutside};
+ghost use Rattle.typst_node.specs.Text.{text};
+ghost use Rattle.typst_source.specs.Blocks.{document};
+ghost use Rattle.typst_source.specs.Change.{IsChange};
+ghost use Rattle.typst_source.specs.Edited.{IsReplaced};
+ghost use Rattle.typst_source.specs.Reparsed.{IsCut, AreReparsed};
+ghost use Rattle.typst_source.specs.Source.{IsParsed, IsTooLarge};
+ghost use Rattle.typst_source.specs.declared.error.SourceError.TheVariants.{Overflow, Unnumberable};
+
+use crate::cut::Cut;
+use crate::edited::Edited;
+use crate::error::SourceError;
+use crate::extents::{Beginning, Extent, Extents};
+use crate::parser::BlockParser;
+use crate::window::{Olds, parse_until};
+use std::alloc::Global;
+use std::ops::Range;
+use typst_base::{FileId, Span, SyntaxKind};
+use typst_node::SyntaxNode;
+
+/// The number of nodes that is too many. With fewer nodes, half of all numbers stay free.
+const TOO_MANY_NODES: usize = 1 << 46;
+
+/// The tree of a text, with how far the text's blocks extend.
+#[derive(Drop)]
+pub(crate) struct Parsed {
+    /// The root of the tree.
+    pub(crate) root: SyntaxNode,
+    /// The extents of the text's blocks.
+    pub(crate) extents: Extents,
+}
+
+/// What replaces some blocks.
+#[derive(Drop)]
+struct Change {
+    /// The blocks before those that go.
+    kept: Beginning,
+    /// How many blocks there are before the first one that stays after those that go.
+    upto: usize,
+    /// The nodes of those that go, as children of the root.
+    children: Range<usize>,
+    /// The extents of the blocks that come.
+    extents: Vec<Extent>,
+    /// The nodes of the blocks that come, side by side.
+    nodes: Vec<SyntaxNode>,
+    /// The bytes of the new text that were parsed.
+    reparsed: Range<usize>,
+}
+
+impl Parsed {
+    /// Parses a whole text, and numbers its nodes.
+    pub(crate) fn new<P: BlockParser>(
+        alloc: Global,
+        parser: &P,
+        source: &str,
+        id: FileId,
+    ) -> Result<Parsed, SourceError>
+        ensures source_text { IfOk result (λ p. text p.root ≡ source.now) }
+        ensures parsed { IfOk result (λ p. IsParsed P.first p.extents.items p.root) }
+        ensures numbered { IfOk result (λ p. IsNumberedFor id p.root) }
+        ensures unnumberable { IsErrOf result Unnumberable → 2 ^ 46 ≤ count (document P.first source.now) }
+        ensures overflow { IsErrOf result Overflow → IsTooLarge P.first source.now }
+    {
+        // Read for the proof: the number of a file is at least 1.
+        let _file = id.into_raw().get();
+        let none = Olds {
+            extents: &[],
+            bytes: 0,
+        };
+        let all = parse_until(alloc, parser, source, &none, 0)?;
+        let mut root = SyntaxNode::inner(alloc, SyntaxKind::Markup, all.nodes)?;
+        if root.descendants() >= TOO_MANY_NODES {
+            return Err(SourceError::Unnumberable);
+        }
+        root.numberize(id, Span::FULL)?;
+        Ok(Parsed {
+            root,
+            extents: Extents::new(all.extents),
+        })
+    }
+
+    /// How another text changes the blocks and the children.
+    fn change<P: BlockParser>(
+        &self,
+        alloc: Global,
+        parser: &P,
+        new: &str,
+        cut: &Cut,
+    ) -> Result<Change, SourceError>
+        requires parsed { IsParsed P.first self.now.extents.items self.now.root }
+        requires cut { IsCut (text self.now.root) new.now cut.now }
+        ensures change { IfOk result (IsChange P.first self.now.extents.items self.now.root new.now cut.now) }
+        ensures numberable { ¬ (IsErrOf result Unnumberable) }
+        ensures overflow { IsErrOf result Overflow → IsTooLarge P.first new.now }
+    {
+        // Read for the proof: the number of children fits a usize.
+        let _count = self.root.child_slice().len();
+        let bytes = self.root.len();
+        let kept = self.extents.untouched(cut.start);
+        let olds = Olds {
+            extents: self.extents.behind(kept.sums.blocks),
+            bytes: bytes - kept.sums.bytes,
+        };
+        let (_, rest) = new.split_at(kept.sums.bytes);
+        let window = parse_until(alloc, parser, rest, &olds, new.len() - cut.new_end)?;
+        Ok(Change {
+            kept,
+            upto: kept.sums.blocks + window.passed.blocks,
+            children: kept.sums.nodes..kept.sums.nodes + window.passed.nodes,
+            extents: window.extents,
+            nodes: window.nodes,
+            reparsed: kept.sums.bytes..new.len() - window.left,
+        })
+    }
+
+    /// Makes this the tree of another text. It parses anew the blocks that a cut touches.
+    pub(crate) fn reparse<P: BlockParser>(
+        &mut self,
+        alloc: Global,
+        parser: &P,
+        new: &str,
+        cut: &Cut,
+    ) -> Result<Edited, SourceError>
+        requires parsed { IsParsed P.first self.old.extents.items self.old.root }
+        requires cut { IsCut (text self.old.root) new.now cut.now }
+        ensures err_root { OnErr result (self.new.root ≡ self.old.root) }
+        ensures err_extents { OnErr result (self.new.extents.items ≡ self.old.extents.items) }
+        ensures unnumberable { IsErrOf result Unnumberable
+            → bound self.old.root.label - (number self.old.root.label + 1) < count (document P.first new.now) }
+        ensures overflow { IsErrOf result Overflow → IsTooLarge P.first new.now }
+        ensures new_text { OnOk result (text self.new.root ≡ new.now) }
+        ensures parsed { OnOk result (IsParsed P.first self.new.extents.items self.new.root) }
+        ensures numbered { OnOk result (IsNumberedFor self.old.root.label.span.file self.new.root) }
+        ensures reparsed { IfOk result (λ done. AreReparsed P.first (text self.old.root) new.now cut.now
+            done.reparsed) }
+        ensures replaced { IfOk result (λ done. IsReplaced P.first cut.now self.old.root done self.new.root) }
+        ensures outside { IfOk result (λ done. KeepsOutside [] done.renumbered self.old.root self.new.root) }
+    {
+        let change = self.change(alloc, parser, new, cut)?;
+        self.extents.reserve(change.extents.len())?;
+        let renumbered = self
+            .root
+            .replace_children(alloc, change.children, change.nodes)?;
+        self.extents
+            .replace(change.kept, change.upto, &change.extents);
+        Ok(Edited {
+            reparsed: change.reparsed,
+            renumbered,
+        })
+    }
+}

@@ -1,0 +1,188 @@
+//! Sources: texts with their trees.
+ghost use Rattle.std.specs.Prelude.{ℕ, [], ◌≡◌, ◌+◌, ◌-◌, ◌^◌, ◌<◌, ◌≤◌, ◌↔◌, IfOk, OnOk, OnErr, IsErrOf, IsTrue, length, string_bytes};
+ghost use Rattle.std.specs.List.{replace_range};
+ghost use Rattle.typst_node.specs.Count.{count};
+ghost use Rattle.typst_node.specs.Labels.{number, bound};
+ghost use Rattle.typst_node.specs.Numbered.{IsNumbered, IsNumberedFor};
+ghost use Rattle.typst_node.specs.Outside.{KeepsOutside};
+ghost use Rattle.typst_node.specs.Plain.{plain};
+ghost use Rattle.typst_node.specs.Text.{text};
+ghost use Rattle.typst_source.specs.Blocks.{document};
+ghost use Rattle.typst_source.specs.Edited.{IsReplaced};
+ghost use Rattle.typst_source.specs.Fits.{FitsText};
+ghost use Rattle.typst_source.specs.Reparsed.{AreReparsed, cut_of};
+ghost use Rattle.typst_source.specs.Source.{IsTooLarge};
+ghost use Rattle.typst_source.specs.declared.error.SourceError.TheVariants.{Overflow, Unnumberable};
+
+use crate::content::{put, put_back};
+use crate::cut::Cut;
+use crate::edited::Edited;
+use crate::error::SourceError;
+use crate::parsed::Parsed;
+use crate::parser::BlockParser;
+use std::alloc::Global;
+use std::fmt::{self, Debug, Formatter, Write};
+use std::marker::Model;
+use std::ops::Range;
+use typst_base::FileId;
+use typst_node::SyntaxNode;
+
+/// A text and its numbered tree, kept together while the text is edited.
+///
+/// In contracts it is the root of the tree; its text is that of the root.
+#[derive(Drop)]
+pub struct Source<P: BlockParser + Drop> {
+    content: String,
+    parsed: Parsed,
+    parser: P,
+}
+
+impl<P: BlockParser + Drop> Model for Source<P> {
+    ghost use Rattle.typst_node.specs.Tree.{Tree};
+    ghost use Rattle.typst_node.specs.Codes.{tree_code};
+
+    ghost Value = { Tree };
+
+    ghost coded = { tree_code };
+
+    ghost use Rattle.std.specs.Prelude.{◌≡◌, string_bytes};
+    ghost use Rattle.typst_node.specs.Text.{text};
+    ghost use Rattle.typst_source.specs.Source.{IsParsed};
+
+    ghost view = { λ a. a.parsed.root };
+
+    ghost invariant = { λ a. (string_bytes a.content ≡ text a.parsed.root)
+        × IsParsed P.first a.parsed.extents.items a.parsed.root };
+}
+
+/// # A text and its tree
+impl<P: BlockParser + Drop> Source<P> {
+    /// Parses a text, and numbers the nodes of its tree for a file. `Unnumberable` comes only if the tree has 2^46
+    /// nodes or more, `Overflow` only if its text or its nodes are more than a usize counts, and `Memory` only if
+    /// memory is refused.
+    pub fn new(alloc: Global, id: FileId, source: &str, parser: P) -> Result<Source<P>, SourceError>
+        ensures source_text { IfOk result (λ s. text s ≡ source.now) }
+        ensures fresh { IfOk result (λ s. plain s ≡ document P.first source.now) }
+        ensures numbered { IfOk result (IsNumberedFor id) }
+        ensures unnumberable { IsErrOf result Unnumberable → 2 ^ 46 ≤ count (document P.first source.now) }
+        ensures overflow { IsErrOf result Overflow → IsTooLarge P.first source.now }
+    {
+        let content = String::from_str(alloc, source)?;
+        let parsed = Parsed::new(alloc, &parser, source, id)?;
+        Ok(Source {
+            content,
+            parsed,
+            parser,
+        })
+    }
+
+    /// The text.
+    pub fn text(&self) -> &str
+        ensures { result.now ≡ text self.now }
+    {
+        self.content.as_str()
+    }
+
+    /// The root of the tree. Apart from spans and bounds, the tree is the one that parsing the whole text makes.
+    pub fn root(&self) -> &SyntaxNode
+        ensures same { result.now ≡ self.now }
+        ensures numbered { IsNumbered self.now }
+        ensures fresh { plain self.now ≡ document P.first (text self.now) }
+    {
+        &self.parsed.root
+    }
+
+    /// The parser that [`Source::new`] was given. Contracts see only its type, whose [`BlockParser::first`] says what
+    /// it parses. So no clause tells its value. A caller who names no type can't be given any other parser.
+    pub fn parser(&self) -> &P {
+        &self.parser
+    }
+
+    /// Takes the source apart: the text, the root of its tree, and the parser.
+    pub fn into_parts(self) -> (String, SyntaxNode, P)
+        ensures source_text { string_bytes result.0 ≡ text self }
+        ensures root { result.1 ≡ self }
+    {
+        let Source {
+            content,
+            parsed,
+            parser,
+        } = self;
+        let Parsed { root, extents: _ } = parsed;
+        (content, root, parser)
+    }
+
+    /// Whether a range of bytes can be edited: it lies in the text, and both of its ends are between characters.
+    pub fn fits(&self, range: &Range<usize>) -> bool
+        ensures { IsTrue result ↔ FitsText (text self.now) range.now }
+    {
+        let text = self.text();
+        range.start <= range.end
+            && text.is_char_boundary(range.start)
+            && text.is_char_boundary(range.end)
+    }
+}
+
+impl<P: BlockParser + Drop> Debug for Source<P> {
+    /// Writes the tree, as [`SyntaxNode`] does.
+    fn fmt<W: Write>(&self, f: &mut Formatter<W>) -> fmt::Result {
+        write!(f, "Source({:?})", self.parsed.root)
+    }
+}
+
+/// # Edits
+impl<P: BlockParser + Drop> Source<P> {
+    /// Replaces a range of bytes by another text.
+    ///
+    /// It keeps the longest beginning of the blocks for which the parser looked only at bytes before the range. From
+    /// there on it parses blocks anew, up to the first place after the new bytes where a block ends where an old one
+    /// ended. It replaces the root's children of these blocks as [`SyntaxNode::replace_children`] does.
+    ///
+    /// The test of the condition is [`Source::fits`]. After an error nothing has changed. `Unnumberable` comes only if
+    /// the new tree has more nodes than the root has open numbers; these suffice for fewer than 2^46 nodes. `Overflow`
+    /// comes only if its text or its nodes are more than a usize counts, and `Memory` only if memory is refused.
+    pub fn edit(
+        &mut self,
+        alloc: Global,
+        range: Range<usize>,
+        with: &str,
+    ) -> Result<Edited, SourceError>
+        requires fits_ask_fits { FitsText (text self.old) range }
+
+        // A refusal changes nothing.
+        ensures err { OnErr result (self.new ≡ self.old) }
+        ensures unnumberable { IsErrOf result Unnumberable
+            → bound self.old.label - (number self.old.label + 1)
+            < count (document P.first (replace_range (text self.old) range.start range.end with.now)) }
+        ensures large { IsErrOf result Unnumberable
+            → 2 ^ 46 ≤ count (document P.first (replace_range (text self.old) range.start range.end with.now)) }
+
+        ensures overflow { IsErrOf result Overflow
+            → IsTooLarge P.first (replace_range (text self.old) range.start range.end with.now) }
+
+        // What an edit makes.
+        ensures edited { OnOk result (text self.new ≡ replace_range (text self.old) range.start range.end with.now) }
+        ensures fresh { OnOk result (plain self.new ≡ document P.first (text self.new)) }
+        ensures numbered { OnOk result (IsNumberedFor self.old.label.span.file self.new) }
+        ensures reparsed { IfOk result (λ done.
+            AreReparsed P.first (text self.old) (text self.new) (cut_of range (length with.now)) done.reparsed) }
+        ensures replaced { IfOk result (λ done.
+            IsReplaced P.first (cut_of range (length with.now)) self.old done self.new) }
+        ensures outside { IfOk result (λ done. KeepsOutside [] done.renumbered self.old self.new) }
+    {
+        let gone = put(alloc, &mut self.content, &range, with)?;
+        let cut = Cut {
+            start: range.start,
+            old_end: range.end,
+            new_end: range.start + with.len(),
+        };
+        let new = self.content.as_str();
+        match self.parsed.reparse(alloc, &self.parser, new, &cut) {
+            Ok(done) => Ok(done),
+            Err(error) => {
+                put_back(&mut self.content, &(cut.start..cut.new_end), &gone);
+                Err(error)
+            }
+        }
+    }
+}
