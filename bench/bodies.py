@@ -71,6 +71,7 @@ REACHED = re.compile(r"^(?:logic=(?:not-)?proved|only=\d)", re.M)
 GOAL = "`search` did not prove `"
 NAMED = re.compile(r"`search` did not prove `([^`]+)`|error: `([^`]+)`")  # a goal, or a declaration of a proof file
 VANISHED = re.compile(r"has no field|is not in scope|has no `|was not admitted")  # the edit took a name away: it says little
+MANY = 100  # a crate with more edits takes longest
 REFUSED = ("goal", "proof file")  # the two ways of a failure of its own
 OF_CLAUSE = re.compile(r"\breturns\b|loop-.*-(?:preserved|init)|invariant_of|-bits")  # goals of what the function promises
 UNSEEN = re.compile(r"[=!<>]=|[?+*/<>-]|\bfor\b")  # what may call a method of a trait that the body doesn't name
@@ -127,7 +128,7 @@ class Room:
 
     def __init__(self, top, name, place, jobs, proved=None, nice=0):
         self.source, self.crate, self.jobs, self.checks = top / "crates" / name, Path(place) / "crates" / name, jobs, 0
-        self.nice = nice
+        self.nice, self.least = nice, least_jobs(top / "crates" / name)
         needs = needs_of(top)
         kept = below(name, needs)
         for it in kept:
@@ -203,7 +204,7 @@ class Room:
             (self.crate / file).write_text(placed(text, [it for it in hunks if it.file == file]))
         self.checks += 1
         wait_for_memory()
-        jobs = max(1, min(self.jobs, idle_processors()))
+        jobs = max(self.least, min(self.jobs, idle_processors()))
         words = ["nice", "-n", str(self.nice), "rt", "check", "--jobs", str(jobs)]
         words += [word for it in only for word in ("--only", it)]
         ran = subprocess.run(words, cwd=self.crate, capture_output=True, text=True)
@@ -211,6 +212,12 @@ class Room:
         reached = REACHED.search(self.text)
         errors = [(file, text) for file, text in ERRORS.findall(self.text) if not text.startswith("`judged`")]
         return (said_in(self.text), errors) if reached else ({}, [])
+
+
+def least_jobs(crate):
+    """How many jobs a check of this crate gets at least. The crates with most edits are judged last, when processors are idle, so they
+    get two jobs from the start, unless there are no more than two processors."""
+    return 2 if len(edit_files(crate)) > MANY and len(os.sched_getaffinity(0)) > 2 else 1
 
 
 def idle_processors():
@@ -656,11 +663,12 @@ def report(name, given, proved, nice):
 def judge_all(given):
     """Judges the crates, those with the most edits first; returns whether all is well.
 
-    The first takes longest, and the others give way to it, so that it doesn't stand alone in the end."""
-    names = sorted(given.crates, key=lambda it: -len(edit_files(TOP / "crates" / it)))
+    Those with many edits take longest, and the others give way to them, so that they don't run alone in the end."""
+    edits = {it: len(edit_files(TOP / "crates" / it)) for it in given.crates}
+    names = sorted(edits, key=lambda it: -edits[it])
     with tempfile.TemporaryDirectory(prefix="proved-") as place, ThreadPoolExecutor(given.lanes) as pool:
         proved = Proved(given.beside, place) if given.beside else None
-        bad = [*pool.map(lambda name: report(name, given, proved, 0 if name == names[0] else 9), names)]
+        bad = [*pool.map(lambda name: report(name, given, proved, 0 if edits[name] > MANY else 9), names)]
         if proved:
             proved.is_over = True
     used = resource.getrusage(resource.RUSAGE_CHILDREN)
