@@ -56,7 +56,7 @@ REASONS = {word: reason for reason, words in EXEMPT.items() for word in words.sp
 
 
 def needing(words):
-    """Those of some words that need a field."""
+    """The words among these that need a field."""
     return {word for word in words if word not in REASONS and f"{word.split('.')[0]}.*" not in REASONS}
 
 
@@ -72,7 +72,7 @@ def imported(text):
 
 
 def clauses(head):
-    """The clauses of a function's head: what stands in braces after each `ensures`."""
+    """The clauses of a function's head: the text in braces after each `ensures`."""
     for it in CLAUSE.finditer(head):
         depth, end = 1, it.end()
         while depth:
@@ -123,7 +123,7 @@ def fields():
 
 
 def made_of(word, known, defined):
-    """The words of fields that a word is made of; the word itself where no field has it and nothing says of what it is made."""
+    """The words of fields that a word is made of, or the word itself if no field has it and no definition says what it is made of."""
     if word in known or word not in defined:
         return {word}
     parts = needing(defined[word]) - {word}
@@ -145,12 +145,12 @@ def main():
     wrong = []
     for name, words in reads.items():
         covered = set().union(*(stands for stands, names in stated.values() if name in names))
-        wrong += [f"{name} reads {word}, and no field that names {name} has that word" for word in sorted(words - covered)]
+        wrong += [f"{name} reads {word}, but no field that names {name} has that word" for word in sorted(words - covered)]
     for field, (words, names) in stated.items():
         wrong += [f"{field} names {name}, which reads no word of it" for name in names if not words & reads.get(name, set())]
     used = set().union(defined, *every.values(), *defined.values())
     used |= {f"{word.split('.')[0]}.*" for word in used}
-    wrong += [f"{word} needs no reason, since nothing is called so: take it out of bench/alike.py" for word in sorted(REASONS.keys() - used)]
+    wrong += [f"{word} needs no reason, since nothing has this name: take it out of bench/alike.py" for word in sorted(REASONS.keys() - used)]
     print(*wrong, sep="\n", end="\n" if wrong else "")
     print(f"{sum(map(bool, reads.values()))} accessors read words of {len(stated)} fields, {len(wrong)} faults")
     return 1 if wrong or not stated or not any(reads.values()) else 0

@@ -1,49 +1,51 @@
 #!/usr/bin/env python3
-"""Says of each wrong body of a crate whether the prover refuses it, many bodies in one check.
+"""Says of each wrong body of a crate whether the prover refuses it. One check tries many bodies.
 
-    bench/bodies.py CRATE.. [--only WORD] [--each] [--jobs N]    judges the crates' edits
-    bench/bodies.py --goals CRATE..                              the same, and by which goals of its functions each falls: their
-                                                                 names tell the clause, as `returns-clause-looks`
-    bench/bodies.py --beside LOG CRATE..                         the same, each crate once `rt ci`, which writes LOG, has
-                                                                 proved those below it, over what it made of them
-    bench/bodies.py --apply                                      whether each edit of each crate can be placed, and each public
-                                                                 function with clauses has one; no check
+    bench/bodies.py CRATE.. [--only WORD] [--each] [--jobs N]    judges the edits of the crates
+    bench/bodies.py --goals CRATE..                              also prints the goals at which each edit falls; a goal's name
+                                                                 tells the clause, as `returns-clause-looks` does
+    bench/bodies.py --beside LOG CRATE..                         judges each crate once the `rt ci` that writes LOG has proved the
+                                                                 crates below it, and builds on what that run made of them
+    bench/bodies.py --apply                                      makes no check: says whether each edit of each crate can be placed,
+                                                                 and whether each public function with clauses has an edit
     bench/bodies.py --test                                       judges a small made-up crate whose verdicts are known
 
-An edit has lines `file: src/node/x.rt`, `in: Type::method`, `old: TEXT` and `new: TEXT`, each text one line. The old text stands
-once in what the line before it names: `in: function`, `in: Type::method`, `in: Trait for Type::method` (`in: From<u8> for ..`
-where there are two), a constant (`in: LIST`), or by its name a type, of what it derives. An edit of src/node/x.rt stands in
-wrong-bodies/node/x/, under a name that no other one of the crate has. Those that `rt ci` tries besides stand right in must-fail/:
-there the old text stands once in the whole file, and the function's name behind `# in:`, since `rt` reads no line `in:`.
+What an edit is. It has the lines `file: src/node/x.rt`, `in: Type::method`, `old: TEXT` and `new: TEXT`, and each text is one line.
+The line `in:` names a function (`in: function`, `in: Type::method`, `in: Trait for Type::method`, or `in: From<u8> for ..` where a
+type has two such impls), a constant (`in: LIST`), or a type, which means what it derives. The old text occurs exactly once there. An
+edit of src/node/x.rt is a file in wrong-bodies/node/x/. Its name is unique in the crate. The edits in must-fail/ are those that
+`rt ci` tries too. `rt` reads no line `in:`, so in must-fail/ the function is named after `# in:`, and the old text occurs exactly once
+in the whole file.
 
-A body is refused only by a failure of its own: a goal of that very function that `search` did not prove, or an error in its own
-proof files that isn't a name which the edit took away. What a function owes rests on the contracts of those that it calls, and
-not on their bodies, so edits of many functions stand in one check: that a function calls one that isn't proved says nothing of
-it, and takes nothing from its own failure. So the functions that no edit of a batch changes stand there with `unreachable!()`
-for a body and a proof that is refused at once. Of functions of one cycle of calls, which have one proof, each has those goals
-for its own that are named after it.
+How it is judged. A body is refused only by a failure of its own: `search` did not prove a goal of that very function, or its own proof
+files have an error other than a name that the edit took away. What a function owes rests on the contracts of the functions that it
+calls, not on their bodies. So one check can hold edits of many functions: the failure of a function that is called neither causes nor
+hides a failure of the function that calls it. The functions that a batch doesn't change get the body `unreachable!()` and a proof
+that is refused at once. The functions of one cycle of calls share a proof, and each has the goals that are named after it.
 
-Further edits of one function stand in copies of it under other names, which have copies of its proof: then a right copy stands
-beside them, which may not fail. A copy of a trait's method stands among the type's own, and owes the clauses alone that are
-written at the method, or what the impl block says that a step of an iterator gives: it too has a right one beside it. Where a
-copy may not mean the same, as of another method of a trait or of a function in a cycle, no batch has two edits of a function.
-Each batch has a control, a right body, which must be proved: that of a function with no edit, or of a copy of one. What a batch
-doesn't decide is tried again, apart from all that the function may call, whose bodies are then as they are, and at last alone,
-with every body; what isn't decided then is told as not judged, which fails. A body that is let through takes one such further check
-at least, so a crate gets sixteen of them (`--further`), and what they leave open is told as not judged.
+If a function has several edits, the further ones are put into copies of it under other names, with copies of its proof. An unchanged
+copy is put beside them and may not fail. The copy of a trait's method becomes a method of the type. It owes only the clauses that are
+written at the method, or what the impl block says that a step of an iterator gives. A copy of some functions may mean something else,
+as of another method of a trait or of a function in a cycle. Then no batch has two edits of the function.
 
-Goals are named after the code, and an answer in proofs/ is used for the goal of its name alone. So a function with proof files may
-fail only because its body has another form: a branch, a loop or a `?` more or less, other words in a condition, or a call before
-another one of its name that an answer cites (`let all = list.len();` gives a call a name of its own). Such a failure counts only if a
-right body of that form is proved. The judge makes one: it puts the statement where the change begins into both branches of the new
-condition, behind a loop that does nothing, or behind a `?` that always goes on, or it writes its condition in another way. A line
-`right: TEXT` behind the `new:` line (`# right:` in must-fail/) names one in its place. They are tried in one more check, and only for
-bodies that would count as refused. Where none is proved, the wrong body is told as not judged.
+Each batch has a control: a right body, which must be proved. It is a function that no edit changes, or a copy of a function. What a
+batch doesn't decide is tried again in a check without any edit of what the function may call, whose bodies are then as they are. What
+is still open is tried alone, with every body in its place. What isn't decided even then is reported as not judged, and that fails. A
+body that is let through takes at least one such further check. A crate gets sixteen of them (`--further`); what they leave open is
+reported as not judged.
 
-To be judged, a wrong body keeps the form: it changes a value, an argument or a bound. A threshold goes into no condition, since names
-of goals hold its words, but into a value that the next condition, call or `?` reads under its old name: before `if room < len` not
-`if len > 3_000 { return Err(AllocError); }`, but `let room = room.min(3_000);`. A body that keeps the form is refused also where it
-meets its contract for another reason than the answer gives, as by another number of the same range: no other answer is looked for.
+The form of a body. Goals are named after the code, and an answer in proofs/ is used only for the goal of its name. So a function with
+proof files may fail only because its body has another form: a branch, a loop or a `?` more or less, other words in a condition, or a
+call before another call of its name that an answer cites (`let all = list.len();` gives a call a name of its own). Such a failure
+counts only if a right body of that form is proved. The judge makes one. It puts the statement where the change begins into both
+branches of the new condition, after a loop that does nothing, or after a `?` that always goes on, or it writes the condition in
+another way. A line `right: TEXT` after the line `new:` (`# right:` in must-fail/) gives one instead. These right bodies are tried in
+one more check, and only for wrong bodies that would count as refused. If none is proved, the wrong body is reported as not judged.
+
+So a wrong body should keep the form: change a value, an argument or a bound. Put a threshold into no condition, since names of goals
+hold its words, but into a value that the next condition, call or `?` reads under its old name. Before `if room < len` don't write
+`if len > 3_000 { return Err(AllocError); }`, but `let room = room.min(3_000);`. A body that keeps the form is also refused if it meets
+its contract for another reason than the answer gives, such as another number of the same range. The judge looks for no other answer.
 """
 import argparse
 import os
@@ -84,8 +86,8 @@ EMPTIED = """use {module}.Goals as goal
 pub unreachable-requires : goal.unreachable-requires
 unreachable-requires = unnamed
 """
-# What a function that is judged has in its proof besides: something that is refused. The prover searches for its goals as before
-# and tells those that are left, but leaves out its second run, in which it would offer answers for them.
+# What is added to the proof of a function that is judged: something that is refused. The prover searches for the function's goals as
+# before and prints those that are left. It leaves out its second run, in which it would offer answers for them.
 MARK = """
 judged : unnamed
 judged = unnamed
@@ -104,7 +106,7 @@ def needs_of(top):
 
 
 def below(name, needs):
-    """The crates of the repository that this one stands on, in any number of steps."""
+    """The crates of the repository below this one, in any number of steps."""
     found, todo = set(), [name]
     while todo:
         new = {it for it in needs[todo.pop()] if it in needs} - found
@@ -114,7 +116,7 @@ def below(name, needs):
 
 
 def stamp(place, names):
-    """Marks the libraries as built of what stands beside them, as `rt check` marks its own: `rt ci` has just made them."""
+    """Marks the libraries as built from the sources next to them, as `rt check` marks its own: `rt ci` has just made them."""
     sys.path.insert(0, str(Path(shutil.which("rt")).resolve().parent))
     import rtlib  # of the toolchain
 
@@ -124,7 +126,7 @@ def stamp(place, names):
 
 
 class Room:
-    """A copy of a crate and of what it stands on, in which batches are checked."""
+    """A copy of a crate and of the crates below it, in which batches are checked."""
 
     def __init__(self, top, name, place, jobs, proved=None, nice=0):
         self.source, self.crate, self.jobs, self.checks = top / "crates" / name, Path(place) / "crates" / name, jobs, 0
@@ -148,7 +150,7 @@ class Room:
         return self.crate.joinpath("proofs", *path.split("::")[1:])
 
     def prove_nothing(self, function, paths):
-        """Gives an emptied function, in the place of its proof, one that is refused at once."""
+        """Replaces the proof of an emptied function by one that is refused at once."""
         for folder in function.proof_folders(self.crate / "proofs"):
             shutil.rmtree(folder)
         for path in paths:
@@ -159,8 +161,8 @@ class Room:
                 (folder / "Answers.antt").write_text(EMPTIED.format(module=f"Rattle.{module}"))
 
     def mark(self, function, paths, recurs):
-        """Adds to the proof of a function, or to that of its cycle, something that is refused. Where the function calls itself, its
-        proof stands in a folder whose name begins with `+`: a file beside that stops a check, and one there too many does not."""
+        """Adds something that is refused to the proof of a function or of its cycle. If the function calls itself, its proof is in a
+        folder whose name begins with `+`. A file next to that folder stops a check, and one file too many in it doesn't."""
         name, proofs = f"{'+' * recurs}{function.name}", self.crate / "proofs"
         folders = [it for it in function.proof_folders(proofs) if it.name == name]
         folders = folders or [self.folder(path).with_name(name) for path in paths]
@@ -171,7 +173,7 @@ class Room:
                     file.write(MARK)
 
     def prove_copies(self, copies):
-        """Gives copies of functions the proofs of these. That of a trait's method is a method of the type's own."""
+        """Gives copies of functions the proofs of the originals. The copy of a trait's method is a method of the type."""
         for made, original in copies.items():
             for folder in original.proof_folders(self.crate / "proofs"):
                 home = folder.parent.with_name(made.subject.replace("::", "+")) if original.trait else folder.parent
@@ -181,11 +183,11 @@ class Room:
                     file.write_text(text.replace(f".{old}.", f".{new}."))
 
     def checked(self, hunks, copies, emptied, marked, only=()):
-        """What the check says of each function, and the errors in the files below proofs/; nothing where the prover wasn't reached.
+        """What the check says of each function, and the errors in the files below proofs/. Both are empty if the prover wasn't reached.
 
-        Copies have the proofs of their originals. Emptied functions, each with the paths that it may have, have `unreachable!()`
-        for a body, and a proof that is refused at once; of marked ones it says by which goals they fail, and never that they are
-        proved. With paths in `only` it says nothing but of these functions and of those that they call."""
+        Copies have the proofs of their originals. An emptied function has the body `unreachable!()` and a proof that is refused at
+        once; it comes with the paths that it may have. Of a marked function the check says at which goals it fails, and never that it
+        is proved. With paths in `only` the check covers these functions and those that they call, and no others."""
         for part in ("src", "specs", "proofs"):
             shutil.rmtree(self.crate / part, ignore_errors=True)
             if (self.source / part).is_dir():
@@ -215,13 +217,13 @@ class Room:
 
 
 def least_jobs(crate):
-    """How many jobs a check of this crate gets at least. The crates with most edits are judged last, when processors are idle, so they
-    get two jobs from the start, unless there are no more than two processors."""
+    """How many jobs a check of this crate gets at least: two if it has many edits and there are more than two processors. Such a crate
+    is judged longest, and at the end processors are idle."""
     return 2 if len(edit_files(crate)) > MANY and len(os.sched_getaffinity(0)) > 2 else 1
 
 
 def idle_processors():
-    """How many processors have nothing to do just now, this one apart. Two jobs take a quarter more of them in all than one."""
+    """How many processors are idle, without this process. Two jobs of one check take a quarter more processor time than one job."""
     running = int(Path("/proc/loadavg").read_text().split()[3].partition("/")[0])
     return len(os.sched_getaffinity(0)) + 1 - running
 
@@ -236,7 +238,7 @@ def wait_for_memory():
 
 
 def said_in(text):
-    """What a check says of each function, with the goals that are left, which notes before it tell."""
+    """What a check says of each function, with the goals that are left. Notes before a function's line name these goals."""
     said, left = {}, ""
     for line in text.split("\n"):
         if note := NOTE.match(line):
@@ -260,8 +262,8 @@ def is_of(goal, path):
 
 
 def of_member(path, cycle, said, errors):
-    """What is said and the errors, without the goals and the declarations of the cycle's other members; nothing where what all of
-    them have in common is refused."""
+    """What is said and the errors, without the goals and the declarations of the cycle's other members. Both are empty if what all
+    members have in common is refused."""
     if any(f"/{file}".endswith(f"/+{cycle}/Invariants.antt") for file, _ in errors):
         return {}, []
     line = said.get(path, "")
@@ -301,7 +303,7 @@ class Judge:
         self.verdicts, self.spoiled, self.goals, self.known, self.made = {}, set(), {}, {}, {}
 
     def clash(self, one, two, is_strict):
-        """Whether two edits may not stand in one check."""
+        """Whether two edits exclude each other from one check."""
         if one.copied or two.copied:
             return False
         cycles = is_strict and {it.cycle for it in one.functions} & {it.cycle for it in two.functions} - {""}
@@ -312,9 +314,9 @@ class Judge:
         return bool(one.functions & two.functions or cycles) or lines or calls
 
     def batches(self, edits, is_strict):
-        """The edits in few batches in which none bears on another; at first a further one of a function stands in a copy of it."""
+        """The edits in few batches in which none affects another. At first each further edit of a function is put into a copy of it."""
         made = []
-        # What a type derives has a path that is known only when the prover has spoken of it: it waits for a later batch.
+        # The path of what a type derives is known only after the prover has named it, so such an edit waits for a later batch.
         known = [it for it in edits if is_strict or all(function.name for function in it.functions)]
         for edit in [*known, *(it for it in edits if it not in known)]:
             for batch in made if edit in known else made[1:]:
@@ -328,8 +330,8 @@ class Judge:
         return made
 
     def copy(self, edit, against, batch):
-        """The edit in a copy of its function, if it can't stand in the batch only since others change that function, and nothing but
-        functions."""
+        """The edit in a copy of its function, if it is kept out of the batch only by edits that change that function and nothing
+        outside functions."""
         within = [it for it in against if all(any(function.holds(h) for function in it.functions) for h in it.hunks)]
         if len(within) < len(against) or not all(edit.functions <= it.functions for it in within):
             return None
@@ -337,8 +339,8 @@ class Judge:
         return in_copy(self.room.source, edit, f"{next(iter(edit.functions)).name}_copy{count}")
 
     def control(self, batch):
-        """A function that no edit of the batch changes, and that calls none that one changes, with a body that means the same; where
-        there is none, a right copy of one that is changed."""
+        """A function that no edit of the batch changes and that calls no changed function, with a body that means the same. If there
+        is none, a right copy of a changed function."""
         changed = set().union(*(it.functions for it in batch))
         fits = [it for it in self.functions if it not in self.spoiled and not (self.reached.get(it, set()) - {it}) & changed]
         fits = [it for it in fits if it.name and not it.cycle and not it.name.isupper()]
@@ -359,16 +361,16 @@ class Judge:
         return None
 
     def depth(self, function):
-        """How far a function is from being a control that rests on nothing: the less the better."""
+        """How far a function is from being a control that calls nothing. Less is better."""
         return self.hides_calls(function), bool(self.reached.get(function)), function.end - function.body
 
     def hides_calls(self, function):
-        """How many signs of calls that the sources don't tell its body has: operators, and calls by which a trait's method may run."""
+        """How many signs of hidden calls its body has: operators, and calls through which a trait's method may run."""
         body = blanked((self.room.source / function.file).read_text())[function.body : function.end]
         return bool(UNSEEN.search(body)) + bool(CALL.search(body))
 
     def with_control(self, batch):
-        """The batch with its control. Where all that could be one are changed, the edits of one function wait."""
+        """The batch with its control. If every function that could be one is changed, the edits of one function wait."""
         control = self.control(batch)
         if control or len(batch) == 1:
             return batch, [], control
@@ -382,8 +384,8 @@ class Judge:
         return rest, waiting, control
 
     def emptied(self, batch, control, tries):
-        """The functions whose bodies the batch's verdicts don't ask for, with the paths that they may have: first all others, then all
-        that they may not call, then none."""
+        """The functions whose bodies the verdicts on the batch don't need, with the paths that they may have: in the first try all that
+        no edit changes, in the second only those that no edited function may call, and later none."""
         if not control or tries > 1:
             return {}
         asked = set().union(*(it.functions for it in batch))
@@ -392,8 +394,8 @@ class Judge:
         return {it: self.ways_to(it) for it in self.functions if it.can_be_emptied and it not in asked | inner}
 
     def marked(self, batch, right, control, tries):
-        """The functions of the batch and the right copies that a mark can be put on, each with the paths that it may have and whether
-        it seems to call itself there; none in later tries, which may end in a proof."""
+        """The functions of the batch and the right copies that can be marked, each with the paths that it may have and whether it seems
+        to call itself. There are none in later tries, because these may end in a proof."""
         changed = {it: () if edit.copied else edit.hunks for edit in batch for it in edit.functions} | dict.fromkeys(right, ())
         fits = {it: hunks for it, hunks in changed.items() if it.name and not tries}
         kept = {*self.ways_to(control)} if control else set()
@@ -401,17 +403,17 @@ class Judge:
         return {it: way for it, way in ways.items() if not kept & {*way[0]}}
 
     def ways_to(self, function):
-        """The paths of this function, as the prover spoke of it or else as it may."""
+        """The paths of this function: those by which the prover named it, or else those by which it may."""
         name = self.room.crate.name
         return function.paths(name, self.known) or function.guessed(name, self.types)
 
     def named(self, asked):
-        """The paths of these functions, as the prover spoke of them or else as it may; nothing where one has none."""
+        """The paths of all these functions, or an empty list if one of them has none."""
         found = [self.ways_to(it) for it in asked if it]
         return [path for paths in found for path in paths] if all(found) else []
 
     def checked(self, batch, right, control, tries):
-        """What the check of a batch says, with the right copies beside it, and which functions are emptied there or copies."""
+        """What the check of a batch with its right copies says, and which functions are emptied or are copies in it."""
         hunks = [*(it for edit in batch for it in edit.hunks), *(hunk for _, hunk in right.values())]
         if control:
             hunks.append(self.made.get(control) or Hunk(control.file, control.body, control.body, " let _ = 0u8;"))
@@ -426,7 +428,8 @@ class Judge:
         return said, errors, {*emptied, *copies}
 
     def try_batch(self, batch, control, tries):
-        """Checks the batch, settles what it decides, and returns the edits that are still open."""
+        """Checks the batch and settles what it decides. Returns the edits that are still open, how each came out, and whether the
+        control was proved."""
         right = self.right_copies(batch)
         said, errors, others = self.checked(batch, right, control, tries)
         name = self.room.crate.name
@@ -451,21 +454,21 @@ class Judge:
         return open_ones, ways, sound
 
     def right_copies(self, batch):
-        """A right copy, and the hunk that places it, of each function that stands in copies and has a proof of its own or is a trait's
-        method: it may not fail, lest the others fail since they are copied."""
+        """A right copy, and the hunk that places it, of each function that is edited in copies and has a proof of its own or is a
+        trait's method. If the right copy fails, the other copies may fail only because they are copies."""
         source = self.room.source
         originals = {it.original for it in batch if it.copied}
         originals = {it for it in originals if it.trait or any(it.proof_folders(source / "proofs"))}
         return {it: copied(source, it, f"{it.name}_copy") for it in originals}
 
     def fails(self, function, said, errors):
-        """Whether this function fails of its own, or the prover says nothing of it."""
+        """Whether this function fails by itself, or the prover says nothing about it."""
         path = function.path(self.room.crate.name, said)
         return not path or outcome(path, function.cycle, said, errors) in (*REFUSED, "names")
 
     def way(self, edit, said, errors, shared):
-        """How the functions that the edit changes came out, the strongest first. Of a cycle in which further edits of the batch
-        stand a function has those goals and declarations alone that are named after it."""
+        """The strongest outcome of the functions that the edit changes. If the batch has several edits of one cycle, a function of the
+        cycle has only the goals and declarations that are named after it."""
         seen = set()
         for it in edit.functions:
             for path in it.paths(self.room.crate.name, said) or [""]:
@@ -474,8 +477,8 @@ class Judge:
         return next((it for it in (*REFUSED, "names", None) if it in seen), "proved")
 
     def fallen(self, edit, said, errors, shared):
-        """The goals of the edit's functions that weren't proved, and the declarations of their proofs that were refused, but for those that
-        miss a name which the edit took away."""
+        """The goals of the edit's functions that weren't proved, and the declarations of their proofs that were refused, except for
+        those that miss a name which the edit took away."""
         lines = []
         for it in edit.functions:
             for path in it.paths(self.room.crate.name, said):
@@ -489,13 +492,13 @@ class Judge:
         return sorted({goal or declaration for line in lines for goal, declaration in NAMED.findall(line)})
 
     def tell_conditions(self):
-        """Tells which bodies fall by no goal of what their function promises, but by a condition of what it calls or a range."""
+        """Prints which bodies fall at no goal of their function's clauses, but only at a condition of a call or at a range."""
         for name, goals in sorted(self.goals.items()):
             if not any(OF_CLAUSE.search(goal) for goal in goals):
-                self.say(f"  {self.room.crate.name}/{name}: falls by no clause, but at {', '.join(goals)}")
+                self.say(f"  {self.room.crate.name}/{name}: falls at no clause, but at {', '.join(goals)}")
 
     def unowned(self, batch, others, said, errors):
-        """Tells what fails of its own with no edit in it, and is none of the others that may."""
+        """Reports each function that fails by itself although no edit changes it and it isn't one of the others that may fail."""
         name = self.room.crate.name
         changed = others.union(*(it.functions for it in batch))
         cycles = {it.cycle for it in changed} - {""}
@@ -506,10 +509,11 @@ class Judge:
             if "fn" in path.split("::") or it in changed or it and it.cycle in cycles:
                 continue
             if outcome(path, it.cycle if it else "", said, errors) in REFUSED:
-                self.bad.append(f"{name}: {path} fails of its own, and no edit is in it: {said[path][:300]}")
+                self.bad.append(f"{name}: {path} fails although no edit changes it: {said[path][:300]}")
 
     def judge(self, each, further):
-        """Judges every edit, with so many further checks for what the first ones leave open, or each edit in a check of its own."""
+        """Judges every edit: in batches, with at most `further` checks for what the first checks leave open, or each edit in a check of
+        its own."""
         todo = [([it], 2) for it in self.edits] if each else [(it, 0) for it in self.batches(self.edits, False)]
         while todo:
             batch, tries = todo.pop(0)
@@ -536,14 +540,14 @@ class Judge:
                 self.give_up(open_ones[0], ways.get(open_ones[0]))
 
     def leave(self, batch):
-        """Tells of bodies that may be let through, and that no further check is made for."""
+        """Reports bodies that may be let through and for which no further check is left."""
         for edit in batch:
             self.verdicts[edit.name] = "not judged"
-            self.bad.append(f"{self.room.crate.name}/{edit.name}: NOT JUDGED: no failure yet, and no further check is made: try it alone")
+            self.bad.append(f"{self.room.crate.name}/{edit.name}: NOT JUDGED: no failure yet, and no further check is left: try it alone")
 
     def look_at_forms(self):
-        """Takes back the verdict on each refused body that gives a function whose proof has files another form, unless a right body of
-        that form is proved."""
+        """Takes back the verdict on each refused body that gives its function another form, if the function's proof has files and no
+        right body of that form is proved."""
         source, right = self.room.source, {}
         for edit in self.edits:
             for it in edit.functions if self.verdicts.get(edit.name) in REFUSED else ():
@@ -555,11 +559,11 @@ class Judge:
                 self.verdicts[edit.name] = "not judged"
                 label = f"{function.subject}::{function.name}".removeprefix("::")
                 self.bad.append(
-                    f"{self.room.crate.name}/{edit.name}: NOT JUDGED: it gives {label} another form, in which no right body was proved"
+                    f"{self.room.crate.name}/{edit.name}: NOT JUDGED: it gives {label} another form, and no right body of that form was proved"
                 )
 
     def proved_of(self, right):
-        """Which of these right bodies are proved, or are left with nothing to prove where a mark stands beside the proof."""
+        """Which of these right bodies are proved, or have no goal left where a mark is added to the proof."""
         found, todo = set(), self.batches(sorted(right, key=lambda it: [(h.file, h.start, h.new) for h in it.hunks]), False)
         while todo:
             batch, waiting, control = self.with_control(todo.pop(0))
@@ -573,11 +577,11 @@ class Judge:
             elif path and said[path].startswith("proved"):
                 doubtful = {it for it, (made, _) in copies.items() if self.fails(made, said, errors)}
                 found |= {it.copied or it for it in batch if it.original not in doubtful and self.holds(it, said, errors)}
-            self.say(f"  {self.room.crate.name}: right bodies of the forms of others: {len(batch)}, so far {len(found)} proved")
+            self.say(f"  {self.room.crate.name}: {len(batch)} right bodies of the forms of wrong ones, {len(found)} proved so far")
         return found
 
     def broken(self, batch):
-        """The edits of the batch at whose places in the changed files the check told of errors before it reached the prover."""
+        """The edits of the batch whose new text has an error that the check found before it reached the prover."""
         found = set()
         for file, line, column in STOPPED.findall(self.room.text):
             text = (self.room.crate / file).read_text()
@@ -589,19 +593,19 @@ class Judge:
         return found
 
     def holds(self, edit, said, errors):
-        """Whether the check speaks of the functions of the edit, and of no failure of theirs."""
+        """Whether the check names the functions of the edit and none of them fails."""
         return not any(self.fails(it, said, errors) for it in edit.functions)
 
     def give_up(self, edit, way):
         name = f"{self.room.crate.name}/{edit.name}"
         self.verdicts[edit.name] = "not judged"
-        why = "its proof misses a name that the edit took away, which says nothing of the contract" if way == "names" else "no failure of its own"
+        why = "its proof misses a name that the edit took away, which says nothing about the contract" if way == "names" else "no failure of its own"
         lines = [it for it in self.room.text.split("\n") if re.match(r"(\S+: )?error|\./proofs.*error|fn .*(no proof|not proved|could not)|rattle:|rt:", it)]
         self.bad.append(f"{name}: NOT JUDGED: {why}: {' | '.join(lines[:4])[:600]}")
 
 
 class Proved:
-    """The libraries that a run of `rt ci` has proved so far, or kept from an earlier one, each copied as soon as its log says so."""
+    """The libraries that a run of `rt ci` has proved so far or kept from an earlier run. Each is copied as soon as the log names it."""
 
     def __init__(self, log, place):
         self.log, self.place, self.names, self.lost, self.is_over = Path(log), Path(place), set(), set(), False
@@ -621,7 +625,7 @@ class Proved:
             time.sleep(2)
 
     def has(self, names):
-        """Waits until these are proved; returns whether they are."""
+        """Waits until these are proved or can't be any more, and returns whether they are."""
         while not names <= self.names and not names & self.lost and not self.is_over:
             time.sleep(2)
         return names <= self.names
@@ -643,9 +647,9 @@ def judged(top, name, given, say, proved=None, nice=0):
 
 
 def report(name, given, proved, nice):
-    """Judges a crate, says what came out, and returns what isn't well."""
+    """Judges a crate, prints the result, and returns what is wrong."""
     if proved and not proved.has(below(name, needs_of(TOP))):
-        line = f"{name}: not judged: what it stands on isn't proved"
+        line = f"{name}: not judged: a crate below it isn't proved"
         print(line, flush=True)
         return [line]
     began = time.monotonic()
@@ -661,9 +665,9 @@ def report(name, given, proved, nice):
 
 
 def judge_all(given):
-    """Judges the crates, those with the most edits first; returns whether all is well.
+    """Judges the crates, those with the most edits first, and returns whether all is well.
 
-    Those with many edits take longest, and the others give way to them, so that they don't run alone in the end."""
+    Crates with many edits take longest, so the others run at a lower priority. Otherwise they would still run after all others."""
     edits = {it: len(edit_files(TOP / "crates" / it)) for it in given.crates}
     names = sorted(edits, key=lambda it: -edits[it])
     with tempfile.TemporaryDirectory(prefix="proved-") as place, ThreadPoolExecutor(given.lanes) as pool:
@@ -695,9 +699,9 @@ def apply_all():
 def main():
     words = argparse.ArgumentParser(description=__doc__, formatter_class=argparse.RawDescriptionHelpFormatter)
     words.add_argument("crates", nargs="*")
-    words.add_argument("--only", default="", help="the edits alone whose names hold this word, or one of these, parted by commas")
-    words.add_argument("--beside", metavar="LOG", default="")
-    words.add_argument("--jobs", type=int, default=2, help="how many jobs a check gets at most: one where no processor is idle")
+    words.add_argument("--only", default="", help="judge only the edits with this word in their names; commas separate several words")
+    words.add_argument("--beside", metavar="LOG", default="", help="build on what the run of rt ci with this log proves")
+    words.add_argument("--jobs", type=int, default=2, help="how many jobs a check gets at most; it gets one if no processor is idle")
     words.add_argument("--further", type=int, default=16, help="how many further checks a crate gets for what the first ones leave open")
     words.add_argument("--lanes", type=int, default=1, help="how many crates are judged at a time")
     for flag in ("apply", "each", "goals", "test"):

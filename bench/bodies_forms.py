@@ -1,7 +1,7 @@
-"""Whether a wrong body has another form than the right one, and a right body of that form, as far as one can be made.
+"""Says whether a wrong body has another form than the right one, and makes a right body of that form where it can.
 
-Goals and steps are named after the code: a branch, a loop, a `?` or another condition gives some of them other names, and what
-stands in `proofs/` for the old names isn't used. So a function whose proof has files may fail for its form alone.
+Goals and steps are named after the code. A branch, a loop, a `?` or another condition changes some of these names, and then the answers
+in `proofs/` for the old names aren't used. So a function whose proof has files may fail for its form alone.
 """
 import re
 from collections import Counter
@@ -17,22 +17,22 @@ ARGUMENTS = re.compile(r"(?<=\w)\((?:[^()]|\([^()]*\))*\)")
 LEAVES = {"return", "break", "continue"}
 LOOPS = {"for", "while", "loop"}
 HEAD = re.compile(r"(?:'\w+:\s*)?(?:if|else|while|for|loop|match|unsafe)\b")  # a statement that ends with a block
-BLOCK = re.compile(r"\b(?:if|else|while|for|loop|unsafe)\b[^{}]*$|(?:=>|=|\|)\s*$")  # what stands before the `{` of a block
+BLOCK = re.compile(r"\b(?:if|else|while|for|loop|unsafe)\b[^{}]*$|(?:=>|=|\|)\s*$")  # what comes before the `{` of a block
 ERROR = re.compile(r"->\s*Result<[^{}]*,\s*(\w+)>\s*(?:requires|ensures|where|\{)")
 TURNED = {"<": ">", ">": "<", "<=": ">=", ">=": "<=", "==": "==", "!=": "!="}
 
 
 def form(text):
-    """How often each word of control stands in the text, and the words of each condition but for arguments, after which steps are
-    named."""
+    """How often each word of control occurs in the text, and the words of each condition without arguments. Steps are named after
+    these."""
     text = blanked(text)
     conditions = [re.findall(r"\w+", ARGUMENTS.sub("", it)) for it in CONDITION.findall(text)]
     return Counter(CONTROL.findall(text)), Counter(map(tuple, conditions))
 
 
 def taken_names(crate, function, hunks):
-    """The calls that these changes add before one of the same name, where what is written of the proof cites that one. They take its
-    name, but where a `let` names them."""
+    """The calls that these changes add before a call of the same name, if the handwritten part of the proof cites that call. The added
+    calls take its name, unless a `let` names them."""
     text, proof = (crate / function.file).read_text(), function.written_proof(crate / "proofs")
     for hunk in hunks:
         old = text[hunk.start : hunk.end]
@@ -47,8 +47,8 @@ def taken_names(crate, function, hunks):
 
 
 def change_of_form(crate, function, hunks):
-    """The words of control that these changes of the function add or take away, `condition` for another condition, and `call` for a
-    call that takes the name of another one."""
+    """The words of control that these changes of the function add or remove, with `condition` for a changed condition, and `call` for a
+    call that takes the name of another call."""
     text = (crate / function.file).read_text()
     hunks = [it for it in hunks if function.holds(it)]
     was, conditions = form(text[function.body : function.end])
@@ -58,7 +58,7 @@ def change_of_form(crate, function, hunks):
 
 
 def statement(text, body, at):
-    """The bounds of the innermost statement, or arm of a `match`, of the body that begins here, around a place in it."""
+    """The bounds of the innermost statement or arm of a `match` around a place. `body` is where the function's body begins."""
     stack, i = [["block", body]], body
     while i < at:
         top, c = stack[-1], text[i]
@@ -99,7 +99,7 @@ def end_of(text, kind, low):
 
 
 def condition_of(new):
-    """The condition of the branch that a change adds, which the prover can't decide, or else one that never holds."""
+    """The condition of the branch that a change adds, if it uses no name that the change binds, or else one that never holds."""
     test = re.search(r"\bif\b(?!\s+let\b)\s*([^{}]*?)\s*\{", blanked(new))
     bound = re.findall(r"\blet\s+(?:mut\s+)?(\w+)|\b[A-Z]\w*\((\w+)\)\s*=", new)
     is_free = test and not {name for names in bound for name in names} & {*re.findall(r"\w+", test[1])}
@@ -107,7 +107,7 @@ def condition_of(new):
 
 
 def with_branch(text, old, test):
-    """The statement, as it is in both branches."""
+    """A branch with the statement in both of its parts."""
     let, end = re.match(r"let\s[^=]*=\s", old), re.search(r"\s+else\s*\{[^{}]*\};$|;$", old)
     if not let or not end:
         return f"if {test} {{ {text} }} else {{ {text} }}"
@@ -116,7 +116,7 @@ def with_branch(text, old, test):
 
 
 def with_condition(text, old):
-    """The statement with its condition, or else its value, written in other ways that mean the same."""
+    """The statement with its condition, or else its value, written in other ways with the same meaning."""
     test = re.match(r"(?:if|while)\b(?!\s+let\b)\s*([^{}]*?)\s*\{", old) or re.match(r"let\s[^=]*=\s(.*);$", old, re.S)
     start, end = test.span(1) if test else (0, len(old.rstrip(";")))
     was = text[start:end]
@@ -126,7 +126,7 @@ def with_condition(text, old):
 
 
 def place_of(whole, hunk, words):
-    """Where the change begins: behind the old text only where that is a whole statement, and a further one follows it."""
+    """Where the change begins. It is after the old text only if that is a whole statement and the change adds a statement after it."""
     old = whole[hunk.start : hunk.end].rstrip()
     common = len(commonprefix([old, hunk.new]))
     follows = old.endswith((";", "{", "}")) and words & {*LEAVES, *LOOPS, "?"}
@@ -135,9 +135,9 @@ def place_of(whole, hunk, words):
 
 
 def right_bodies(crate, function, edit):
-    """Ways to write the function, as hunks, so that it means the same and has the form that the edit gives it: what the edit has in
-    `right:` lines, or else what can be made. A way out that the edit adds at the outermost level has the rest of the body in it; one
-    that it adds elsewhere is never taken."""
+    """Ways to write the function, as hunks, with the same meaning and with the form that the edit gives it: the edit's `right:` lines,
+    or else what can be made. If the edit adds a `return`, `break` or `continue` at the outermost level, the right body returns the value
+    of the rest of the body there. Elsewhere the right body gets a branch that is never taken."""
     if edit.right:
         return [edit.right]
     whole = (crate / function.file).read_text()

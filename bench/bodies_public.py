@@ -1,13 +1,13 @@
-"""Which public functions with clauses no wrong body changes."""
+"""Finds the public functions with clauses that no wrong body changes."""
 import re
 
 from bodies_sources import blanked
 
 CLAUSE = re.compile(r"\bensures\b")
 PUBLIC = re.compile(r"\bpub\s+(?:const\s+)?(?:unsafe\s+)?(?:extern\s+)?$")
-# Crates whose clauses only say that what was written before stays. A few edits show that for all of their functions.
+# In these crates clauses only say that what was written before stays. A few edits show that for all functions.
 ONE_CLAUSE = ("typst_answers",)
-# Functions that can have no other body of their form, by crate: no other value of the type can be made there.
+# Functions that can have no other body of their form, by crate, because they can make no other value of their type.
 ONE_BODY = {
     "typst_base": ("Spanned::detached",),
     "typst_markup": ("Nest::new",),
@@ -23,7 +23,7 @@ def is_public(text, function):
 
 
 def without_body(crate, all_functions, edits):
-    """The public functions with clauses that no edit changes, but for laws, which have no code, and those of `ONE_BODY`."""
+    """The public functions with clauses that no edit changes. Laws, which have no code, and those of `ONE_BODY` don't count."""
     if crate.name in ONE_CLAUSE:
         return []
     changed = {it for edit in edits for it in edit.functions}

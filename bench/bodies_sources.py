@@ -1,4 +1,4 @@
-"""What the judge of wrong bodies reads in a crate's sources: its functions, its edits, and a guess of who calls whom."""
+"""What the judge of wrong bodies reads in a crate's sources: its functions, its edits, and a guess which function calls which."""
 import re
 from dataclasses import dataclass, replace
 from functools import cache
@@ -22,7 +22,7 @@ CYCLE = re.compile(r"#\[cycle\((\w+)\)\](?:(?!\n\s*\n|\}).)*$", re.S)
 
 @dataclass(frozen=True)
 class Function:
-    """A function of the crate, or a trait's constant, of which the prover speaks as of one; with no name, all that a type derives."""
+    """A function of the crate, or a constant of a trait, which the prover treats as a function. Without a name: all that a type derives."""
 
     file: str
     modules: tuple
@@ -36,8 +36,8 @@ class Function:
     is_own: bool = False  # a trait gives it its body
 
     def is_named(self, label):
-        """Whether an edit's `in:` line means it: `function`, `Type::function`, `Trait for Type::function`, with what the trait is given
-        or without it, or of what a type derives `Type`."""
+        """Whether an edit's `in:` line means it: `function`, `Type::function`, `Trait for Type::function` with or without the trait's
+        arguments, or `Type` for what a type derives."""
         trait, _, rest = label.rpartition(" for ")
         subject, _, name = rest.rpartition("::")
         if not self.name:
@@ -57,11 +57,11 @@ class Function:
 
     @property
     def can_be_emptied(self):
-        """Whether `unreachable!()` can stand for its body: it is no constant, no part of a cycle and no trait's own."""
+        """Whether `unreachable!()` can replace its body. It can't in a constant, in a cycle, or in a default method of a trait."""
         return bool(self.name) and not self.cycle and not self.name.isupper() and not self.is_own and "tests" not in self.modules
 
     def written_proof(self, proofs):
-        """What of its proof, or of that of its cycle, is written by hand."""
+        """The handwritten part of its proof, or of the proof of its cycle."""
         folders = [*self.proof_folders(proofs), *(proofs.glob(f"**/+{self.cycle}") if self.cycle else ())]
         return "".join(file.read_text() for folder in folders for file in folder.glob("*.antt"))
 
@@ -78,14 +78,14 @@ class Function:
             yield from (it for it in fits if it.is_dir())
 
     def paths(self, crate, known):
-        """The paths among the known ones under which the prover speaks of it. A method's begins with its type's module."""
+        """The known paths by which the prover names it. The path of a method begins with the module of its type."""
         if not self.name:
             return [it for it in known if self.derives(it.split("::")[-2])]
         path = self.path(crate, known)
         return [path] if path else []
 
     def guessed(self, crate, types):
-        """The path under which the prover may speak of it: a method's begins with its type's module, or that of a trait's impl."""
+        """The path by which the prover may name it. The path of a method begins with the module of its type, or of the impl of a trait."""
         if not self.name:
             return []
         of_trait, _, given = self.trait.partition("<")
@@ -97,7 +97,7 @@ class Function:
         return word.startswith(self.subject) and bool(DERIVED.match(word[len(self.subject) :]))
 
     def path(self, crate, known):
-        """The one such path of what has a name, or None."""
+        """The known path of a function with a name, or None."""
         if not self.subject:
             path = "::".join([crate, *self.modules, self.name])
             return path if path in known else None
@@ -128,14 +128,14 @@ class Edit:
     name: str
     hunks: tuple
     functions: frozenset  # those that it changes
-    right: tuple = ()  # hunks of a right body of the same form, if it names one
-    copied: "Edit | None" = None  # the edit that stands here in a copy of its function
+    right: tuple = ()  # hunks of a right body of the same form, if the edit gives one
+    copied: "Edit | None" = None  # the edit that this one makes in a copy of its function
     original: Function | None = None  # the function of that edit
 
 
 def copied(crate, function, name, hunks=()):
-    """The function under another name, with these changes, and the hunk that puts it right behind the original: that of a trait's
-    method behind the impl block, in one of the type's own."""
+    """The function under another name with these changes, and the hunk that puts it directly after the original. A method of a trait is
+    put after the impl block, into an impl block of the type alone."""
     text = (crate / function.file).read_text()
     start = function.start
     while not text[:start].endswith("\n") or re.search(r"[^\s{};]\n$", text[:start]):  # with its attributes
@@ -159,9 +159,9 @@ def block_of(text, function):
 
 
 def owed(crate, function):
-    """The clauses that a copy of a function owes besides those that are written at it: of `next` and `next_back`, what the impl block
-    says that a step gives, and in the place of the trait's other clause, without which the goals would have other names, nothing.
-    None of another method of a trait with no clause, whose copy would owe nothing."""
+    """The clauses that a copy of a function owes in addition to those that are written at it. For `next` and `next_back` this is what
+    the impl block says that a step gives, and an empty clause in place of the trait's other one, so that the goals keep their names.
+    None for any other method of a trait without a clause, because its copy would owe nothing."""
     text = (crate / function.file).read_text()
     if not function.trait or re.search(r"\bensures\b", blanked(text)[function.start : function.body]):
         return ""
@@ -175,7 +175,7 @@ def owed(crate, function):
 
 
 def in_copy(crate, edit, name):
-    """The edit in a copy of its function that has this name; none where a copy may not mean the same."""
+    """The edit in a copy of its function that has this name, or None if a copy may mean something else."""
     function = next(iter(edit.functions))
     is_inside = all(it.file == function.file and function.start <= it.start and it.end < function.end for it in edit.hunks)
     has_measure = any(crate.joinpath("proofs").glob(f"**/+{function.name}"))  # it calls itself
@@ -188,7 +188,7 @@ def in_copy(crate, edit, name):
 
 @cache
 def blanked(text):
-    """The text without comments, strings and characters, each other letter where it was."""
+    """The text with blanks in place of comments, strings and characters, so that all else stays where it was."""
     return HIDDEN.sub(lambda it: re.sub(r"[^\n]", " ", it[0]), text)
 
 
@@ -203,7 +203,8 @@ def closing(text, at):
 
 
 def body_of(text, at):
-    """The offset of the `{` of the body of the function whose head goes on here, after its clauses; none for a bare signature."""
+    """The offset of the `{` of a function's body, which comes after its clauses. The head of the function goes on at `at`. None for a
+    bare signature."""
     while True:
         brace, stop = text.find("{", at), STOP.search(text, at)
         if brace < 0 or stop and stop.start() < brace:
@@ -224,7 +225,7 @@ def functions(crate):
         def made(name, start, body, end, cycle):
             block = next((it for low, high, it in impls if low < start < high), None)
             trait = (block["trait"] or "") + (block["arguments"] or "") if block else ""
-            trait = "" if trait == "Drop" else trait  # the prover speaks of a `drop` as of a type's own
+            trait = "" if trait == "Drop" else trait  # the prover names a `drop` as a method of the type
             subject = block["type"] or block["own"] if block else ""
             return Function(file, modules, trait, subject, name, start, body, end, cycle, bool(block and block["own"]))
 
@@ -251,7 +252,8 @@ def types(crate):
 
 
 def pairs(text, kind="new"):
-    """The changes that an edit's lines name: file, function, old text, new text, or where that is asked for right text of its form."""
+    """The changes that an edit's lines name: file, function, old text, and new text. With the kind `right` it is the right text of the
+    same form in place of the new text."""
     found, file, inside, old = [], "", "", ""
     for line in text.split("\n"):
         word, _, rest = line.partition(":")
@@ -269,20 +271,20 @@ def pairs(text, kind="new"):
 
 
 def placed(text, hunks):
-    """The original text with these replacements, all by their offsets in it."""
+    """The text with these replacements. Their offsets are those in the original text."""
     for it in sorted(hunks, key=lambda it: -it.start):
         text = text[: it.start] + it.new + text[it.end :]
     return text
 
 
 def in_function(crate, all_functions, file, label, old, new):
-    """The hunk of a pair that names its function, or a constant or a type, in which the old text must stand once."""
+    """The hunk of a pair that names a function, a constant or a type. The old text must occur in it exactly once."""
     fits = [it for it in [*all_functions, *constants(crate)] if it.file == file and it.is_named(label)]
     if len(fits) != 1:
         raise ValueError(f"{len(fits)} functions of {file} are named {label}")
     text = (crate / file).read_text()[fits[0].start : fits[0].end]
     if text.count(old) != 1:
-        raise ValueError(f"an old line stands {text.count(old)} times in {label}, in {file}")
+        raise ValueError(f"an old line occurs {text.count(old)} times in {label}, in {file}")
     start = fits[0].start + text.index(old)
     return Hunk(file, start, start + len(old), new)
 
@@ -300,7 +302,7 @@ def hunks_of(crate, all_functions, changes):
             continue
         text = placed((crate / file).read_text(), here)
         if text.count(old) != 1:
-            raise ValueError(f"an old line stands {text.count(old)} times in {file}")
+            raise ValueError(f"an old line occurs {text.count(old)} times in {file}")
         start = text.index(old)
         end, shift = start + len(old), 0
         for it in sorted(here, key=lambda it: it.start):
@@ -320,7 +322,8 @@ def hunks_of(crate, all_functions, changes):
 
 @cache
 def constants(crate):
-    """The crate's constants, but those of its traits' impl blocks, each with its value for a body: of a type's own with the type."""
+    """The crate's constants except those in impl blocks of traits. The value counts as the body. A constant in a type's impl block comes
+    with the type."""
     found = []
     for path in sorted((crate / "src").rglob("*.rt")):
         text, file = blanked(path.read_text()), str(path.relative_to(crate))
@@ -334,7 +337,7 @@ def constants(crate):
 
 
 def names(crate, one, constant):
-    """Whether the text of a function or a constant names this constant: one of a type's own stands behind the type or `Self`."""
+    """Whether the text of a function or a constant names this constant. A constant of a type is named after the type or `Self`."""
     owner = constant.subject
     if owner and owner == one.subject.split("::")[-1]:
         owner = f"(?:{owner}|Self)"
@@ -343,7 +346,7 @@ def names(crate, one, constant):
 
 
 def touched(crate, hunk, all_functions):
-    """The functions that hold the change; of one in a plain constant those that name the constant, or another that names it."""
+    """The functions that hold the change. If it is in a plain constant, the functions that name it, directly or through other constants."""
     inside = [it for it in all_functions if it.holds(hunk)]
     plain = constants(crate)
     todo = [it for it in plain if it.file == hunk.file and it.start <= hunk.start < it.end]
@@ -363,7 +366,7 @@ def edit_files(crate):
 
 
 def look_at_place(crate, file, changes):
-    """Raises an error unless the edit of this file has changes, each names its function, and the file stands where it should."""
+    """Raises an error unless the edit has changes, each names its function, and the file is in the right folder."""
     if not changes:
         raise ValueError("it has no pair of an old and a new line")
     for source, label, _, _ in changes:
@@ -371,11 +374,11 @@ def look_at_place(crate, file, changes):
             raise ValueError(f"a pair for {source} names no function by an `in:` line")
     home = crate / "wrong-bodies" / Path(changes[0][0]).relative_to("src").with_suffix("")
     if file.parent not in (home, crate / "must-fail"):
-        raise ValueError(f"it changes {changes[0][0]} first, so it belongs into {home.relative_to(crate)}")
+        raise ValueError(f"its first change is in {changes[0][0]}, so the file belongs into {home.relative_to(crate)}")
 
 
 def edits_of(crate, all_functions, bad, only=""):
-    """The crate's edits. What cannot be placed is told in bad."""
+    """The crate's edits. Those that can't be placed are reported in `bad`."""
     found, names_seen = [], set()
     for file in edit_files(crate):
         if not any(word in file.stem for word in only.split(",")):
@@ -398,9 +401,9 @@ def edits_of(crate, all_functions, bad, only=""):
 
 
 def calls_itself(crate, function, hunks=()):
-    """Whether the function's own body, with these changes, seems to call it again: by its name, where it has a proof as of one that
-    does; else as a method on itself, its parent, a child, or a field of its own type, or by its path. A clone of what is shared
-    calls none of what is in it."""
+    """Whether the function's own body, with these changes, seems to call the function again. If it has the proof of a function that calls
+    itself, its name counts as such a call. Otherwise its path does, or a call of the method on itself, its parent, a child, or a field
+    of its own type. A clone of what is shared doesn't call the clone of what is in it."""
     whole = (crate / function.file).read_text()
     body = blanked(placed(whole[: function.end], [it for it in hunks if function.holds(it)])[function.body :])
     does = any(it.name == f"+{function.name}" for it in function.proof_folders(crate / "proofs"))
@@ -415,7 +418,8 @@ def calls_itself(crate, function, hunks=()):
 
 
 def reach(crate, all_functions):
-    """For each function those that it may reach by calls, guessed from the words of the sources: rather too many than too few."""
+    """For each function, the functions that it may reach by calls. This is guessed from the words of the sources, and rather names too
+    many than too few."""
     by_name, texts, calls = {}, {}, {}
     for it in all_functions:
         by_name.setdefault(it.name, set()).add(it)

@@ -54,7 +54,7 @@ def returns(name, depth):
 
 
 def reached(name):
-    """The depth that a call reaches, and whether it is the end of its stack."""
+    """The depth that a call reaches, and whether the stack ends there."""
     low, high = 0, 1000
     while returns(name, high):
         if high == MOST:
@@ -67,7 +67,7 @@ def reached(name):
 
 
 def calls():
-    """The calls that the program is tested on, and that of the other program."""
+    """The calls of crates/typst_deep, and the one of the script program."""
     lines = (TOP / "crates/typst_deep/stdin").read_text().splitlines()
     return [*(line.split()[0] for line in lines), "show"]
 

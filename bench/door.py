@@ -1,25 +1,24 @@
 #!/usr/bin/env python3
-"""Builds the static library, runs the programs of bindings/ over it, and compares what declares its functions.
+"""Builds the static library, runs the programs of bindings/ with it, and compares the declarations of its functions.
 
     bench/door.py [--calls N]
-    bench/door.py --beside LOG     builds over the libraries that the run of `rt ci` with this log proves: the gate runs this
-    bench/door.py --declared       compares what declares the functions alone, in a second
-    bench/door.py --speed          times calls from C beside the same work in Rattle, where that is a row of bench/speed.py
+    bench/door.py --beside LOG     builds on the libraries that the run of `rt ci` with this log proves; the gate runs this
+    bench/door.py --declared       only compares the declarations, in a second
+    bench/door.py --speed          times calls from C, next to the same work in Rattle where bench/speed.py has a row for it
 
 1. The kinds of the header and of the Rust crate must be those that bench/bindings.py writes.
 2. The exports of crates/typst_c, the functions of bindings/c/typst.h and those of bindings/rust/src/raw.rs must be the same, with
-   the same arguments: their names, their number and their widths. So must the fields of the structs that cross, and the functions
-   of the archive. Each export needs a function `typst_try_` in the header. Each status must say in C what its refusal says in
-   crates/typst_session, and be the error of the same name in Rust.
-3. The archive is built by `rt lib`, which proves what isn't kept.
-4. The example and the tests in C are compiled by gcc with all warnings, and run under the sanitizers of addresses and of undefined
-   behavior: a run with calls drawn at random, a million of them unless --calls says how many, and one that refuses each request for
-   memory in turn. The example must print what stands beside it.
-5. The tests, the lints and the documentation of the Rust crate are run by cargo, offline, and its examples must print what stands
-   beside them. One of them does what a script says: it must do what the vectors of scripts say and what the examples/ of the
-   repository say.
+   the same names, numbers and widths of arguments. So must the fields of the structs that are passed, and the functions of the
+   archive. Each export needs a function `typst_try_` in the header. The text of a status in C must be that of its refusal in
+   crates/typst_session, and its error in Rust must have the same name.
+3. `rt lib` builds the archive, and proves what isn't kept.
+4. gcc compiles the example and the tests in C with all warnings. They run under the sanitizers of addresses and of undefined
+   behavior. One test makes calls that are drawn at random: a million, or as many as --calls says. Another refuses each request for
+   memory in turn. The example must print what the file `.stdout` next to it says.
+5. cargo, offline, runs the tests, the lints and the documentation of the Rust crate. Its examples must print what the files
+   `.stdout` next to them say. One of them carries out scripts: the vectors of scripts and the scripts in examples/.
 
-It says so where gcc or cargo isn't there. The status is 1 where anything differs or fails.
+If gcc or cargo is missing, the script says so. The status is 1 if anything differs or fails.
 """
 import argparse
 import os
@@ -42,23 +41,23 @@ HEADER, RAW = C / "typst.h", RUST / "src/raw.rs"
 STRICT = ["-std=c11", "-O1", "-g", "-Wall", "-Wextra", "-Werror", "-pedantic", f"-I{C}"]
 SANITIZED = ["-fsanitize=address,undefined", "-fno-sanitize-recover=all", "-fno-omit-frame-pointer"]
 REFUSALS = TOP / "crates/typst_session/src/refusal.rt"
-# The statuses that no refusal has: that a call was done, and that nothing is held.
+# The statuses that are no refusals: the call was done, and the session holds nothing.
 OWN_STATUSES = {"0", "1"}
 POINTER = "pointer"
 # The widths of types: in bits, or a pointer.
 WIDTHS = {"u8": 8, "u16": 16, "u32": 32, "u64": 64, "usize": 64, "uint8_t": 8, "uint16_t": 16, "uint32_t": 32, "uint64_t": 64,
           "size_t": 64, "typst_status": 32}
-# The structs that cross, by their names in C, and where each stands in Rattle and in Rust.
+# The structs that are passed, by their names in C, and their names in Rattle and in Rust.
 STRUCTS = {"typst_session": None, "typst_node_info": "NodeInfo", "typst_place": "Place", "typst_length": "Length",
            "typst_range": "ByteRange", "typst_line_column": "LineColumn",
            "typst_diagnostic": "Diagnostic", "typst_diagnostic_sizes": "DiagnosticSizes",
            "typst_kind_info": "KindClasses", "typst_window": "Window", "typst_edited": "Edited"}
-# The rows of speed.c that have the work of a row of bench/speed.py: its operation, and how many steps its round has.
+# The rows of speed.c that do the same work as a row of bench/speed.py, with its operation and the number of steps of a round.
 BESIDE = {"all nodes by typst_preorder, a node": speed.over("", "preorder", "document", speed.HUNDRED_THOUSAND, 5),
           "a node by its number": speed.Row("", f"find document {speed.HUNDRED_THOUSAND} 50000"),
           "a leaf by one as long": speed.Row("", f"replace document {speed.HUNDRED_THOUSAND} 20000"),
           "a letter in a text of 1,000 lines": speed.Row("", "letter 1000 1000", 2)}
-# The handle of an export is the session of a caller.
+# What an export calls a handle, a caller calls a session.
 HANDLE = ("session", POINTER)
 
 
@@ -98,8 +97,8 @@ def declared(text):
     found = re.findall(r"^(typst_status|void) (\w+)\(([^)]*)\);", text, re.M)
 
     def arguments(list_of):
-        parted = (re.match(r"(?:const )?(\w+) (\*?)(\w+)$", " ".join(one.split())) for one in list_of.split(","))
-        return [(it[3], width(it[1] + it[2])) for it in parted]
+        arguments = (re.match(r"(?:const )?(\w+) (\*?)(\w+)$", " ".join(one.split())) for one in list_of.split(","))
+        return [(it[3], width(it[1] + it[2])) for it in arguments]
 
     return {name: (arguments(list_of), width({"void": "()"}.get(result, result))) for result, name, list_of in found}
 
@@ -114,7 +113,7 @@ def rust_declared(text):
 
 
 def without_free_names(wanted, told):
-    """The told arguments, without the names of numbers that have none in the export."""
+    """The declared arguments, without the names of numbers that have no name in the export."""
     arguments = [(None if wants[0] is None else has[0], has[1]) for wants, has in zip(wanted[0], told[0])]
     return arguments + told[0][len(wanted[0]):], told[1]
 
@@ -124,7 +123,7 @@ def compare(where, wanted, told):
     differ += [f"{where} has {name}, which is no export" for name in told if name not in wanted]
     for name in wanted:
         if name in told and without_free_names(wanted[name], told[name]) != wanted[name]:
-            differ.append(f"{where}: {name} is {told[name]}, and the export {wanted[name]}")
+            differ.append(f"{where}: {name} is {told[name]}, but the export is {wanted[name]}")
     return differ
 
 
@@ -149,14 +148,14 @@ def struct_differences(header, raw):
 
 
 def status_differences(header):
-    """A status must say in C what its refusal says, and be the error of the same name in Rust."""
+    """What differs between the texts of statuses in C and those of refusals, and between the names of errors in Rust and of refusals."""
     code_of = dict(re.findall(r"Refusal::(\w+) => (\d+),", REFUSALS.read_text()))
     said = {code_of[name]: text for text, name in re.findall(r'#\[error\("(.*)"\)\]\n    (\w+),', REFUSALS.read_text())}
     number_of = dict(re.findall(r"\b(TYPST_\w+) = (\d+)", header[: header.index("typedef struct typst_node_info")]))
     texts = {number_of[name]: text for name, text in re.findall(r'case (\w+): return "(.*)";', header)}
     told = {number: text for number, text in texts.items() if number not in OWN_STATUSES | {number_of["TYPST_NULL"]}}
     errors = re.findall(r"(\d+) => Error::(\w+)", (RUST / "src/error.rs").read_text())
-    return ([f"the statuses of C say {told}, and the refusals {said}"] if told != said else []) + [
+    return ([f"the statuses of C say {told}, but the refusals say {said}"] if told != said else []) + [
         f"status {number} is {name} in Rust" for number, name in errors if code_of.get(name) != number]
 
 
@@ -178,7 +177,7 @@ def compare_archive(archive, wanted):
     said = subprocess.run(["nm", "-g", "--defined-only", archive], capture_output=True, text=True, check=True).stdout
     there = set(re.findall(r" T (typst_\w+)$", said, re.M))
     if there != set(wanted):
-        raise Differs(f"the archive has {sorted(there ^ set(wanted))} or lacks them")
+        raise Differs(f"the archive lacks these, or has them although they are no exports: {sorted(there ^ set(wanted))}")
 
 
 def run(command, **more):
@@ -189,12 +188,12 @@ def run(command, **more):
 
 
 def crate_over_proved(log, place):
-    """A copy of the crate of the exports, over the libraries that the run of `rt ci` with this log proves."""
+    """A copy of the crate of the exports, on top of the libraries that the run of `rt ci` with this log proves."""
     proved_at = place / "proved"
     proved_at.mkdir()
     proved = Proved(log, proved_at)
     if not proved.has(below(EXPORTS.name, needs_of(TOP))):
-        raise Differs(f"what {EXPORTS.name} stands on isn't proved")
+        raise Differs(f"a crate below {EXPORTS.name} isn't proved")
     crate = Room(TOP, EXPORTS.name, place / "room", 1, proved).crate
     for part in ("specs", "proofs"):
         shutil.copytree(EXPORTS / part, crate / part)
@@ -237,7 +236,7 @@ def time_calls(folder, archive, turns):
 
 
 def run_scripts(program):
-    """Does each script of the vectors and of the examples, and compares what is printed, what is told and the status."""
+    """Carries out each script of the vectors and of the examples, and compares standard output, standard error and the status."""
     count = 0
     for script in (it for folder in SCRIPTS for it in sorted(folder.glob("*.script"))):
         ran = subprocess.run([program], input=script.read_bytes(), capture_output=True, check=False)
@@ -245,11 +244,11 @@ def run_scripts(program):
         read = {it: file.read_bytes() if file.is_file() else b"" for it, file in beside.items()}
         wanted = (read["stdout"], read["stderr"], int(read["status"] or 0))
         if (ran.stdout, ran.stderr, ran.returncode) != wanted:
-            raise Differs(f"{script.name} gives {ran} by way of the Rust crate, and should give {wanted}")
+            raise Differs(f"{script.name} gives {ran} through the Rust crate, and should give {wanted}")
         count += 1
     if not count:
         raise Differs("there are no scripts")
-    print(f"{count} scripts done by way of the Rust crate")
+    print(f"{count} scripts carried out through the Rust crate")
 
 
 def crate_in_rust(folder, archive):
@@ -267,7 +266,7 @@ def crate_in_rust(folder, archive):
     run(["cargo", "doc", "--offline", "--quiet", "--no-deps"], **more)
     for lint in ["clippy", "fmt"]:
         if subprocess.run(["cargo", lint, "--version"], capture_output=True, check=False).returncode:
-            print(f"cargo {lint} isn't there, so the Rust crate isn't judged by it")
+            print(f"there is no cargo {lint} here, so it didn't check the Rust crate")
         else:
             run(["cargo", lint, *({"clippy": ["--offline", "--quiet", "--all-targets"], "fmt": ["--check"]}[lint])], **more)
 
@@ -275,15 +274,15 @@ def crate_in_rust(folder, archive):
 def main():
     parser = argparse.ArgumentParser(description=__doc__, formatter_class=argparse.RawDescriptionHelpFormatter)
     parser.add_argument("--calls", type=int, default=1_000_000, help="how many calls are drawn at random")
-    parser.add_argument("--beside", metavar="LOG", help="build over what a run of rt ci proves")
+    parser.add_argument("--beside", metavar="LOG", help="build on what the run of rt ci with this log proves")
     parser.add_argument("--speed", action="store_true", help="time calls from C, and run nothing else")
-    parser.add_argument("--declared", action="store_true", help="compare what declares the functions, and build nothing")
+    parser.add_argument("--declared", action="store_true", help="compare the declarations, and build nothing")
     asked = parser.parse_args()
     try:
         run([TOP / "bench/bindings.py", "--check"])
         wanted = compare_declarations()
         if asked.declared:
-            print(f"{len(wanted)} exports, declared in C and in Rust as they are")
+            print(f"{len(wanted)} exports, with the same declarations in C and in Rust")
             return
         with tempfile.TemporaryDirectory() as name:
             folder = Path(name)
@@ -295,17 +294,17 @@ def main():
                 time_calls(folder, archive, speed.TURNS)
                 return
             if not shutil.which("gcc"):
-                print("gcc isn't there, so no program in C or Rust was run over the library")
+                print("there is no gcc here, so no program in C or Rust ran with the library")
             else:
                 programs_in_c(folder, archive, asked.calls)
                 if shutil.which("cargo"):
                     crate_in_rust(folder, archive)
                 else:
-                    print("cargo isn't there, so the Rust crate wasn't tested")
+                    print("there is no cargo here, so the Rust crate wasn't tested")
     except Differs as differs:
         print(differs)
         sys.exit(1)
-    print(f"{len(wanted)} exports, declared in C and in Rust as they are")
+    print(f"{len(wanted)} exports, with the same declarations in C and in Rust")
 
 
 main()

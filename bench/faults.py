@@ -74,12 +74,12 @@ LONG = "".join(
         "run\nshow\n",
     ]
 ).encode()
-# What the buffers hold, and what parts the other places of a long script that are tried.
+# The size of the buffers, and the distance between the places that are tried elsewhere in a long script.
 BUFFER, STEP = 8192, 191
 
 
 def places(text):
-    """The numbers of bytes after which a fault comes: all of a short text, some of a long one."""
+    """The numbers of bytes after which a read or a write fails: all in a short text, some in a long one."""
     if len(text) < BUFFER:
         return range(len(text))
     near = {at + it for at in range(0, len(text), BUFFER) for it in (-1, 0, 1)}
@@ -103,7 +103,7 @@ def after_reading(script, count):
 
 
 def after_writing(script, count):
-    """A run whose output takes so many bytes and then fails, and what it took."""
+    """A run whose output takes this many bytes and then fails, and the bytes that it took."""
     with tempfile.TemporaryFile() as lines, tempfile.TemporaryFile() as taken:
         lines.write(script)
         lines.seek(0)
@@ -118,7 +118,7 @@ def after_writing(script, count):
 
 
 def byte_by_byte(script):
-    """A run whose reads give a byte each."""
+    """A run in which each read gives one byte."""
     ours, theirs = socket.socketpair(socket.AF_UNIX, socket.SOCK_SEQPACKET)
 
     def feed():
@@ -133,14 +133,14 @@ def byte_by_byte(script):
 
 
 def told(name, ran, fault):
-    """What is wrong with how a run ended that should end with this fault."""
+    """What is wrong with the end of a run that should end with this fault."""
     if ran.returncode == 1 and ran.stderr == f"{fault}\n".encode():
         return []
     return [f"{name}: status {ran.returncode}, {ran.stderr!r}"]
 
 
 def swept(script, answer):
-    """What is wrong with the runs of a script whose whole answer is this."""
+    """What is wrong with the runs of a script, whose whole answer is given."""
     wrong, count = [], 0
     ran = byte_by_byte(script)
     if ran.returncode or ran.stdout != answer:
@@ -162,7 +162,7 @@ def swept(script, answer):
 
 
 def spoiled():
-    """What is wrong with runs whose input or output is none at all."""
+    """What is wrong with runs whose input or output can't be used at all."""
     wrong = []
     with tempfile.TemporaryDirectory() as room:
         script = Path(room, "script")

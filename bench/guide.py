@@ -44,7 +44,7 @@ def after(part, lines, start):
 
 
 def stands_in(piece, lines):
-    """Whether the parts of a piece, which its lines `..` divide, stand in these lines in their order."""
+    """Whether these lines have the parts of a piece in order. The lines `..` of the piece divide it into parts."""
     end = 0
     for part in re.split(r"^\s*\.\.$\n?", piece, flags=re.M):
         end = after(lines_of(part), lines, end)
@@ -134,10 +134,10 @@ def main():
             told[str(file.relative_to(TOP))] = (pieces, strange)
     for name, (_, strange) in told.items():
         for piece in strange:
-            print(f"{name}: taken from no program, no test and no example:\n{piece}")
+            print(f"{name}: this is in no program, no test and no example:\n{piece}")
     count, lost = (sum(len(it[part]) for it in told.values()) for part in (0, 1))
     is_well = not lost and all(told[name][0] for name in PAGES)
-    print(f"{count} examples in {len(told)} pages and sources, {lost} of them taken from nowhere")
+    print(f"{count} examples in {len(told)} pages and sources, {lost} of them found nowhere else")
     return 0 if is_well else 1
 
 

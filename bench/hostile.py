@@ -53,7 +53,7 @@ def written(errors):
 
 
 def run(asked):
-    """How the calls end that are asked for, by name and requests: each in a run of its own, in one build."""
+    """How these calls end, by name and number of requests. Each has a run of its own, and all use one build."""
     with tempfile.TemporaryDirectory() as room:
         for index, (name, requests) in enumerate(asked):
             Path(room, f"{index:05}").write_text(f"{name} {requests}\n")
@@ -106,7 +106,7 @@ def main():
     wrong = [] if found else [f"{it}: only in {TABLE} or only in {CRATE}/stdin" for it in sorted(set(names) ^ set(told))]
     asked = [name for name in names if found or name in told]
     first = spare_requests(asked)
-    wrong += [f"{it}: with ample memory it isn't made, since what it needs can't be built" for it in asked if it not in first]
+    wrong += [f"{it}: with ample memory the call isn't made, because what it needs can't be built" for it in asked if it not in first]
     passes = {name: MOST if found else sum(told[name].values()) + PAST for name in first}
     ends = ends_of(first, passes)
     count = 0

@@ -156,7 +156,7 @@ def tables(table):
 def tables_of_kinds(table):
     kinds = table.kinds
     by_mode = {letter: [f"SyntaxKind::{kind.name}" for kind in kinds if kind.mode == letter] for letter in MODES}
-    # A name and the sign behind it stay in one line.
+    # A name and the sign after it stay in one line.
     listed = filled([f"{kind.spec()}~∷" for kind in kinds] + ["[]"], 116).replace("~", " ")
     return {
         "variants": lines(kinds, lambda kind: f"    /// {kind.doc}\n    {kind.name},"),

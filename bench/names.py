@@ -60,7 +60,7 @@ def specs(crate):
 
 @cache
 def callables(crate):
-    """The crate's functions, each by what may stand before its name, and its name, with the names of its clauses."""
+    """The crate's functions with the names of their clauses. Each is named by what may come before its name, and by its name."""
     found = []
     for it in functions(TOP / "crates" / crate):
         text = blanked((TOP / "crates" / crate / it.file).read_text())
@@ -71,14 +71,14 @@ def callables(crate):
 
 
 def named(name, crates):
-    """The functions of some crates that a name means."""
+    """The functions of these crates that a name means."""
     near, _, name = name.rpartition("::")
     near = near.split("::")[-1]
     return [it for crate in crates for it in callables(crate) if it[1] == name and (not near or near in it[0])]
 
 
 def stands(name):
-    """Whether a name in code is that of something in the repository."""
+    """Whether a name in code names something in the repository."""
     if " " in name or not re.search(r"[A-Za-z]", name):  # an expression
         return True
     if "/" in name or name.endswith((".py", ".md", ".script")):
@@ -94,7 +94,7 @@ def stands(name):
 
 
 def paragraphs(text):
-    """The parts of a text that stand for themselves: a paragraph, an item of a list, a row of a table."""
+    """The parts of a text that are read by themselves: a paragraph, an item of a list, a row of a table."""
     part = []
     for line in [*text.splitlines(), ""]:
         if part and (not line.strip() or re.match(r"\s*- |\|", line)):
@@ -255,7 +255,7 @@ def vocabulary():
 
 
 def is_known(name):
-    """Whether a name in code of any page is that of something that is there."""
+    """Whether a name in code in any page names something that exists."""
     if name in OUTSIDE or " " in name and not name.startswith(("./", "bench/")) or PLACEHOLDER.search(name):
         return True
     if name.startswith(("./", "bench/")):

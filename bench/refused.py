@@ -45,7 +45,7 @@ static void __attribute__((destructor)) tell(void) {
     write(atoi(file), digits + at, 24 - at);
 }
 """
-# The words, and what stands in the files.
+# The words, and the contents of the files.
 RUNS = [
     ["text.typ"],
     ["text.typ", "--views"],

@@ -1,5 +1,5 @@
 #!/usr/bin/env python3
-"""Runs the program behind ./show, and compares what it prints with what it must print.
+"""Runs the program of ./show, and compares what it prints with what it must print.
 
     bench/show.py [--program FILE]
 
@@ -28,7 +28,7 @@ TOP = Path(__file__).resolve().parent.parent
 PAIRS = TOP / "crates/typst_agreement/data"
 PROGRAM = TOP / "crates/typst_show/out/typst_show"
 NEW_LINE = "\n"
-# How many paragraphs are put in at one place: the fifteenth finds its first window too narrow.
+# How many paragraphs are inserted at one place. For the fifteenth the first window is too narrow.
 TYPED = 16
 # A text of 13 bytes and 3 lines: `ä` takes two.
 TEXT = "= A\n\nHäuser"
@@ -38,11 +38,11 @@ BOUND = "which are the most that are shown"
 ENDS = "this ends with no tree: put `root` after the line that makes its last node"
 TOO_DEEP = f"the nodes nest in more than 1000 levels here, {BOUND}"
 NO_REMARK = "the newest node doesn't take this: only an error or a warning takes a hint, and a part A..B ends within the text and isn't empty"
-# A chain of 601 nodes, and a replacement that puts one below the leaf's parent in another.
+# A chain of 601 nodes, and a replacement that puts it into another chain, below the parent of that chain's leaf.
 CHAIN = "leaf 6 a\n" + "inner 5 1\n" * 600
 DOWN = "replace " + ".".join(["0"] * 599) + " 0 1 1\n"
 
-# What is wrong, the words, the files that are there, standard error, and the status. A file of text.typ is always there.
+# What is wrong, the words, the files, the wanted standard error, and the wanted status. The file text.typ is always there.
 WRONG = [
     ("no such file", ["none.typ"], {}, "none.typ: there is no such file", 1),
     ("a folder", ["folder"], {}, "folder: this is a folder, and a file is needed", 1),
@@ -51,7 +51,7 @@ WRONG = [
     ("a large text", ["a.typ"], {"a.typ": MOST_BYTES + 1}, f"a.typ: this has more than {MOST_BYTES} bytes, {BOUND}", 1),
     ("no edits", ["text.typ", "--edits", "none"], {}, "none: there is no such file", 1),
     ("twice standard input", ["-", "--edits", "-"], {}, "only one of the text and its edits can be standard input: name a file for the other", 2),
-    ("an edit behind the text", "1..99 \"\"", {}, "e:1: the edit ends at byte 99, and the text has only 12 bytes", 2),
+    ("an edit past the text", "1..99 \"\"", {}, "e:1: the edit ends at byte 99, and the text has only 12 bytes", 2),
     ("an edit within a character", "7..12 \"\"", {}, "e:1: the edit starts at byte 7, which is within the character of the bytes 6..8", 2),
     ("an edit backwards", "5..3 \"\"", {}, "e:1: the edit ends at byte 3, before it starts, at byte 5", 2),
     ("no such line", "\n9:1..9:1 \"\"", {}, "e:2: the edit starts in line 9, and the text has only 3 lines", 2),
@@ -65,7 +65,7 @@ WRONG = [
     ("no closing quote", "1..2 \"ab", {}, "e:1:9: expected a closing quote" + FORMS, 2),
     ("an unknown escape", "1..2 \"\\x\"", {}, "e:1:8: expected one of the escapes n, r, t, 0, \\, \", ' and u{..}" + FORMS, 2),
     ("no character", "1..2 \"\\u{d800}\"", {}, "e:1:9: expected the hexadecimal digits of a character in braces" + FORMS, 2),
-    ("more behind the quotes", "1..2 \"\" ", {}, "e:1:8: expected the end of the line" + FORMS, 2),
+    ("more after the quotes", "1..2 \"\" ", {}, "e:1:8: expected the end of the line" + FORMS, 2),
     ("a number too large", "99999999999999999999..1 \"\"", {}, "e:1:1: expected a byte, or a line and a column" + FORMS, 2),
     ("a page into a folder", ["text.typ", "--page", "folder"], {}, "folder: this is a folder, and a file is needed", 1),
     ("no FILE", [], {}, re.compile(r"error: the following required arguments were not provided:\n  <FILE>\n"), 2),
@@ -101,7 +101,7 @@ def run(program, words, room, given=b""):
 
 
 def fill(room, files):
-    """Writes the files: bytes, text, or so many bytes of a file that takes no room."""
+    """Writes the files. A file's contents are bytes or a text, or a number of bytes for a sparse file."""
     for name, what in files.items():
         path = Path(room, name)
         if isinstance(what, int):
@@ -112,7 +112,7 @@ def fill(room, files):
 
 
 def told_wrong(program, what, words, files, message, status):
-    """What differs where an input is wrong. Words that are a text are the edits of text.typ."""
+    """What differs for a wrong input. If the words are one text, that text is the edits of text.typ."""
     if isinstance(words, str):
         words, files = ["text.typ", "--edits", "e"], {"e": words}
     with tempfile.TemporaryDirectory() as room:
@@ -122,7 +122,7 @@ def told_wrong(program, what, words, files, message, status):
     said = ran.stderr.decode()
     is_said = said == message + "\n" if isinstance(message, str) else message.match(said)
     wrong = [] if is_said else [f"{what}: standard error is {said!r}, and should be {message!r}"]
-    # The tree of the text stands before an edit that doesn't fit it.
+    # Before an edit that doesn't fit, the tree of the text is printed.
     is_edit = "--edits" in words and isinstance(message, str) and ": the edit " in message
     if ran.stdout and not is_edit:
         wrong.append(f"{what}: it prints {ran.stdout[:80]!r}")
@@ -136,7 +136,7 @@ def tree_beside(text):
 
 
 def differing_pairs(program):
-    """What differs where texts are shown, plainly and not."""
+    """What differs between trees of texts, with --plain and without."""
     wrong = []
     for text in sorted(PAIRS.glob("*.typ")):
         plain = text.with_suffix(".tree").read_bytes()
@@ -155,7 +155,7 @@ def differing_pairs(program):
 
 
 def differing_edits(program):
-    """What differs where each text becomes the next one by an edit."""
+    """What differs if an edit turns each text into the next one."""
     wrong = []
     texts = sorted(PAIRS.glob("*.typ"))
     for text, other in zip(texts, texts[1:] + texts[:1]):
@@ -170,7 +170,7 @@ def differing_edits(program):
 
 
 def differing_views(program):
-    """What differs where the trees of looks are shown with what their views answer, and how many there are."""
+    """What differs between the trees of looks with the answers of their views, and how many trees there are."""
     wrong, count = [], 0
     form_of, kind_of = shown.forms(), shown.kinds()
     with tempfile.TemporaryDirectory() as room:
@@ -218,20 +218,20 @@ def differing_pages(program):
 
 
 def typed():
-    """Paragraphs that come in at one place, one by one, until a window is too narrow: each tree with what made it."""
+    """Paragraphs that are inserted at one place, one by one, until a window is too narrow: each tree with the windows of its edit."""
     paragraph = '  Text "a"\n  Parbreak "\\n\\n"\n'
     tree, steps = shown.numbered(shown.tree_of("Markup\n" + 2 * paragraph)), []
     for count in range(TYPED):
         new = shown.tree_of("Markup\n" + (3 + count) * paragraph)
         new.place()
-        # The block before the place is parsed anew, up to the end of the block that comes in.
+        # The block before the place is parsed anew, up to the end of the inserted block.
         steps.append((new, shown.edited(tree, new, range(2), range(4))))
         tree = new
     return steps
 
 
 def differing_typing(program):
-    """What differs where a window has no room, so that several are tried."""
+    """What differs if a window has no room, so that several are tried."""
     steps = typed()
     edit = '3..3 "a\\n\\n"'
     titles = [shown.told_of(edit, new, range(6), windows, at + 1) for at, (new, windows) in enumerate(steps)]
@@ -268,7 +268,8 @@ def escaped(program):
     return wrong
 
 
-# The trees of examples/letter.typ, before its edit and after, and of the program's own run: by the rules of docs/MARKUP.md, by hand.
+# The trees of examples/letter.typ before its edit and after it, and of the program's own run. They were worked out by hand, by the rules
+# of docs/MARKUP.md.
 BEFORE = """\
 Markup
   Heading
@@ -305,7 +306,7 @@ Markup
       Space " "
       Error "`raw\\n": unclosed raw text
 """
-# The block that the edit of the letter is in, behind the paragraph break.
+# The block that the edit of the letter is in, after the paragraph break.
 PARSED = range(9, 26)
 # Remarks, and what is printed of them below the tree.
 REMARKS = "leaf 6 a\tb\nwarnat 1 2 odd\nhint write less\nerror wrong\t日本\nhintat 0 3 here\nhint there\ninner 5 2\nroot\n"
@@ -328,14 +329,14 @@ warning: odd
 
 
 def letter_of(edit):
-    """What the example prints, where its edit is written like this."""
+    """What the example prints if its edit is written like this."""
     old, new = shown.numbered(shown.tree_of(LETTER)), shown.numbered(shown.tree_of(CLOSED))
     first = shown.printed(old, "examples/letter.typ")
     return first + shown.printed_edit(edit, old, new, PARSED, "examples/letter.typ")
 
 
 def examples(program):
-    """What differs at the example, where its edit is written in bytes, at the program's own run, and at remarks."""
+    """What differs in the example, in the example with its edit written in bytes, in the program's own run, and in remarks."""
     by_column, in_bytes = letter_of('3:15..3:15 "*"'), letter_of('23..23 "*"')
     own = shown.printed(shown.numbered(shown.tree_of(OWN)), "-")
     remarked = shown.numbered(shown.built(REMARKS.split("\n"), shown.kinds()))

@@ -4,7 +4,7 @@ from html.parser import HTMLParser
 
 import shown
 
-# How many characters of a node's text stand beside it, and how many children are drawn beside a window and in all.
+# How many characters of a node's text are shown next to it, how many children are drawn beside a window, and how many in all.
 NODE_CHARS, BESIDE, MOST = 48, 2, 60
 # The width of a child's place in the drawing of numbers, and where the first one begins.
 WIDTH, LEFT = 130, 10
@@ -70,7 +70,7 @@ class Page(HTMLParser):
 
 
 def signed(text):
-    """A text with the signs that stand for its control characters."""
+    """A text with visible signs in place of its control characters."""
 
     def sign(char):
         code = ord(char)

@@ -11,7 +11,7 @@ TOP = Path(__file__).resolve().parent.parent
 NUMBERS = (2, 1 << 47)
 # How many characters of an inner node's text are shown, and of a text and how many entries of a list in an answer.
 INNER_CHARS, ANSWER_CHARS, ANSWER_ENTRIES = 32, 60, 8
-# How many characters of a line stand before a part, in it and behind it.
+# How many characters of a line are shown before a part, in it and after it.
 BEFORE, WITHIN, BEHIND = 60, 60, 40
 CHARACTER = re.compile(r"\\u\{([0-9a-f]+)\}|\\(.)|(.)", re.S)
 ESCAPES = {"n": "\n", "r": "\r", "t": "\t", "0": "\0"}
@@ -53,7 +53,7 @@ class Node:
             yield from child.preorder((*path, index))
 
     def is_like(self, other):
-        """Whether both are the same but for their numbers."""
+        """Whether both are the same apart from their numbers."""
         if (self.kind, self.own, self.message) != (other.kind, other.own, other.message):
             return False
         return are_alike(self.children, other.children)
@@ -85,12 +85,12 @@ def is_printed(char):
 
 
 def tree_of(lines):
-    """The tree that lines of kinds and texts tell, two blanks a level."""
+    """The tree that lines of kinds and texts describe, two blanks a level."""
     above = []
     for line in lines.splitlines():
         depth = (len(line) - len(line.lstrip(" "))) // 2
         kind, _, rest = line.strip(" ").partition(" ")
-        # An error's text is in quotes, with its message behind them.
+        # An error's text is in quotes, and its message comes after them.
         quoted = re.match(r'"((?:\\.|[^"\\])*)"(?:: (.*))?$', rest, re.S)
         node = Node(kind, unquoted(quoted[1]), message=quoted[2]) if quoted else Node(kind, children=[])
         del above[depth:]
@@ -101,7 +101,7 @@ def tree_of(lines):
 
 
 def spread(node, low, high):
-    """Numbers a tree within a range. False where there are fewer numbers than nodes."""
+    """Numbers a tree within a range. False if there are fewer numbers than nodes."""
     if node.children is None:
         node.number, node.upper = (low + high) // 2, (low + high) // 2 + 1
         return low < high
@@ -123,8 +123,8 @@ def spread_all(nodes, start, stride):
 
 
 def edited(old, new, old_parsed, new_parsed):
-    """Numbers the new tree after an edit of the old one, whose children with these indices gave way to the new one's with those.
-    Answers the windows that were tried, the last of which had room."""
+    """Numbers the new tree after an edit of the old one: its children `new_parsed` replace the old tree's children `old_parsed`.
+    Returns the windows that were tried. The last of them had room."""
     first, last = old_parsed.start, 0
     while first < min(old_parsed.stop, new_parsed.stop) and old.children[first].is_like(new.children[first]):
         first += 1

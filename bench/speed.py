@@ -1,21 +1,28 @@
 #!/usr/bin/env python3
-"""Times the library's operations, alone or by turns with another build, and prints the tables of docs/PERFORMANCE.md. A row has the
-time of a step: the least of its turns, their median, and by how many percent the slowest lies above the fastest.
+"""Times the library's operations, alone or in turns with another build, and prints the tables of docs/PERFORMANCE.md. A row has the
+time of a step: the least of its turns, their median, and by how many percent the slowest turn is above the fastest.
 
-    bench/speed.py                      times the proved build of crates/typst_bench, which it makes where it isn't there
-    bench/speed.py OTHER                by turns with another program, as an older commit's crates/typst_bench/out/typst_bench
-    bench/speed.py --only WORD          the rows whose operation has this word; several may be asked for
-    bench/speed.py --turns N            so many turns, in place of 7
-    bench/speed.py --document           puts what it prints into docs/PERFORMANCE.md, behind the heading of the figures
+    bench/speed.py                      times the proved build of crates/typst_bench, and makes it if it isn't there
+    bench/speed.py OTHER                takes turns with another program, such as an older commit's crates/typst_bench/out/typst_bench
+    bench/speed.py --only WORD          times the rows whose operation has this word; the option may be repeated
+    bench/speed.py --turns N            takes N turns instead of 7
+    bench/speed.py --document           also writes what it prints into docs/PERFORMANCE.md, after the heading of the figures
     bench/speed.py --check              times nothing, and compares crates/typst_bench/stdout with what is worked out here
     bench/speed.py --wanted             writes that file
 
-The other program has to read the same lines and print the same ones: it is given `time` as argument and `OPERATION SIZE ROUNDS` on
-standard input, and prints that line again with a check sum and the nanoseconds of processor time that all rounds took. A row that it
-has no operation for stays empty: it ends with another status then.
+The other program must read and print the same lines. It gets the argument `time` and a line `OPERATION SIZE ROUNDS` on standard input.
+It prints that line again with a check sum and the nanoseconds of processor time that all rounds took. If it doesn't have the operation,
+it ends with another status, and its part of the row stays empty.
 
-Each turn of a row is a process of its own, first of this build, then of the other one. A check sum is compared with one that is worked
-out here, from what the tree or the text of the row is, and not by the program.
+Each turn of a row is a process of its own, first of this build, then of the other one. The script compares each check sum with one that
+it works out itself, from what the tree or the text of the row is.
+
+What an operation needs is built, copied or parsed before, in memory that the process hasn't had before, and isn't timed. malloc is told
+to keep what is given back, so that later rounds take that memory.
+
+A document has paragraphs `some words *bold*.`, fifty in a section. Leaves are `ab`. Places are spread over the tree, and are the same in
+each run. A text has paragraphs of a heading, a line with strong and emphasized words, an item with raw text, and an empty line. Its
+edits are made in the middle and taken back. A replacement includes making the new leaf and testing that its path and range fit.
 """
 import argparse
 import os
@@ -33,21 +40,21 @@ CRATE = TOP / "crates/typst_bench"
 PROGRAM = CRATE / "out/typst_bench"
 TURNS = 7
 DOCUMENT, FIGURES = TOP / "docs/PERFORMANCE.md", "\n## The figures\n"
-# So malloc keeps what a program gives back, and rounds after the first take memory that the process has had before.
+# With these malloc keeps what a program gives back, so rounds after the first take memory that the process has had before.
 KEEPING = {"MALLOC_MMAP_THRESHOLD_": str(1 << 32), "MALLOC_TRIM_THRESHOLD_": str(1 << 34)}
 # A document of paragraphs `some words *bold*.` with two line ends, fifty in a section: where the nodes of a paragraph begin.
 PARAGRAPH, PARAGRAPHS = 20, 50
 INNER, LEAF, TRIVIA = range(3)
 PARTS = [(0, INNER), (0, LEAF), (4, TRIVIA), (5, LEAF), (10, TRIVIA), (11, INNER)]
 PARTS += [(11, LEAF), (12, INNER), (12, LEAF), (16, LEAF), (17, LEAF), (18, TRIVIA)]
-# Its leaves that a walk from leaf to leaf comes to, which passes blanks and line ends.
+# How many of its leaves a walk from leaf to leaf visits. The walk passes over blanks and line ends.
 SOLID = sum(sort == LEAF for _, sort in PARTS)
 # A text of paragraphs of four lines.
 LINES = "= A heading\nSome *strong* words, _emphasis_ and a line.\n- an item with `raw text`\n\n"
 
 
 def place(turn, size):
-    """Where the program goes in this turn, of so many places."""
+    """Which of `size` places the program takes in this turn."""
     return ((turn * 0x9E3779B97F4A7C15) % 2**64 >> 32) % size
 
 
@@ -67,7 +74,7 @@ def length(shape, size):
 
 
 def starts(shape, size):
-    """Where each node begins, in preorder, and of which sort it is."""
+    """Where each node begins, in preorder, and its sort."""
     if shape == "chain":
         return [(0, INNER)] * size + [(0, LEAF)]
     all_nodes = [(0, INNER)]
@@ -85,7 +92,7 @@ def starts(shape, size):
 
 
 def begins(shape, size, *sorts):
-    """Where the nodes of some sorts begin."""
+    """Where the nodes of these sorts begin."""
     return [begin for begin, sort in starts(shape, size) if sort in sorts]
 
 
@@ -103,7 +110,7 @@ def leaf_at(shape, size, rounds):
 
 
 def replaced(shape, size, rounds):
-    """The lengths after each replacement by a leaf as long, and the leaves that came and are there at the end."""
+    """The sum of the lengths after each replacement by a leaf of the same length, and of the new leaves that are there at the end."""
     drawn = {
         "wide": lambda turn: place(turn, size),
         "ten": lambda turn: (place(turn, size // 10), turn % 10),
@@ -114,7 +121,7 @@ def replaced(shape, size, rounds):
 
 
 def resized(_shape, size, rounds):
-    """The same where leaves of one byte and of three come by turns."""
+    """The same with new leaves of one byte and of three bytes in turns."""
     come, total, lengths = {}, 2 * size, 0
     for turn in range(rounds):
         at, new = place(turn, size), 1 if turn % 2 == 0 else 3
@@ -125,12 +132,12 @@ def resized(_shape, size, rounds):
 
 
 def typed(come):
-    """How many bytes an edit parses, of the paragraph with what comes and of the one that is left."""
+    """How many bytes a pair of edits parses: the paragraph with what is inserted, and then the paragraph without it."""
     return lambda _shape, _size, rounds: rounds * (2 * len(LINES) + come)
 
 
 def walk_over(*sorts):
-    """The sum of where the nodes begin that a walk comes to."""
+    """The sum of the places where the nodes begin that a walk visits."""
     return lambda shape, size, rounds: rounds * sum(begins(shape, size, *sorts))
 
 
@@ -174,7 +181,7 @@ def wanted(line):
 
 @dataclass(frozen=True)
 class Row:
-    """A row of a table: what is written in it, the line that is run, and how many steps each round has, of which it tells the time."""
+    """A row of a table: its name, the line that is run, and the number of steps in a round. The row has the time of one step."""
 
     name: str
     line: str
@@ -182,12 +189,12 @@ class Row:
 
 
 def over(name, verb, shape, size, rounds):
-    """A row of an operation that goes over all nodes, timed by the node."""
+    """A row of an operation that goes over all nodes. A step is a node."""
     return Row(name, f"{verb} {shape} {size} {rounds}", nodes(shape, size))
 
 
 def typing(name, verb, rounds):
-    """Rows of edits of texts, each of which comes and goes in a round."""
+    """Rows of edits of texts. A round makes the edit and takes it back."""
     return [Row(f"{name} {lines:,} lines", f"{verb} {lines} {rounds}", 2) for lines in (1_000, 10_000, 100_000, 1_000_000)]
 
 
@@ -201,12 +208,12 @@ TABLES = {
         Row("a letter, followed by the lines of a text of 100,000", "lines letter 100000 2000", 2),
         Row("a paragraph, followed by them", "lines paragraph 100000 200", 2),
         Row("a letter in 1,000 lines, by a handle of the C interface", "door 1000 1000", 2),
-        Row("a leaf by one as long, in a document of 10^5 nodes", f"replace document {HUNDRED_THOUSAND} 20000"),
+        Row("a leaf by one of the same length, in a document of 10^5 nodes", f"replace document {HUNDRED_THOUSAND} 20000"),
         Row("the same, of 10^5 leaves, ten a node", "replace ten 100000 20000"),
         Row("the same, of 10^5 leaves in one node", "replace wide 100000 20000"),
         Row("the same by one of another length", "resize wide 100000 20000"),
         Row("a leaf before 10^5 in one node", "insert_front wide 100000 300"),
-        Row("a leaf behind 10^5 in one node, which goes again", "insert_end wide 100000 50000"),
+        Row("a leaf after 10^5 in one node, which is then removed", "insert_end wide 100000 50000"),
         Row("all nodes of a paragraph by equal ones, in the document", f"replace_equal document {HUNDRED_THOUSAND} 5000"),
         Row("the leaf under forty nodes, one in another", "replace chain 40 20000"),
     ],
@@ -248,7 +255,7 @@ TABLES = {
         over("`synthesize` of the document, a node", "synthesize", "document", MILLION, 5),
     ],
 }
-# What is built to be weighed: a row's name, the shape and the size of the larger tree. The smaller one has a tenth of it.
+# The trees whose memory is measured: a row's name, and the shape and the size of the larger tree. The smaller one has half that size.
 WEIGHED = [
     ("a leaf `ab` in one node of 4 times 10^6", "wide", 4_000_000),
     ("a leaf of 30 bytes in one node of 10^6", "long", 1_000_000),
@@ -258,8 +265,8 @@ WEIGHED = [
 
 
 def run(program, line, settings):
-    """The nanoseconds of all rounds of a line, and the peak memory of the process in bytes; nothing where it has no such operation.
-    The settings stand in the environment."""
+    """The nanoseconds of all rounds of a line, and the peak memory of the process in bytes; None if it has no such operation. The
+    process gets the settings in its environment."""
     with tempfile.TemporaryFile("w+") as asked, tempfile.TemporaryFile("w+") as told:
         asked.write(line + "\n")
         asked.seek(0)
@@ -271,21 +278,21 @@ def run(program, line, settings):
     if child.returncode:
         return None
     if words[:-1] != [*line.split(), str(wanted(line))]:
-        sys.exit(f"speed: {program}: {line!r} gave {' '.join(words)!r}, and its check sum is {wanted(line)}")
+        sys.exit(f"speed: {program}: {line!r} gave {' '.join(words)!r}, but its check sum is {wanted(line)}")
     return int(words[-1]), used.ru_maxrss * 1024
 
 
 def timed(row, programs, turns):
-    """The nanoseconds of a step in each turn, of each program; nothing of one that has no such operation."""
+    """For each program, the nanoseconds of a step in each turn; None if it has no such operation."""
     runs = [[run(program, row.line, KEEPING) for program in programs] for _ in range(turns)]
     rounds = int(row.line.split()[-1])
     return [[ran[0] / (rounds * row.steps) for ran in of_one] if all(of_one) else None for of_one in zip(*runs)]
 
 
 def weighed(shape, size, program):
-    """The bytes of a node in the peak memory of a process: what a tree takes more than one of half its size.
+    """The bytes that a node adds to the peak memory of a process: the difference between a tree and one of half its size, by the node.
 
-    Both are far above the memory of this script, which the system counts as the peak of each process that it starts."""
+    The system counts the memory of this script as a peak of each process that it starts. Both trees are far above that."""
     large, small = (run(program, f"build {shape} {part} 1", {}) for part in (size, size // 2))
     if not large or not small:
         return None
@@ -293,12 +300,12 @@ def weighed(shape, size, program):
 
 
 def digits(number):
-    """A number by three digits or more."""
+    """A number with three digits or more."""
     return f"{number:,.0f}" if number >= 100 else f"{number:.3g}"
 
 
 def cells(here, other=None):
-    """The least and the median of this build and how far its turns lie apart, the same of the other one, and the ratio of the least."""
+    """The least, the median and the spread of this build. With another build also its least and median, and the ratio of the leasts."""
     of_here = [digits(min(here)), digits(statistics.median(here)), f"{100 * (max(here) / min(here) - 1):.0f} %"]
     if other is None:
         return of_here
@@ -316,7 +323,7 @@ def head(words):
 
 
 def table(name, rows, programs, turns):
-    """A table, each row as soon as it is measured."""
+    """A table. Each row comes as soon as it is measured."""
     heads = [name, "ns", "median", "spread", *(["other", "median", "ratio"] if len(programs) > 1 else [])]
     yield head(heads)
     for row in rows:
@@ -328,7 +335,7 @@ def table(name, rows, programs, turns):
 
 
 def memory(programs):
-    """The table of memory."""
+    """The table of memory, by the node."""
     yield head(["Memory", "bytes", *(["other", "ratio"] if len(programs) > 1 else [])])
     for name, shape, size in WEIGHED:
         here, *others = (weighed(shape, size, program) for program in programs)
@@ -339,9 +346,9 @@ def memory(programs):
 
 
 def measured(programs, turns, only):
-    """What was measured where, and all tables, or of the rows whose operation has one of some words."""
+    """A line that says what was measured and where, and all tables, or only the rows whose operation has one of these words."""
     commit = subprocess.run(["git", "rev-parse", "--short", "HEAD"], cwd=TOP, capture_output=True, text=True, check=False)
-    yield f"Commit {commit.stdout.strip()}, {turns} turns a row, a load of {os.getloadavg()[0]:.1f} at the beginning, {processor()}."
+    yield f"Commit {commit.stdout.strip()}, {turns} turns a row, load {os.getloadavg()[0]:.1f} at the beginning, {processor()}."
     for name, rows in TABLES.items():
         chosen = [row for row in rows if not only or any(word in row.line for word in only)]
         if chosen:
@@ -357,12 +364,12 @@ def processor():
 
 
 def small():
-    """The lines that the crate is run on by `rt ci`, with their check sums."""
+    """The lines that `rt ci` runs the crate on, with their check sums."""
     return "".join(f"{line} {wanted(line)}\n" for line in (CRATE / "stdin").read_text().splitlines())
 
 
 def proved():
-    """The proved build, which is made where it isn't up to date."""
+    """The proved build. It is made if it isn't up to date."""
     with open(CRATE / "stdin", "rb") as lines:
         made = subprocess.run(["rt", "run"], cwd=CRATE, stdin=lines, capture_output=True, text=True, check=False)
     if made.returncode or not PROGRAM.exists():
@@ -388,7 +395,8 @@ def main():
         return 0
     if words.check:
         is_right = (CRATE / "stdout").read_text() == small()
-        print("speed: the check sums are those of the shapes" if is_right else "speed: other check sums: bench/speed.py --wanted")
+        said = "the check sums are right" if is_right else "crates/typst_bench/stdout is out of date: run bench/speed.py --wanted"
+        print(f"speed: {said}")
         return 0 if is_right else 1
     programs = [proved(), *([words.other.resolve()] if words.other else [])]
     said = []

@@ -65,7 +65,7 @@ def example(file):
 
 
 def several(looks):
-    """What differs where `typst_look` is given all these files, with and without one that fails among them."""
+    """What differs if `typst_look` gets all these files, with and without one that fails among them."""
     with tempfile.TemporaryDirectory() as room:
         bad = Path(room, "bad.look")
         bad.write_text("mark bad\nroot\nmark after\n")
