@@ -34,10 +34,12 @@ TYPED = 16
 TEXT = "= A\n\nHäuser"
 MOST_BYTES = 1 << 26
 FORMS = '; an edit is written 7..12 "text" or 2:5..2:9 "text"'
-BOUND = "which are the most that are shown"
-ENDS = "this ends with no tree: put `root` after the line that makes its last node"
-TOO_DEEP = f"the nodes nest in more than 1000 levels here, {BOUND}"
-NO_REMARK = "the newest node doesn't take this: only an error or a warning takes a hint, and a part A..B ends within the text and isn't empty"
+BOUND = "the most that can be shown"
+ENDS = "there is no tree at the end: put `root` after the line that makes the last node"
+TOO_DEEP = f"after this line nodes nest in more than 1000 levels, {BOUND}"
+NO_REMARK = "the last node can't have this remark: a hint needs an error or a warning, and A..B must be bytes of the node's text"
+NO_WORD = "the first word of this line is unknown: {} lists the words that begin a line"
+NO_NODES = "the stack has too few nodes for this line ({}): add the others before it"
 # A chain of 601 nodes, and a replacement that puts it into another chain, below the parent of that chain's leaf.
 CHAIN = "leaf 6 a\n" + "inner 5 1\n" * 600
 DOWN = "replace " + ".".join(["0"] * 599) + " 0 1 1\n"
@@ -45,17 +47,17 @@ DOWN = "replace " + ".".join(["0"] * 599) + " 0 1 1\n"
 # What is wrong, the words, the files, the wanted standard error, and the wanted status. The file text.typ is always there.
 WRONG = [
     ("no such file", ["none.typ"], {}, "none.typ: there is no such file", 1),
-    ("a folder", ["folder"], {}, "folder: this is a folder, and a file is needed", 1),
-    ("no UTF-8", ["a.typ"], {"a.typ": b"ab\xff"}, "a.typ: this isn't UTF-8 text: byte 2 begins no character", 1),
-    ("a character cut off", ["a.typ"], {"a.typ": b"a\xc3"}, "a.typ: this isn't UTF-8 text: byte 1 begins no character", 1),
-    ("a large text", ["a.typ"], {"a.typ": MOST_BYTES + 1}, f"a.typ: this has more than {MOST_BYTES} bytes, {BOUND}", 1),
+    ("a folder", ["folder"], {}, "folder: this is a folder: name a file", 1),
+    ("no UTF-8", ["a.typ"], {"a.typ": b"ab\xff"}, "a.typ: this isn't UTF-8 text: no character begins at byte 2", 1),
+    ("a character cut off", ["a.typ"], {"a.typ": b"a\xc3"}, "a.typ: this isn't UTF-8 text: no character begins at byte 1", 1),
+    ("a large text", ["a.typ"], {"a.typ": MOST_BYTES + 1}, f"a.typ: this file has more than {MOST_BYTES} bytes, {BOUND}: split it", 1),
     ("no edits", ["text.typ", "--edits", "none"], {}, "none: there is no such file", 1),
-    ("twice standard input", ["-", "--edits", "-"], {}, "only one of the text and its edits can be standard input: name a file for the other", 2),
-    ("an edit past the text", "1..99 \"\"", {}, "e:1: the edit ends at byte 99, and the text has only 12 bytes", 2),
-    ("an edit within a character", "7..12 \"\"", {}, "e:1: the edit starts at byte 7, which is within the character of the bytes 6..8", 2),
-    ("an edit backwards", "5..3 \"\"", {}, "e:1: the edit ends at byte 3, before it starts, at byte 5", 2),
-    ("no such line", "\n9:1..9:1 \"\"", {}, "e:2: the edit starts in line 9, and the text has only 3 lines", 2),
-    ("no such column", "3:1..3:9 \"\"", {}, "e:1: the edit ends at 3:9, and line 3 has only 6 characters", 2),
+    ("twice standard input", ["-", "--edits", "-"], {}, "standard input can't be both the text and its edits: name a file for one of them", 2),
+    ("an edit past the text", "1..99 \"\"", {}, "e:1: the edit ends at byte 99, but the text has only 12 bytes", 2),
+    ("an edit within a character", "7..12 \"\"", {}, "e:1: the edit starts at byte 7, inside the character at bytes 6..8", 2),
+    ("an edit backwards", "5..3 \"\"", {}, "e:1: the edit ends at byte 3, before its start at byte 5", 2),
+    ("no such line", "\n9:1..9:1 \"\"", {}, "e:2: the edit starts in line 9, but the text has only 3 lines", 2),
+    ("no such column", "3:1..3:9 \"\"", {}, "e:1: the edit ends at 3:9, but line 3 has only 6 characters", 2),
     ("no range", "x", {}, "e:1:1: expected a byte, or a line and a column" + FORMS, 2),
     ("no end", "1 \"\"", {}, "e:1:2: expected `..`" + FORMS, 2),
     ("two kinds of places", "1:1..3 \"\"", {}, "e:1:7: expected `:` and a column" + FORMS, 2),
@@ -67,24 +69,24 @@ WRONG = [
     ("no character", "1..2 \"\\u{d800}\"", {}, "e:1:9: expected the hexadecimal digits of a character in braces" + FORMS, 2),
     ("more after the quotes", "1..2 \"\" ", {}, "e:1:8: expected the end of the line" + FORMS, 2),
     ("a number too large", "99999999999999999999..1 \"\"", {}, "e:1:1: expected a byte, or a line and a column" + FORMS, 2),
-    ("a page into a folder", ["text.typ", "--page", "folder"], {}, "folder: this is a folder, and a file is needed", 1),
+    ("a page into a folder", ["text.typ", "--page", "folder"], {}, "folder: this is a folder: name a file", 1),
     ("no FILE", [], {}, re.compile(r"error: the following required arguments were not provided:\n  <FILE>\n"), 2),
     ("no look", ["none.look"], {}, "none.look: there is no such file", 1),
-    ("edits of a script", ["a.script", "--edits", "e"], {"a.script": "leaf 6 a\nroot\n", "e": ""}, "a.script: --edits edits a text, and a script builds a tree: let its own lines `replace` and `run` edit it", 2),
+    ("edits of a script", ["a.script", "--edits", "e"], {"a.script": "leaf 6 a\nroot\n", "e": ""}, "a.script: --edits edits a text, but this is a script: edit its tree by its own lines `replace` and `run`", 2),
     ("an empty script", ["a.script"], {"a.script": ""}, f"a.script: {ENDS}", 2),
     ("a script with no root", ["a.script"], {"a.script": "leaf 6 a\n"}, f"a.script: {ENDS}", 2),
-    ("a script with an unknown word", ["a.script"], {"a.script": "leaf 6 a\ntree\n"}, "a.script:2: no line begins with this word: docs/SCRIPT.md lists those that do", 2),
-    ("a look with an unknown word", ["a.look"], {"a.look": "trees 1\n"}, "a.look:1: no line begins with this word: docs/LOOK.md lists those that do", 2),
-    ("a remark in a script", ["a.script"], {"a.script": "leaf 6 a\nhint x\n"}, "a.script:2: no line begins with this word: docs/SCRIPT.md lists those that do", 2),
+    ("a script with an unknown word", ["a.script"], {"a.script": "leaf 6 a\ntree\n"}, f"a.script:2: {NO_WORD.format('docs/SCRIPT.md')}", 2),
+    ("a look with an unknown word", ["a.look"], {"a.look": "trees 1\n"}, f"a.look:1: {NO_WORD.format('docs/LOOK.md')}", 2),
+    ("a remark in a script", ["a.script"], {"a.script": "leaf 6 a\nhint x\n"}, f"a.script:2: {NO_WORD.format('docs/SCRIPT.md')}", 2),
     ("a kind of errors", ["a.script"], {"a.script": "\nleaf 1 a\n"}, "a.script:2: expected `leaf K TEXT` with a kind from 0 to 136 but 1, and a blank before the text, as in `leaf 6 ab`", 2),
     ("no tab", ["a.script"], {"a.script": "error a b\n"}, "a.script:1: expected `error MESSAGE<tab>TEXT` with a tab between message and text, as in `error wrong<tab>ab`", 2),
     ("no numbers", ["a.look"], {"a.look": "warnat 1 x\n"}, "a.look:1: expected `warnat A B MESSAGE` with two bytes, as in `warnat 0 2 careful`", 2),
-    ("too few nodes", ["a.script"], {"a.script": "leaf 6 a\ninner 5 2\n"}, "a.script:2: this takes 2 nodes of the stack, and 1 are there: push them before", 2),
-    ("several nodes at the root", ["a.script"], {"a.script": "leaf 6 a\nleaf 6 b\nroot\n"}, "a.script:3: `root` takes the only node of the stack, and 2 are there: put `inner K 2` before", 2),
-    ("no node at the root", ["a.script"], {"a.script": "root\n"}, "a.script:1: this takes 1 nodes of the stack, and 0 are there: push them before", 2),
-    ("no tree to number", ["a.script"], {"a.script": "number 1 2 9\n"}, "a.script:1: there is no tree yet: put `root` before", 2),
-    ("a run without numbers", ["a.script"], {"a.script": "leaf 6 a\nroot\nrun\n"}, "a.script:3: the tree isn't numbered yet: put `number 1 2 140737488355328` before", 2),
-    ("a carriage return", ["a.script"], {"a.script": "leaf 6 a\ninner 5 1\r\n"}, "a.script:2: a carriage return ends this line, and a line feed alone may: take the carriage returns out", 2),
+    ("too few nodes", ["a.script"], {"a.script": "leaf 6 a\ninner 5 2\n"}, f"a.script:2: {NO_NODES.format('1 of 2')}", 2),
+    ("several nodes at the root", ["a.script"], {"a.script": "leaf 6 a\nleaf 6 b\nroot\n"}, "a.script:3: `root` needs a single node on the stack, but the stack has 2: put `inner K 2` before it", 2),
+    ("no node at the root", ["a.script"], {"a.script": "root\n"}, f"a.script:1: {NO_NODES.format('0 of 1')}", 2),
+    ("no tree to number", ["a.script"], {"a.script": "number 1 2 9\n"}, "a.script:1: there is no tree yet: put `root` before this line", 2),
+    ("a run without numbers", ["a.script"], {"a.script": "leaf 6 a\nroot\nrun\n"}, "a.script:3: the tree isn't numbered yet: put `number 1 2 140737488355328` before this line", 2),
+    ("a carriage return", ["a.script"], {"a.script": "leaf 6 a\ninner 5 1\r\n"}, "a.script:2: this line ends with a carriage return: remove all carriage returns, since a line feed alone ends a line", 2),
     ("a hint on a text", ["a.look"], {"a.look": "leaf 6 a\nhint x\n"}, f"a.look:2: {NO_REMARK}", 2),
     ("a warning about too much", ["a.look"], {"a.look": "leaf 6 a\nwarnat 0 2 x\n"}, f"a.look:2: {NO_REMARK}", 2),
     ("a script that nests", ["a.script"], {"a.script": "leaf 6 a\n" + "inner 5 1\n" * 1000 + "root\n"}, f"a.script:1001: {TOO_DEEP}", 2),

@@ -22,8 +22,10 @@ pub(crate) struct Asked<'a> {
 
 /// What `--help` prints below the words.
 const AFTER_HELP: &str = "\
-FILE is a text of markup; or a script or a look that builds a tree, if its name ends in .script or .look. Each line of EDITS is an edit, as 7..12 \"text\" in bytes, or as 2:5..2:9 \"text\" in lines and columns, both from 1. Escapes in the quotes are those of Rust.
-docs/SHOW.md explains what is shown. The status is 0, or 1 where a file or memory failed, or 2 where words, edits or scripts are wrong.
+FILE is a text of markup. If its name ends in .script or .look, it is a script or a look, which builds a tree.
+Each line of EDITS is an edit: 7..12 \"text\" in bytes, or 2:5..2:9 \"text\" in lines and columns, which count from 1.
+In the quotes the escapes are those of Rust. docs/SHOW.md explains what is shown.
+The status is 0 if all is shown, 1 if a file or memory failed, and 2 if the words, an edit or a script are wrong.
 ";
 
 impl<'a> Asked<'a> {
@@ -54,20 +56,22 @@ fn command<'a>(alloc: Global) -> Result<Command<'a>, AllocError> {
     let file = Arg::new(alloc, "file")
         .value_name("FILE")
         .required(true)
-        .help("The text or script whose tree is shown; - is a text on standard input");
+        .help("The text or script whose tree is shown; - reads a text from standard input");
     let edits = Arg::new(alloc, "edits")
         .long("edits")
         .value_name("EDITS")
-        .help("Does the edits of this file, and tells what each did");
+        .help(
+            "Makes the edits in this file, and says what each did; - reads them from standard input",
+        );
     let page = Arg::new(alloc, "page")
         .long("page")
         .value_name("OUT.html")
-        .help("Writes a page for a browser");
+        .help("Writes a page for a browser; - writes it to standard output");
     let plain = flag(alloc, "plain").help(
-        "Shows kinds and texts alone; with --edits the tree after all edits",
+        "Shows only kinds and texts; with --edits only the tree after all edits",
     );
     let plain = plain.conflicts_with("page")?.conflicts_with("views")?;
-    let views = flag(alloc, "views").help("Shows what the view of each node answers, by name");
+    let views = flag(alloc, "views").help("Shows below each node what its view answers");
     Command::new(alloc, "show")
         .bin_name("./show")?
         .version("0.1.0")

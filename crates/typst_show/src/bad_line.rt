@@ -8,21 +8,21 @@ use typst_script::{Command, words};
 /// What is wrong with a line.
 #[derive(Clone, Copy, Debug, PartialEq, Eq, Error)]
 pub(crate) enum BadLine {
-    #[error("a carriage return ends this line, and a line feed alone may: take the carriage returns out")]
+    #[error("this line ends with a carriage return: remove all carriage returns, since a line feed alone ends a line")]
     CarriageReturn,
-    #[error("no line begins with this word: {page} lists those that do")]
+    #[error("the first word of this line is unknown: {page} lists the words that begin a line")]
     Word { page: &'static str },
     #[error("expected `{form}`")]
     Form { form: &'static str },
-    #[error("this takes {needed} nodes of the stack, and {there} are there: push them before")]
+    #[error("the stack has too few nodes for this line ({there} of {needed}): add the others before it")]
     TooFew { needed: u64, there: usize },
-    #[error("`root` takes the only node of the stack, and {there} are there: put `inner K {there}` before")]
+    #[error("`root` needs a single node on the stack, but the stack has {there}: put `inner K {there}` before it")]
     TooMany { there: usize },
-    #[error("there is no tree yet: put `root` before")]
+    #[error("there is no tree yet: put `root` before this line")]
     NoTree,
-    #[error("the tree isn't numbered yet: put `number 1 2 140737488355328` before")]
+    #[error("the tree isn't numbered yet: put `number 1 2 140737488355328` before this line")]
     NotNumbered,
-    #[error("the newest node doesn't take this: only an error or a warning takes a hint, and a part A..B ends within the text and isn't empty")]
+    #[error("the last node can't have this remark: a hint needs an error or a warning, and A..B must be bytes of the node's text")]
     Remark,
 }
 

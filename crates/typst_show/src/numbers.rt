@@ -53,7 +53,10 @@ pub(crate) fn write_numbers<W: Write>(
     write_windows(out, &drawn, report, change)?;
     out.write_all(b"</svg>")?;
     if left_out > 0 {
-        write!(out, "<p>{left_out} children behind these aren't drawn.</p>")?;
+        write!(
+            out,
+            "<p>{left_out} more children after these aren't drawn.</p>"
+        )?;
     }
     out.write_all(b"</div>\n")
 }

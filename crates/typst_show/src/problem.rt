@@ -14,9 +14,9 @@ pub(crate) enum Problem<'a> {
     /// The words of the command line ask for help, or are wrong. `clap` writes the message.
     #[error("{0}")]
     Words(clap::Error),
-    #[error("only one of the text and its edits can be standard input: name a file for the other")]
+    #[error("standard input can't be both the text and its edits: name a file for one of them")]
     TwoInputs,
-    #[error("{file}: --edits edits a text, and a script builds a tree: let its own lines `replace` and `run` edit it")]
+    #[error("{file}: --edits edits a text, but this is a script: edit its tree by its own lines `replace` and `run`")]
     NoText {
         file: &'a str,
     },
@@ -24,7 +24,7 @@ pub(crate) enum Problem<'a> {
     NoFile {
         file: &'a str,
     },
-    #[error("{file}: this is a folder, and a file is needed")]
+    #[error("{file}: this is a folder: name a file")]
     Folder {
         file: &'a str,
     },
@@ -33,12 +33,12 @@ pub(crate) enum Problem<'a> {
         file: &'a str,
         error: io::Error,
     },
-    #[error("{file}: this isn't UTF-8 text: byte {byte} begins no character")]
+    #[error("{file}: this isn't UTF-8 text: no character begins at byte {byte}")]
     NotText {
         file: &'a str,
         byte: usize,
     },
-    #[error("{file}: this has more than {most} bytes, which are the most that are shown")]
+    #[error("{file}: this file has more than {most} bytes, the most that can be shown: split it")]
     TooLarge {
         file: &'a str,
         most: u64,
@@ -67,13 +67,13 @@ pub(crate) enum Problem<'a> {
         line: u64,
         bad: BadLine,
     },
-    #[error("{file}:{line}: the nodes nest in more than {most} levels here, which are the most that are shown")]
+    #[error("{file}:{line}: after this line nodes nest in more than {most} levels, the most that can be shown")]
     TooDeep {
         file: &'a str,
         line: u64,
         most: usize,
     },
-    #[error("{file}: this ends with no tree: put `root` after the line that makes its last node")]
+    #[error("{file}: there is no tree at the end: put `root` after the line that makes the last node")]
     NoTree {
         file: &'a str,
     },
