@@ -27,7 +27,7 @@ static void show_leaf(typst_session *session, size_t cursor)
 
     need("the leaf at the cursor", typst_try_leaf_at(session, cursor, TYPST_BEFORE, path, DEPTH, &place));
     need("a node", typst_try_node(session, path, place.depth, &info));
-    printf("  before byte %zu stand the bytes %zu..%zu of kind %u%s\n", cursor, place.offset, place.offset + info.len,
+    printf("  the leaf before byte %zu has the bytes %zu..%zu and the kind %u%s\n", cursor, place.offset, place.offset + info.len,
            (unsigned)info.kind, info.kind == TYPST_KIND_ERROR ? ", an error" : "");
 }
 

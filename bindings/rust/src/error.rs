@@ -60,14 +60,14 @@ impl fmt::Display for Error {
     fn fmt(&self, f: &mut fmt::Formatter<'_>) -> fmt::Result {
         f.write_str(match self {
             Error::Memory => "out of memory",
-            Error::Kind => "the kind is none of a leaf or an inner node",
+            Error::Kind => "no leaf or inner node can have this kind",
             Error::Stack => "there are too few nodes",
             Error::Size => "the tree is too large",
-            Error::Numbers => "numbers of nodes lie in 2..2^47",
+            Error::Numbers => "the numbers must lie in 2..2^47",
             Error::Unnumberable => "there are fewer numbers than nodes",
             Error::NoNode => "the path leads to no node",
             Error::Leaf => "the path leads to a leaf",
-            Error::Range => "the range isn't one of what it is a range of",
+            Error::Range => "the range doesn't fit the children or the text",
             Error::NotFound => "there is no such node",
             Error::Buffer => "the buffer is too short",
             Error::NoHints => "the node takes no hints",

@@ -151,7 +151,7 @@ fn what_isnt_numbered_stays_on_the_stack() -> Result<(), Error> {
     assert_eq!((refused.error, refused.builder.count()), (Error::Unnumberable, 1));
     let refused = refused.builder.number(FileId::MIN, 1..9).unwrap_err();
     assert_eq!(refused.error, Error::Numbers);
-    assert_eq!(refused.to_string(), "numbers of nodes lie in 2..2^47");
+    assert_eq!(refused.to_string(), "the numbers must lie in 2..2^47");
     let tree = refused.builder.number(FileId::MIN, 2..5)?;
     assert_eq!(tree.root().text()?, "ab");
     assert_eq!(

@@ -15,7 +15,7 @@ pub enum Refusal {
     #[error("out of memory")]
     Memory,
     /// The number is no kind, or the number of `Error`, which no leaf and no inner node has.
-    #[error("the number is no kind of a leaf or an inner node")]
+    #[error("no leaf or inner node can have this kind")]
     Kind,
     /// The bytes aren't UTF-8.
     #[error("the text isn't UTF-8")]
@@ -30,16 +30,16 @@ pub enum Refusal {
     #[error("there is no tree")]
     NoTree,
     /// The session holds a document, whose tree changes only by edits of its text.
-    #[error("the tree is that of a document, which is edited as a text")]
+    #[error("the tree belongs to a document, which is edited as a text")]
     IsDocument,
     /// The session holds no document.
     #[error("there is no document")]
     NoDocument,
     /// The number of the file is 0, which is no file.
-    #[error("0 is no file")]
+    #[error("the number of the file is 0")]
     File,
     /// The range of numbers doesn't lie within 2 up to, not including, 2^47.
-    #[error("numbers of nodes lie in 2..2^47")]
+    #[error("the numbers must lie in 2..2^47")]
     Numbers,
     /// There are fewer numbers than nodes.
     #[error("there are fewer numbers than nodes")]
@@ -51,7 +51,7 @@ pub enum Refusal {
     #[error("the path leads to a leaf")]
     Leaf,
     /// The range isn't a range of the node's children, or not a range of the text with both ends between characters.
-    #[error("the range isn't one of what it is a range of")]
+    #[error("the range doesn't fit the children or the text")]
     Range,
     /// There is no such node.
     #[error("there is no such node")]
@@ -63,7 +63,7 @@ pub enum Refusal {
     #[error("the node takes no hints")]
     NoHints,
     /// The number is no set of kinds.
-    #[error("the number is no set of kinds")]
+    #[error("no set of kinds has this number")]
     Set,
     /// The text has no such place: the byte is past its end or within a character, or no byte has that line and column.
     #[error("the text has no such place")]

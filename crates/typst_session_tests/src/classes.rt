@@ -44,8 +44,7 @@ fn picked(alloc: Global) -> Result<String, Refusal> {
 
 #[test]
 fn children_are_picked_by_their_class(rt: HostRuntime) -> Result<(), Fail> {
-    let wanted =
-        "3 3 2 2 0, there is no such node, the number is no kind of a leaf or an inner node";
+    let wanted = "3 3 2 2 0, there is no such node, no leaf or inner node can have this kind";
     match picked(rt.alloc()) {
         Ok(said) => assert_eq!(rt; said.as_str(), wanted),
         Err(refusal) => assert!(rt; false, "{refusal}"),

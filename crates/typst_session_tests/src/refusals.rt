@@ -28,23 +28,23 @@ const REFUSALS: [Refusal; 19] = [
 
 /// What these refusals say, one per line.
 const TEXTS: &str = "out of memory
-the number is no kind of a leaf or an inner node
+no leaf or inner node can have this kind
 the text isn't UTF-8
 the stack has too few nodes
 the tree is too large
 there is no tree
-the tree is that of a document, which is edited as a text
+the tree belongs to a document, which is edited as a text
 there is no document
-0 is no file
-numbers of nodes lie in 2..2^47
+the number of the file is 0
+the numbers must lie in 2..2^47
 there are fewer numbers than nodes
 the path leads to no node
 the path leads to a leaf
-the range isn't one of what it is a range of
+the range doesn't fit the children or the text
 there is no such node
 the buffer is too short
 the node takes no hints
-the number is no set of kinds
+no set of kinds has this number
 the text has no such place
 ";
 
