@@ -131,7 +131,7 @@ typedef struct typst_length {
 typedef struct typst_range {
     /** Where the range begins. */
     size_t start;
-    /** Where they end. */
+    /** Where it ends: the byte after its last one. */
     size_t end;
 } typst_range;
 
@@ -484,8 +484,9 @@ typst_status typst_spanless_eq(typst_session *session, const size_t *path, size_
 /** @{ */
 
 /**
- * Finds the node with a number. It reads few other nodes.
- * @param path receives the path, if it has room.
+ * Finds the node with a number. It reads few other nodes. After an edit of a document a number in the window of the edit may belong to
+ * another node, or to none; all other nodes keep their numbers.
+ * @param path receives the path, if it has room. A path in the tree of a document has at most 132 indices.
  * @param place receives the length of the path and where the node's text begins, even if the buffer is too short.
  * @return TYPST_DONE, TYPST_NOT_MADE, TYPST_NO_TREE, TYPST_NOT_FOUND, TYPST_SHORT_BUFFER or TYPST_NO_MEMORY.
  */
@@ -531,7 +532,8 @@ typst_status typst_open(typst_session *session, uint16_t file, const char *text,
 
 /**
  * Replaces the bytes `from .. to` of the document's text by a text, and parses anew only the blocks that this can touch.
- * @param edited receives what was parsed and what was numbered anew.
+ * @param edited receives which bytes were parsed and which children of the root were numbered anew, with all nodes below them. All other
+ *     nodes keep their numbers.
  * @return TYPST_DONE, TYPST_NOT_MADE, TYPST_NO_DOCUMENT, TYPST_BAD_TEXT, TYPST_BAD_RANGE, TYPST_TOO_LARGE, TYPST_UNNUMBERABLE or
  *     TYPST_NO_MEMORY.
  */

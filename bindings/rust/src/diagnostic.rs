@@ -66,7 +66,7 @@ pub(crate) fn all(handle: &Handle) -> Result<Vec<Diagnostic>, Error> {
                 hints: Vec::new(),
             }),
             _ => {
-                let before = all.last_mut().expect("a hint stands behind an error or a warning");
+                let before = all.last_mut().expect("a hint comes after an error or a warning");
                 before.hints.push(Hint { text, range });
             }
         }
