@@ -30,7 +30,7 @@ PROGRAM = TOP / "crates/typst_show/out/typst_show"
 NEW_LINE = "\n"
 # How many paragraphs are inserted at one place. For the fifteenth the first window is too narrow.
 TYPED = 16
-# A text of 13 bytes and 3 lines: `ä` takes two.
+# A text of 12 bytes and 3 lines: `ä` takes two.
 TEXT = "= A\n\nHäuser"
 MOST_BYTES = 1 << 26
 FORMS = '; an edit is written 7..12 "text" or 2:5..2:9 "text"'

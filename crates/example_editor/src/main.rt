@@ -71,7 +71,7 @@ fn edit(alloc: Global, source: &mut Source<Markup>, line: &str) -> Result<Edited
         .split_once(' ')
         .context("an edit is written A..B \"text\"")?;
     let range = range_of(word).context("an edit begins with a range of bytes, as 7..12")?;
-    let text = unquoted(alloc, quoted)?.context("the text of an edit stands in quotes")?;
+    let text = unquoted(alloc, quoted)?.context("the text of an edit must be in quotes")?;
     if !source.fits(&range) {
         bail!(
             "{word} isn't a range of the text's {} bytes",
