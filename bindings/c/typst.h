@@ -408,7 +408,8 @@ typst_status typst_children(typst_session *session, const size_t *path, size_t d
 
 /**
  * Reads all nodes of the subtree at a path in preorder: each node before its children, and the children in order. After a node come
- * the `descendants - 1` other nodes of its subtree, so a caller can skip a subtree.
+ * the `descendants - 1` other nodes of its subtree, so a caller can skip a subtree. The path of a node isn't read; typst_find gives
+ * it for the node's number.
  * @param out receives what is read of each node.
  * @param room the number of elements that `out` has room for.
  * @param length receives the number of nodes, even if the buffer is too short.
@@ -493,8 +494,9 @@ typst_status typst_spanless_eq(typst_session *session, const size_t *path, size_
 typst_status typst_find(typst_session *session, uint64_t number, size_t *path, size_t room, typst_place *place);
 
 /**
- * Finds the node without children that holds the byte before a cursor (TYPST_BEFORE) or the byte after it (TYPST_AFTER). If `side`
- * is TYPST_BEFORE and there is no such byte, it is the last node without children, if its text begins at the cursor.
+ * Finds the node without children that holds the byte before a cursor (TYPST_BEFORE) or the byte after it (TYPST_AFTER). There is one
+ * exception: for TYPST_BEFORE, if there is no such byte, it finds the last node without children if the text of that node begins at
+ * the cursor.
  * @param path receives the path, if it has room.
  * @param place receives the length of the path and where the node's text begins, even if the buffer is too short.
  * @return TYPST_DONE, TYPST_NOT_MADE, TYPST_NO_TREE, TYPST_NOT_FOUND, TYPST_SHORT_BUFFER or TYPST_NO_MEMORY.

@@ -138,7 +138,7 @@ static void document(typst_session *session, long refused)
     DO(typst_len_lines(session, &count));
     check(count == 15, "the document has another number of lines", refused);
     DO(typst_line_column_to_byte(session, 10, 5, TYPST_UTF16, &byte));
-    check(byte == 8 + (sizeof more - 1) + 6, "a place stands at another byte", refused);
+    check(byte == 8 + (sizeof more - 1) + 6, "a place is at another byte", refused);
 }
 
 int main(void)
