@@ -20,9 +20,6 @@ length_by u v w = cond u 0 (cond v 1 (cond w 2 3))
 abbrev bits_by : ℕ → Bool → Bool → Bool → ℕ
 bits_by a u v w = cond u a (cond v (a - 192) (cond w (a - 224) (a - 240)))
 
-abbrev four_by : ℕ → ℕ → ℕ → List ℕ → Option ℕ
-four_by a b c bs = code_of_four a b c bs
-
 abbrev three_by : Bool → ℕ → ℕ → List ℕ → Option ℕ
 three_by w a b [] = None
 three_by w a b (c ∷ cs) = cond w (Some (with_byte (with_byte (a - 224) b) c)) (code_of_four a b c cs)

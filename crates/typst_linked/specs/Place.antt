@@ -16,6 +16,10 @@ pub record Place : Type 0 where
 abbrev pub place_code : Coded Place
 place_code = code_by (Tree × List ℕ) (coded× tree_code (coded_list coded_ℕ)) (λ p. (p.root, p.path)) (λ p. record { root = p.0; path = p.1 }) (λ _. refl)
 
+-- the place of a tree's root
+abbrev pub root_place : Tree → Place
+root_place t = record { root = t; path = [] }
+
 -- the subtree at a place, if its path leads to a node
 abbrev pub subtree : Place → Option Tree
 subtree place = at place.path place.root

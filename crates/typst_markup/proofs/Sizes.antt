@@ -50,9 +50,6 @@ less_inside before kind ts behind =
       nodes = omega (arith, among.nodes, count_of_all-cons (inner_tree kind ts) []);
     }
 
-less_trans : (ts us vs : List Tree) → AreLess ts us → AreLess us vs → AreLess ts vs
-less_trans ts us vs a b = record { bytes = omega (arith, a.bytes, b.bytes); nodes = omega (arith, a.nodes, b.nodes) }
-
 -- a node of its children
 pub inner_fits : (kind : SyntaxKind) (ts : List Tree) → SumsFit (inner_tree kind ts ∷ []) → SumsFit ts
 inner_fits kind ts = fits_less ts (inner_tree kind ts ∷ []) (less_inside [] kind ts [])

@@ -1,6 +1,6 @@
 -- Inner nodes seen as trees.
 use Rattle.std.proofs.Common.{◌≡◌, ℕ, ◌+◌, ◌<◌, ◌≤◌, ◌^◌, ◌⊎◌, inl, inr, List, [], map, refl, sym, ap, subst, ◌∙◌, arith, Box, Global, Option, Some, None}
-use Rattle.std.specs.Prelude.{SomeIff, IfSome, MatchOption, Result, Ok, Err, IfOk, OnOk}
+use Rattle.std.specs.Prelude.{SomeIff, IfSome, MatchOption, Result, Ok, Err, IfOk}
 use Rattle.typst_base.specs.declared.kind.SyntaxKind.{SyntaxKind}
 use Rattle.typst_node.specs.Tree.{AsInner, Forest, Tree, trees, forest, IsInner}
 use Rattle.typst_node.specs.Labels.{number, bound, bound_of}
@@ -96,15 +96,6 @@ file_none (Some x) f some e = absurd (omega (arith, some.0))
 pub or_left : (P Q R : Type 0) → (P → Q) → P ⊎ R → Q ⊎ R
 or_left P Q R f (inl p) = inl (f p)
 or_left P Q R f (inr r) = inr r
-
-pub or_right : {P Q R : Type 0} → P ⊎ Q → (Q → R) → P ⊎ R
-or_right (inl p) f = inl p
-or_right (inr q) f = inr (f q)
-
--- what follows from two facts of an Ok
-pub IfOk_both : {T E : Type 0} (r : Result T E) {P Q : T → Type 0} {O : Type 0} → IfOk r P → OnOk r O → ((x : T) → P x → O → Q x) → IfOk r Q
-IfOk_both (Ok x) h o f = f x h o
-IfOk_both (Err e) h o f = tt
 
 -- what follows from a fact of an Ok
 pub IfOk_map : {T E : Type 0} (r : Result T E) {P Q : T → Type 0} → IfOk r P → ((x : T) → P x → Q x) → IfOk r Q

@@ -121,9 +121,3 @@ part_text ts a b h =
     let whole : length (text_of_all (take a ts)) + length (text_of_all (drop a ts)) ≡ length (text_of_all ts) = sym (length_text_append (take a ts) (drop a ts)) ∙ ap (λ vs. length (text_of_all vs)) (take-append-drop a ts) in
     let rest : length (text_of_all (drop a ts)) ≡ length (text_of_all (slice_range ts a b)) + length (text_of_all (drop b ts)) = ap (λ vs. length (text_of_all vs)) (drop_split ts a b h) ∙ length_text_append (slice_range ts a b) (drop b ts) in
     omega arith
-
-pub text_split : (ts : List Tree) (a b : ℕ) → a ≤ b → length (text_of_all (take a ts)) + (length (text_of_all (slice_range ts a b)) + length (text_of_all (drop b ts))) ≡ length (text_of_all ts)
-text_split ts a b h =
-    let whole : length (text_of_all (take a ts)) + length (text_of_all (drop a ts)) ≡ length (text_of_all ts) = sym (length_text_append (take a ts) (drop a ts)) ∙ ap (λ vs. length (text_of_all vs)) (take-append-drop a ts) in
-    let rest : length (text_of_all (drop a ts)) ≡ length (text_of_all (slice_range ts a b)) + length (text_of_all (drop b ts)) = ap (λ vs. length (text_of_all vs)) (drop_split ts a b h) ∙ length_text_append (slice_range ts a b) (drop b ts) in
-    omega arith

@@ -9,7 +9,7 @@ use Rattle.typst_node.specs.Text.{content_text, own_text, joined, text, text_of_
 use Rattle.typst_node.specs.Count.{count, count_of_all}
 use Rattle.typst_node.specs.Diagnosis.{is_error_content, is_error, is_warned, has_error, has_warning}
 use Rattle.typst_node.specs.Plain.{unbounded, plain_label, plain_forest, plain}
-use Rattle.typst_node.specs.View.{IsMeasured, IsKept, tree_of, below, shown_warnings}
+use Rattle.typst_node.specs.View.{IsMeasured, IsConsistent, tree_of, below, shown_warnings}
 use Rattle.typst_node.specs.ChildEnds.{ends_from, AreEnds}
 use Rattle.typst_node.proofs.Trees.{ends_alike}
 use Rattle.typst_node.specs.declared.node.Node.TheVariants.{Inner}
@@ -108,7 +108,7 @@ same_plain_inner a k n b t new s is view warned same =
     ∙ sym (ap (λ n. plain (tree_of record { node = n; span = a.span })) is) ∙ ap plain view
 
 -- how many nodes an inner node says that it has
-pub inner_count : (a : Inside) (k : SyntaxKind) (n : ℕ) (b : Box InnerNode Global) (t : Tree) → a.node ≡ Inner k n b → IsKept a.node → tree_of a ≡ t → b.value.descendants ≡ count t
+pub inner_count : (a : Inside) (k : SyntaxKind) (n : ℕ) (b : Box InnerNode Global) (t : Tree) → a.node ≡ Inner k n b → IsConsistent a.node → tree_of a ≡ t → b.value.descendants ≡ count t
 inner_count a k n b t is kept view =
-    let measured : IsMeasured b.value = (subst IsKept is kept).1.1 in
+    let measured : IsMeasured b.value = (subst IsConsistent is kept).1.1 in
     measured.descendants ∙ sym (ap (λ n. suc (count_of_all (below n))) is) ∙ ap count view

@@ -18,5 +18,5 @@ abbrev pub edited_by : List ℕ → Errand → Tree → Tree
 edited_by path e t = edited_at path e.edit.from e.edit.to e.edit.others.items t
 
 -- the answer of the errand says how its replacement changed the node
-abbrev pub IsDone : Errand → Errand → Tree → Tree → Type 0
-IsDone before after old new = IfSome after.answer (IsReplacement before.edit.from before.edit.to before.edit.others.items old new)
+abbrev pub IsCarriedOut : Errand → Errand → Tree → Tree → Type 0
+IsCarriedOut before after old new = IfSome after.answer (IsReplacement before.edit.from before.edit.to before.edit.others.items old new)

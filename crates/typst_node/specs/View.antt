@@ -66,9 +66,9 @@ pub record IsShort (len : ℕ) (bytes : List ℕ) : Type 0 where
   pub fits : len ≤ 21
   pub text : IsUtf8 (take len bytes)
 
-abbrev pub IsKept : Node → Type 0
-IsKept (Short kind len bytes) = (kind ≢ kinds.Error) × IsShort len bytes
-IsKept (Long kind b) = kind ≢ kinds.Error
-IsKept (Leaf kind b) = kind ≢ kinds.Error
-IsKept (Inner kind len b) = (kind ≢ kinds.Error) × ((len ≡ length (text_of_all b.value.children.items)) × IsMeasured b.value)
-IsKept (Error b) = Unit {0}
+abbrev pub IsConsistent : Node → Type 0
+IsConsistent (Short kind len bytes) = (kind ≢ kinds.Error) × IsShort len bytes
+IsConsistent (Long kind b) = kind ≢ kinds.Error
+IsConsistent (Leaf kind b) = kind ≢ kinds.Error
+IsConsistent (Inner kind len b) = (kind ≢ kinds.Error) × ((len ≡ length (text_of_all b.value.children.items)) × IsMeasured b.value)
+IsConsistent (Error b) = Unit {0}

@@ -123,11 +123,11 @@ impl Model for SyntaxNode {
 
     ghost coded = { tree_code };
 
-    ghost use Rattle.typst_node.specs.View.{tree_of, IsKept};
+    ghost use Rattle.typst_node.specs.View.{tree_of, IsConsistent};
 
     ghost view = { tree_of };
 
-    ghost invariant = { λ a. IsKept a.node };
+    ghost invariant = { λ a. IsConsistent a.node };
 
     ghost size = { count };
 

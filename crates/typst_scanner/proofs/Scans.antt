@@ -130,9 +130,3 @@ scan_end {S} move ahead s bs at h e =
     let here : drop at bs ≡ get_or bs at 0 ∷ drop (at + 1) bs = drop_more bs at 0 h in
     subst (λ (l : List ℕ). move s (take ahead l) ≡ None → scan move ahead s l ≡ 0) (sym here)
     (λ k. ap (λ (o : Option S). elim o as (λ _. ℕ) [ None ↦ 0 | Some t ↦ suc (scan move ahead t (drop (at + 1) bs)) ]) k) e
-
--- the first block of a text that has a byte
-pub scanned_start : {S : Type 0} (move : S → List ℕ → Option S) (ahead : ℕ) (begin : List ℕ → S) (text : List ℕ) → 0 < length text
-    → 1 + scan move ahead (begin (take ahead text)) (drop 1 text) ≡ scanned move ahead begin text
-scanned_start move ahead begin [] some = absurd (omega arith)
-scanned_start move ahead begin (b ∷ bs) some = omega arith

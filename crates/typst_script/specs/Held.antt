@@ -4,6 +4,6 @@ use Rattle.typst_script.specs.declared.tree.State.{State}
 use Rattle.typst_script.specs.declared.tree.State.TheVariants.{Built, Numbered}
 
 -- the root, whether it was tested or not
-abbrev pub root_of : State → Tree
-root_of (Built root) = root
-root_of (Numbered tree) = tree
+abbrev pub tree_held : State → Tree
+tree_held (Built root) = root
+tree_held (Numbered tree) = tree

@@ -32,9 +32,9 @@ impl Model for ScriptTree {
 
     ghost coded = { tree_code };
 
-    ghost use Rattle.typst_script.specs.Held.{root_of};
+    ghost use Rattle.typst_script.specs.Held.{tree_held};
 
-    ghost view = { λ a. root_of a.state };
+    ghost view = { λ a. tree_held a.state };
 }
 
 /// # From a tree and back

@@ -8,7 +8,7 @@ use Rattle.typst_node.specs.Numbered.{IsNumbered, IsNumberedFor}
 use Rattle.typst_node.specs.Paths.{IsPath, tree_at}
 use Rattle.typst_source.specs.Blocks.{Block, document}
 use Rattle.typst_source.specs.Runs.{IsServed, IsRun, if_edited, edited_text}
-use Rattle.typst_source.specs.Kept.{GoesOn, IsKept, KeepsLabel}
+use Rattle.typst_source.specs.Kept.{GoesOn, StaysThrough, KeepsLabel}
 use Rattle.typst_source.specs.declared.runs.TextEdit.{TextEdit}
 use Rattle.typst_source.specs.declared.runs.Outcome.{Outcome}
 use Rattle.typst_source.specs.declared.runs.Outcome.TheVariants.{Edited, Misfit, Refused}
@@ -69,7 +69,7 @@ module _ (first : List ℕ → Block) where
   served_same edit (Refused error) old new p q s on there = same_tree old new p q s.2 on there
 
   -- the paths that go on lead to nodes with the same labels
-  pub kept_same : (edits : List TextEdit) (outs : List Outcome) (old new : Tree) (p q : List ℕ) → IsKept first old edits outs new p q → IsPath p old → KeepsLabel p q old new
+  pub kept_same : (edits : List TextEdit) (outs : List Outcome) (old new : Tree) (p q : List ℕ) → StaysThrough first old edits outs new p q → IsPath p old → KeepsLabel p q old new
   kept_same [] [] old new p q kept there = same_tree old new p q kept.0 kept.1 there
   kept_same (edit ∷ edits) (out ∷ outs) old new p q kept there =
       let over = served_same edit out old kept.0 p kept.1 kept.2 kept.3 there in

@@ -1,10 +1,9 @@
 -- Sums of extents.
-use Rattle.std.proofs.Common.{◌≡◌, ℕ, zero, suc, max, ◌+◌, ◌-◌, ◌<◌, ◌≤◌, List, [], ◌∷◌, length, take, drop, get_or, refl, ap, sym, subst, arith, length-append, ◌++◌, ◌∙◌}
+use Rattle.std.proofs.Common.{◌≡◌, ℕ, zero, suc, max, ◌+◌, ◌-◌, ◌<◌, ◌≤◌, List, [], ◌∷◌, length, take, drop, get_or, refl, ap, subst, arith, length-append, ◌++◌, ◌∙◌}
 use Rattle.std.specs.List.{AllByRecursion, take-map}
 use Rattle.std.proofs.lemmas.List.{drop-drop}
 use Rattle.typst_source.specs.Blocks.{Block, bytes_of, reach_of, trees_of}
-use Rattle.typst_source.specs.Extents.{extent_of, extents_of, bytes_in, nodes_in, reach_in, AreSums, IsBeginning}
-use Rattle.typst_source.specs.declared.extents.Beginning.{Beginning}
+use Rattle.typst_source.specs.Extents.{extent_of, extents_of, bytes_in, nodes_in, reach_in, AreSums}
 use Rattle.typst_source.specs.declared.extents.Extent.{Extent}
 use Rattle.typst_source.specs.declared.extents.Sums.{Sums}
 
@@ -84,15 +83,4 @@ sums_more es now d s some = record {
   within = omega arith;
   bytes = omega (arith, bytes_more es now.blocks d some, s.bytes);
   nodes = omega (arith, nodes_more es now.blocks d some, s.nodes);
-}
-
--- a beginning stays one where what stands behind it changes
-pub beginning_of : (es fs : List Extent) (b : Beginning) → IsBeginning es b → b.sums.blocks ≤ length fs → take b.sums.blocks fs ≡ take b.sums.blocks es → IsBeginning fs b
-beginning_of es fs b is within same = record {
-  sums_are = record {
-    within = within;
-    bytes = is.sums_are.bytes ∙ ap bytes_in (sym same);
-    nodes = is.sums_are.nodes ∙ ap nodes_in (sym same);
-  };
-  reach_is = is.reach_is ∙ ap reach_in (sym same);
 }

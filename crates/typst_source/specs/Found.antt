@@ -7,10 +7,6 @@ use Rattle.typst_node.specs.Text.{text}
 use Rattle.typst_linked.specs.Place.{Place, subtree}
 use Rattle.typst_linked.specs.Ranges.{begin_of}
 
--- the place of a tree's root
-abbrev pub root_of : Tree → Place
-root_of t = record { root = t; path = [] }
-
 -- the range of the bytes of the node at a place, in the root's text, or none without a place
 abbrev pub IsRangeAt : Option Place → Option (Range ℕ) → Type 0
 IsRangeAt None range = range ≡ None

@@ -20,13 +20,13 @@ GoesOn Misfit old new p q = q ≡ p
 GoesOn (Refused error) old new p q = q ≡ p
 
 -- the path p of the first tree goes on over each edit, and is q at the end
-abbrev pub IsKept : (List ℕ → Block) → Tree → List TextEdit → List Outcome → Tree → List ℕ → List ℕ → Type 0
-IsKept first old [] [] new p q = (new ≡ old) × (q ≡ p)
-IsKept first old (edit ∷ edits) (outcome ∷ outcomes) new p q =
+abbrev pub StaysThrough : (List ℕ → Block) → Tree → List TextEdit → List Outcome → Tree → List ℕ → List ℕ → Type 0
+StaysThrough first old [] [] new p q = (new ≡ old) × (q ≡ p)
+StaysThrough first old (edit ∷ edits) (outcome ∷ outcomes) new p q =
     (mid : Tree) × (between : List ℕ) × IsServed first old edit outcome mid × GoesOn outcome old mid p between
-    × IsKept first mid edits outcomes new between q
-IsKept first old [] (outcome ∷ outcomes) new p q = ⊥
-IsKept first old (edit ∷ edits) [] new p q = ⊥
+    × StaysThrough first mid edits outcomes new between q
+StaysThrough first old [] (outcome ∷ outcomes) new p q = ⊥
+StaysThrough first old (edit ∷ edits) [] new p q = ⊥
 
 -- the path q leads to a node of the new tree, and its label is that of the node at p in the old tree
 abbrev pub KeepsLabel : List ℕ → List ℕ → Tree → Tree → Type 0

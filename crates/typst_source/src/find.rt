@@ -6,7 +6,7 @@ ghost use Rattle.typst_linked.specs.DiagPlaces.{place_in};
 ghost use Rattle.typst_linked.specs.Finds.{FindsSpan};
 ghost use Rattle.typst_linked.specs.Own.{FindsOwn};
 ghost use Rattle.typst_linked.specs.Place.{Place};
-ghost use Rattle.typst_source.specs.Found.{root_of, IsRangeAt};
+ghost use Rattle.typst_source.specs.Found.{IsRangeAt};
 
 use crate::parser::BlockParser;
 use crate::source::Source;
@@ -22,16 +22,16 @@ impl<P: BlockParser + Drop> Source<P> {
     ///
     /// It doesn't read the file of the span. It takes memory for the parents, and fails only if that is refused.
     pub fn find(&self, alloc: Global, span: Span) -> Result<Option<LinkedNode<'_>>, AllocError>
-        ensures found { IfOk result (FindsSpan (span_kind_of span) (root_of self.now)) }
-        ensures own { IfOk result (FindsOwn span (root_of self.now)) }
+        ensures found { IfOk result (FindsSpan (span_kind_of span) (root_place self.now)) }
+        ensures own { IfOk result (FindsOwn span (root_place self.now)) }
     {
         LinkedNode::new(self.root()).find(alloc, span)
     }
 
     /// The bytes, in the text, of the node that a span points to.
     pub fn range(&self, alloc: Global, span: Span) -> Result<Option<Range<usize>>, AllocError>
-        ensures { IfOk result (λ range. (place : Option Place) × FindsSpan (span_kind_of span) (root_of self.now) place
-            × FindsOwn span (root_of self.now) place × IsRangeAt place range) }
+        ensures { IfOk result (λ range. (place : Option Place) × FindsSpan (span_kind_of span) (root_place self.now) place
+            × FindsOwn span (root_place self.now) place × IsRangeAt place range) }
     {
         match self.find(alloc, span)? {
             Some(node) => Ok(Some(node.range())),

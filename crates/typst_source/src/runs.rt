@@ -7,7 +7,7 @@ ghost use Rattle.typst_node.specs.Paths.{IsPath, tree_at};
 ghost use Rattle.typst_node.specs.Plain.{plain};
 ghost use Rattle.typst_node.specs.Text.{text};
 ghost use Rattle.typst_source.specs.Blocks.{document};
-ghost use Rattle.typst_source.specs.Kept.{IsKept, KeepsLabel};
+ghost use Rattle.typst_source.specs.Kept.{StaysThrough, KeepsLabel};
 ghost use Rattle.typst_source.specs.Runs.{IsServed, IsRun, edited_text};
 
 use crate::edited::Edited;
@@ -64,10 +64,10 @@ impl<P: BlockParser + Drop> Source<P> {
         ensures fresh { OnOk result (plain self.new ≡ document P.first (text self.new)) }
         ensures numbered { OnOk result (IsNumberedFor self.old.label.span.file self.new) }
         ensures kept { IfOk result (λ outcomes. (p q : List ℕ) → IsPath p self.old
-            → IsKept P.first self.old edits.now outcomes.items self.new p q
+            → StaysThrough P.first self.old edits.now outcomes.items self.new p q
             → KeepsLabel p q self.old self.new) }
         ensures found_again { IfOk result (λ outcomes. (p q : List ℕ) → IsPath p self.old
-            → IsKept P.first self.old edits.now outcomes.items self.new p q
+            → StaysThrough P.first self.old edits.now outcomes.items self.new p q
             → with_number (number (tree_at p self.old).label) self.new ≡ Some q) }
     {
         // Read for the proof: the tree is numbered, and is that of its text.

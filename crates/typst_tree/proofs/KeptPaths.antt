@@ -10,7 +10,7 @@ use Rattle.typst_tree.specs.declared.session.Slot.{Slot}
 use Rattle.typst_tree.specs.declared.session.Slot.TheVariants.{Ask, Told}
 use Rattle.typst_tree.specs.Step.{Step}
 use Rattle.typst_tree.specs.Run.{Answers}
-use Rattle.typst_tree.specs.Kept.{GoesOnOver, GoesOn, IsKept}
+use Rattle.typst_tree.specs.Kept.{GoesOnOver, GoesOn, StaysThrough}
 
 -- the node at a path of the new tree has the label of the one at a path of the old tree
 abbrev pub SameAt : Tree → Tree → List ℕ → List ℕ → Type 0
@@ -40,7 +40,7 @@ slot_same (Ask request) (Ask again) old new p q step on there = absurd step
 slot_same (Told told) after old new p q step on there = same_tree old new p q step.1 on there
 
 -- over a whole run
-pub kept_same : (befores afters : List Slot) (old new : Tree) (p q : List ℕ) → IsKept old befores afters new p q → IsPath p old → SameAt old new p q
+pub kept_same : (befores afters : List Slot) (old new : Tree) (p q : List ℕ) → StaysThrough old befores afters new p q → IsPath p old → SameAt old new p q
 kept_same [] [] old new p q kept there = same_tree old new p q kept.0 kept.1 there
 kept_same (before ∷ befores) (after ∷ afters) old new p q kept there =
     let first = slot_same before after old kept.0 p kept.1 kept.2 kept.3 there in

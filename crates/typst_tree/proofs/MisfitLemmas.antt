@@ -1,5 +1,5 @@
 -- Edits that fit no inner node, one step of a path at a time.
-use Rattle.std.proofs.Common.{◌≡◌, ◌∙◌, ℕ, suc, ◌+◌, ◌<◌, ◌≤◌, ◌^◌, List, [], ◌∷◌, length, take, get_or, Some, ap, sym, subst, refl, arith}
+use Rattle.std.proofs.Common.{◌≡◌, ◌∙◌, ℕ, suc, ◌+◌, ◌<◌, ◌^◌, List, [], ◌∷◌, length, take, get_or, Some, ap, sym, subst, arith}
 use Rattle.std.specs.Prelude.{slice_get}
 use Rattle.std.proofs.lemmas.Option.{slice_get_within, get_or_from_slice_get}
 use Rattle.typst_node.specs.Tree.{Tree, trees}
@@ -33,10 +33,3 @@ misfit_above above path i rest from to t c kids e is hk s h =
     let l : i < length (trees t.children) = subst (λ (ks : List Tree). i < length ks) hk (slice_get_within kids i c s) in
     let same : c ≡ get_or (trees t.children) i no_tree = sym (get_or_from_slice_get kids i c no_tree s) ∙ ap (λ (ks : List Tree). get_or ks i no_tree) hk in
     subst (λ (p : List ℕ). IsMisfitBelow above p from to t e) (sym is) (misfit_cons above i rest from to t e l (subst (λ (u : Tree). IsMisfitBelow (above + 1) rest from to u e) same h))
-
--- a step that leads to no child
-pub misfit_here : (above : ℕ) (path : List ℕ) (i : ℕ) (rest : List ℕ) (from to : ℕ) (t : Tree) (kids : List Tree) (count : ℕ) → path ≡ i ∷ rest → kids ≡ trees t.children → count ≡ length kids → count ≤ i
-    → IsMisfitBelow above path from to t (NoNode above i count)
-misfit_here above path i rest from to t kids count is hk all out =
-    subst (λ (p : List ℕ). IsMisfitBelow above p from to t (NoNode above i count)) (sym is)
-    (0, omega arith, record { leads = tt; next = refl; count = all ∙ ap length hk; lacks = out })

@@ -29,12 +29,12 @@ GoesOn (Ask request) (Ask again) old new p q = q ≡ p
 GoesOn (Told told) after old new p q = q ≡ p
 
 -- the path p of the first tree goes on over each slot, and is q at the end
-abbrev pub IsKept : Tree → List Slot → List Slot → Tree → List ℕ → List ℕ → Type 0
-IsKept old [] [] new p q = (new ≡ old) × (q ≡ p)
-IsKept old (before ∷ befores) (after ∷ afters) new p q =
-    (mid : Tree) × (between : List ℕ) × Answers old before after mid × GoesOn before after old mid p between × IsKept mid befores afters new between q
-IsKept old [] (after ∷ afters) new p q = ⊥
-IsKept old (before ∷ befores) [] new p q = ⊥
+abbrev pub StaysThrough : Tree → List Slot → List Slot → Tree → List ℕ → List ℕ → Type 0
+StaysThrough old [] [] new p q = (new ≡ old) × (q ≡ p)
+StaysThrough old (before ∷ befores) (after ∷ afters) new p q =
+    (mid : Tree) × (between : List ℕ) × Answers old before after mid × GoesOn before after old mid p between × StaysThrough mid befores afters new between q
+StaysThrough old [] (after ∷ afters) new p q = ⊥
+StaysThrough old (before ∷ befores) [] new p q = ⊥
 
 -- the path q leads to a node of the new tree, and its label is that of the node at p in the old tree
 abbrev pub KeepsLabel : List ℕ → List ℕ → Tree → Tree → Type 0

@@ -1,5 +1,5 @@
 -- What a request does to a numbered tree, and which reply it gets.
-use Rattle.std.specs.Prelude.{◌≡◌, [], Some, None}
+use Rattle.std.specs.Prelude.{◌≡◌, Some, None}
 use Rattle.typst_base.specs.Span.{SpanParts}
 use Rattle.typst_base.specs.SpanKind.{span_kind_of}
 use Rattle.typst_node.specs.Tree.{Tree}
@@ -8,7 +8,7 @@ use Rattle.typst_node.specs.Paths.{tree_at}
 use Rattle.typst_node.specs.Edit.{Edit, Fits, IsUnfiled, edit_of}
 use Rattle.typst_node.specs.Accepted.{IsAccepted}
 use Rattle.typst_node.specs.Refusals.{IsRefusedBy}
-use Rattle.typst_linked.specs.Place.{Place}
+use Rattle.typst_linked.specs.Place.{root_place}
 use Rattle.typst_linked.specs.Finds.{FindsSpan, AreLooksForSpan, HasLookEachStepFor}
 use Rattle.typst_tree.specs.declared.session.Request.{Request}
 use Rattle.typst_tree.specs.declared.session.Request.TheVariants.{Replace, Find}
@@ -25,21 +25,17 @@ ReplaceStep e old (Found p o l) new = ⊥
 ReplaceStep e old (NotFound l) new = ⊥
 ReplaceStep e old NoMemory new = ⊥
 
--- the place of a tree's root
-abbrev pub root_of : Tree → Place
-root_of t = record { root = t; path = [] }
-
 -- A search gives the answer of the plain search from the root, with its looks, or says that memory was refused. It
 -- changes nothing.
 abbrev pub FindStep : SpanParts → Tree → Reply → Tree → Type 0
 FindStep span old (Found path o looks) new =
     (new ≡ old)
-    × FindsSpan (span_kind_of span) (root_of old) (Some (record { root = old; path = path.items }))
+    × FindsSpan (span_kind_of span) (root_place old) (Some (record { root = old; path = path.items }))
     × (o ≡ offset path.items old)
-    × AreLooksForSpan (span_kind_of span) (root_of old) looks
-    × HasLookEachStepFor (span_kind_of span) (root_of old) looks (Some (record { root = old; path = path.items }))
+    × AreLooksForSpan (span_kind_of span) (root_place old) looks
+    × HasLookEachStepFor (span_kind_of span) (root_place old) looks (Some (record { root = old; path = path.items }))
 FindStep span old (NotFound looks) new =
-    (new ≡ old) × FindsSpan (span_kind_of span) (root_of old) None × AreLooksForSpan (span_kind_of span) (root_of old) looks
+    (new ≡ old) × FindsSpan (span_kind_of span) (root_place old) None × AreLooksForSpan (span_kind_of span) (root_place old) looks
 FindStep span old NoMemory new = new ≡ old
 FindStep span old Misfit new = ⊥
 FindStep span old (Refused e) new = ⊥

@@ -8,7 +8,7 @@ ghost use Rattle.typst_node.specs.Numbered.{IsNumbered, IsNumberedFor};
 ghost use Rattle.typst_node.specs.Numbering.{IsNumbering, IsTooShort};
 ghost use Rattle.typst_node.specs.Paths.{IsPath, tree_at};
 ghost use Rattle.typst_node.specs.Plain.{plain};
-ghost use Rattle.typst_tree.specs.Kept.{IsKept, KeepsLabel};
+ghost use Rattle.typst_tree.specs.Kept.{StaysThrough, KeepsLabel};
 ghost use Rattle.typst_tree.specs.Reads.{ReadsAs};
 ghost use Rattle.typst_tree.specs.Run.{Run, edited_by};
 ghost use Rattle.typst_tree.specs.Step.{Step};
@@ -162,10 +162,10 @@ impl NumberedTree {
         ensures plain { plain self.new ≡ plain (edited_by slots.old slots.new self.old) }
         ensures reads { ReadsAs self.new (edited_by slots.old slots.new self.old) }
         ensures kept { (p q : List ℕ) → IsPath p self.old
-            → IsKept self.old slots.old slots.new self.new p q
+            → StaysThrough self.old slots.old slots.new self.new p q
             → KeepsLabel p q self.old self.new }
         ensures found_again { (p q : List ℕ) → IsPath p self.old
-            → IsKept self.old slots.old slots.new self.new p q
+            → StaysThrough self.old slots.old slots.new self.new p q
             → with_number (number (tree_at p self.old).label) self.new ≡ Some q }
     {
         session::run(alloc, &mut self.root, slots);

@@ -7,7 +7,7 @@ ghost use Rattle.typst_node.specs.Paths.{IsPath, tree_at};
 ghost use Rattle.typst_node.specs.Plain.{plain};
 ghost use Rattle.typst_tree.specs.Step.{Step};
 ghost use Rattle.typst_tree.specs.Found.{TellsPlace};
-ghost use Rattle.typst_tree.specs.Kept.{IsKept, KeepsLabel};
+ghost use Rattle.typst_tree.specs.Kept.{StaysThrough, KeepsLabel};
 ghost use Rattle.typst_tree.specs.Reads.{ReadsAs};
 ghost use Rattle.typst_tree.specs.Run.{Answers, Run, edited_by};
 ghost use Rattle.typst_tree.specs.declared.session.Request.TheVariants.{Find, Replace};
@@ -95,10 +95,10 @@ pub fn run(alloc: Global, root: &mut SyntaxNode, slots: &mut [Slot])
     ensures plain { plain root.new ≡ plain (edited_by slots.old slots.new root.old) }
     ensures reads { ReadsAs root.new (edited_by slots.old slots.new root.old) }
     ensures kept { (p q : List ℕ) → IsPath p root.old
-        → IsKept root.old slots.old slots.new root.new p q
+        → StaysThrough root.old slots.old slots.new root.new p q
         → KeepsLabel p q root.old root.new }
     ensures found_again { (p q : List ℕ) → IsPath p root.old
-        → IsKept root.old slots.old slots.new root.new p q
+        → StaysThrough root.old slots.old slots.new root.new p q
         → with_number (number (tree_at p root.old).label) root.new ≡ Some q }
 {
     for slot in slots.iter_mut() {

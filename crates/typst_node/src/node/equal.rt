@@ -1,6 +1,6 @@
 // Equality of whole trees.
 ghost use Rattle.std.specs.Prelude.{◌≡◌, ◌↔◌, IsTrue};
-ghost use Rattle.typst_node.specs.View.{content, below, IsKept};
+ghost use Rattle.typst_node.specs.View.{content, below, IsConsistent};
 
 use crate::node::spanless::{same_hints, same_kind, same_warnings};
 use crate::node::{Node, SyntaxNode};
@@ -22,8 +22,8 @@ impl SyntaxNode {
 impl Node {
     #[cycle(same)]
     fn same(&self, other: &Node) -> bool
-        requires kept { IsKept self.now }
-        requires other { IsKept other.now }
+        requires kept { IsConsistent self.now }
+        requires other { IsConsistent other.now }
         ensures { IsTrue result ↔ ((content self.now ≡ content other.now) × (below self.now ≡ below other.now)) }
     {
         match self {

@@ -13,7 +13,7 @@ ghost use Rattle.typst_node.specs.Edit.{Fits, IsNumberedOrUnfiled, edit_of};
 ghost use Rattle.typst_node.specs.Accepted.{IsAccepted};
 ghost use Rattle.typst_node.specs.Refusals.{IsRefusedBy};
 ghost use Rattle.typst_node.specs.EditBelow.{child_of};
-ghost use Rattle.typst_node.specs.Errand.{FitsAt, IsDone, IsErrand, edited_by};
+ghost use Rattle.typst_node.specs.Errand.{FitsAt, IsCarriedOut, IsErrand, edited_by};
 
 use crate::node::inner::{Sums, sums_of};
 use crate::node::replace::{Renumbered, ReplaceError, Splice};
@@ -41,7 +41,7 @@ impl Errand {
         ensures misfit { IfNone self.new.answer (node.new ≡ node.old) }
         ensures err { IfSome self.new.answer (λ answer. OnErr answer (node.new ≡ node.old)) }
         ensures label { node.new.label ≡ node.old.label }
-        ensures done { IsDone self.old self.new node.old node.new }
+        ensures done { IsCarriedOut self.old self.new node.old node.new }
     {
         let (from, to) = (self.edit.from, self.edit.to);
         let empty = Vec::new(*self.edit.others.allocator());
@@ -71,7 +71,7 @@ impl SyntaxNode {
         ensures misfit { IfNone errand.new.answer (self.new ≡ self.old) }
         ensures err { IfSome errand.new.answer (λ answer. OnErr answer (self.new ≡ self.old)) }
         ensures frame { StaysBeside path.now self.old self.new }
-        ensures at { IsDone errand.old errand.new (tree_at path.now self.old) (tree_at path.now self.new) }
+        ensures at { IsCarriedOut errand.old errand.new (tree_at path.now self.old) (tree_at path.now self.new) }
     {
         match path.split_first() {
             None => errand.arrive(self),
@@ -114,7 +114,7 @@ impl InnerNode {
             (child_of self.new.children.items index) }
         ensures frame { StaysBeside path.now (child_of self.old.children.items index)
             (child_of self.new.children.items index) }
-        ensures at { IsDone errand.old errand.new (tree_at path.now (child_of self.old.children.items index))
+        ensures at { IsCarriedOut errand.old errand.new (tree_at path.now (child_of self.old.children.items index))
             (tree_at path.now (child_of self.new.children.items index)) }
     {
         let gone = self.children[index].measures();

@@ -2,7 +2,7 @@
 ghost use Rattle.std.specs.Prelude.{◌≡◌, ◌↔◌, IsTrue, map, string_bytes};
 ghost use Rattle.typst_node.specs.Plain.{plain, unbounded};
 ghost use Rattle.typst_node.specs.Tree.{AsLeaf};
-ghost use Rattle.typst_node.specs.View.{hint_text, warning_text, content, below, IsKept};
+ghost use Rattle.typst_node.specs.View.{hint_text, warning_text, content, below, IsConsistent};
 
 use crate::node::{Hint, Node, SyntaxNode, Warning};
 use crate::short_text::text_in;
@@ -59,7 +59,7 @@ pub(super) fn same_warnings(warnings: &[Warning], others: &[Warning]) -> bool
 impl Node {
     /// Whether this is a leaf of that kind with that text, however the text is kept.
     pub(super) fn is_leaf_of(&self, kind: SyntaxKind, text: &str) -> bool
-        requires { IsKept self.now }
+        requires { IsConsistent self.now }
         ensures { IsTrue result ↔ (content self.now ≡ AsLeaf kind text.now) }
     {
         match self {
@@ -110,8 +110,8 @@ impl SyntaxNode {
 impl Node {
     #[cycle(alike)]
     fn spanless_eq(&self, other: &Node) -> bool
-        requires kept { IsKept self.now }
-        requires other { IsKept other.now }
+        requires kept { IsConsistent self.now }
+        requires other { IsConsistent other.now }
         ensures { IsTrue result ↔ ((unbounded (content self.now) ≡ unbounded (content other.now))
             × (map plain (below self.now) ≡ map plain (below other.now))) }
     {

@@ -2,7 +2,7 @@
 ghost use Rattle.std.specs.Prelude.{◌≡◌, ◌<◌, ◌∷◌, ◌++◌, ◌↔◌, [], length, map, None, string_bytes, vec_len, IfOk, IsTrue, OnErr, OnOk};
 ghost use Rattle.typst_node.specs.Hints.{error_tree, hint_for, hint_outermost, hinted, plain_hints, CanHint};
 ghost use Rattle.typst_node.specs.Warnings.{part_for, warned, warning, FitsRange};
-ghost use Rattle.typst_node.specs.View.{below, content, hint_text, shown_warnings, warning_text, warnings_in, IsKept};
+ghost use Rattle.typst_node.specs.View.{below, content, hint_text, shown_warnings, warning_text, warnings_in, IsConsistent};
 
 use crate::node::{ErrorNode, Hint, LeafNode, Node, SyntaxNode, Warning};
 use crate::short_text::text_in;
@@ -195,8 +195,8 @@ impl Node {
     /// Adds a warning to the node, outside its other warnings. A short leaf gets a list for it.
     #[tactic(auto, using(crate::proofs::Measured::measured_under))]
     fn push_warning(&mut self, alloc: Global, warning: Warning) -> Result<(), AllocError>
-        requires { IsKept self.old }
-        ensures kept { IsKept self.new }
+        requires { IsConsistent self.old }
+        ensures kept { IsConsistent self.new }
         ensures content { content self.new ≡ content self.old }
         ensures below { below self.new ≡ below self.old }
         ensures ok { OnOk result (shown_warnings (warnings_in self.new)
@@ -225,9 +225,9 @@ impl Node {
     /// Adds a hint after the other hints of the outermost warning.
     #[tactic(auto, using(crate::proofs::Measured::measured_under))]
     fn hint_outermost(&mut self, hint: Hint) -> Result<(), AllocError>
-        requires kept { IsKept self.old }
+        requires kept { IsConsistent self.old }
         requires warned { 0 < length (warnings_in self.old) }
-        ensures kept { IsKept self.new }
+        ensures kept { IsConsistent self.new }
         ensures content { content self.new ≡ content self.old }
         ensures below { below self.new ≡ below self.old }
         ensures ok { OnOk result (shown_warnings (warnings_in self.new)

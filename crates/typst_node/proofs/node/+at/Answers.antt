@@ -5,7 +5,7 @@ use Rattle.typst_node.specs.declared.node.Node.TheVariants.{Inner}
 use Rattle.typst_node.specs.Tree.{Tree, trees}
 use Rattle.typst_node.specs.Count.{SumsFit}
 use Rattle.typst_node.specs.Text.{text, text_of_all}
-use Rattle.typst_node.specs.View.{tree_of, IsKept}
+use Rattle.typst_node.specs.View.{tree_of, IsConsistent}
 use Rattle.typst_node.specs.PlainEdit.{edited_at, FitsInner}
 use Rattle.typst_node.specs.Paths.{StaysBeside, no_tree}
 use Rattle.typst_node.specs.EditBelow.{IsEdit, child_of}
@@ -118,7 +118,7 @@ pub SyntaxNode::replace_below-overflow_sub-beside : goal.SyntaxNode::replace_bel
 SyntaxNode::replace_below-overflow_sub-beside t c =
     let old = c.in-Inner.inner.value.children.items in
     let i = c.in-Some.index.now in
-    let kept : IsKept (Inner c.in-Inner.field-0 c.in-Inner.len c.in-Inner.inner) = subst IsKept c.in-Inner.is c.self.invariant in
+    let kept : IsConsistent (Inner c.in-Inner.field-0 c.in-Inner.len c.in-Inner.inner) = subst IsConsistent c.in-Inner.is c.self.invariant in
     let there : i < length old = omega (arith, c.if-index-len.false, ap (λ b. length b.children.items) c.deref.ensures) in
     let was = c.index.result.now in
     let was_is : was ≡ get_or old i was = c.index.ensures ∙ ap (λ b. get_or b.children.items i was) c.deref-in-Inner-2.ensures in
@@ -128,7 +128,7 @@ pub SyntaxNode::replace_below-overflow_add-len : goal.SyntaxNode::replace_below-
 SyntaxNode::replace_below-overflow_add-len t c =
     let old = c.in-Inner.inner.value.children.items in
     let i = c.in-Some.index.now in
-    let kept : IsKept (Inner c.in-Inner.field-0 c.in-Inner.len c.in-Inner.inner) = subst IsKept c.in-Inner.is c.self.invariant in
+    let kept : IsConsistent (Inner c.in-Inner.field-0 c.in-Inner.len c.in-Inner.inner) = subst IsConsistent c.in-Inner.is c.self.invariant in
     let there : i < length old = omega (arith, c.if-index-len.false, ap (λ b. length b.children.items) c.deref.ensures) in
     let was = c.index.result.now in
     let was_is : was ≡ get_or old i was = c.index.ensures ∙ ap (λ b. get_or b.children.items i was) c.deref-in-Inner-2.ensures in
@@ -144,7 +144,7 @@ pub SyntaxNode::replace_below-invariant_of-self-in-Inner-1 : goal.SyntaxNode::re
 SyntaxNode::replace_below-invariant_of-self-in-Inner-1 t c =
     let old = c.in-Inner.inner.value.children.items in
     let i = c.in-Some.index.now in
-    let kept : IsKept (Inner c.in-Inner.field-0 c.in-Inner.len c.in-Inner.inner) = subst IsKept c.in-Inner.is c.self.invariant in
+    let kept : IsConsistent (Inner c.in-Inner.field-0 c.in-Inner.len c.in-Inner.inner) = subst IsConsistent c.in-Inner.is c.self.invariant in
     let there : i < length old = omega (arith, c.if-index-len.false, ap (λ b. length b.children.items) c.deref.ensures) in
     let was = c.index.result.now in
     let was_is : was ≡ get_or old i was = c.index.ensures ∙ ap (λ b. get_or b.children.items i was) c.deref-in-Inner-2.ensures in
