@@ -9,19 +9,18 @@ use crate::halving::first_ending;
 use crate::looks::Looks;
 use typst_node::SyntaxNode;
 
-/// A node with at most this many children doesn't keep their ends.
-const FEW: usize = 10;
+/// Up to this many children are read one after the other, which takes less time than binary search among so few.
+const IN_ORDER: usize = 10;
 
 /// The first child whose text ends at or after a goal, and where that text begins. The goal is in bytes from the
-/// beginning of the children's text. Few children are read one after the other, because binary search would add up
-/// their lengths again and again.
+/// beginning of the children's text.
 pub(crate) fn child_ending(node: &SyntaxNode, goal: usize) -> Option<Part>
     ensures found { MatchOption result (EndsBefore goal (trees node.now.children))
         (IsFirstEnding goal (trees node.now.children)) }
     ensures no_text { HasNoOwnText node.now }
 {
     let count = node.child_slice().len();
-    if count > FEW {
+    if count > IN_ORDER {
         return first_ending(node, goal, &mut Looks::new());
     }
     let mut begin = 0;

@@ -104,7 +104,7 @@ impl SyntaxNode {
     }
 
     /// The hint at a keyword, if an identifier or a pattern was expected.
-    #[tactic(auto, using(crate::proofs::ConvertedLemmas::no_keyword_hints, crate::proofs::ConvertedLemmas::a_keyword_hint))]
+    #[tactic(auto, using(crate::proofs::ConvertedLemmas::no_hint, crate::proofs::ConvertedLemmas::one_hint))]
     fn keyword_hint(&self, alloc: Global, what: &str) -> Result<Option<Hint>, AllocError>
         ensures { IfOk result (λ hint. map hint_text (option_to_list hint)
             ≡ keyword_hints what.now (kind_of self.now.label.content) (text self.now)) }
