@@ -18,7 +18,7 @@ fn range_of(word: &str) -> Option<Range<usize>> {
     Some(start.parse().ok()?..end.parse().ok()?)
 }
 
-/// The text that stands in quotes, with its escapes read.
+/// The text in the quotes, with its escapes read.
 fn unquoted(alloc: Global, quoted: &str) -> Result<Option<String>, AllocError> {
     let Some(inside) = quoted
         .strip_prefix('"')

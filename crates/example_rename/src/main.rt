@@ -35,7 +35,7 @@ fn is_label(parent: &SyntaxNode, index: usize) -> bool
     }
 }
 
-/// The span of the let binding that the name at a path belongs to: the one that it stands in before the `=`, or else
+/// The span of the let binding that the name at a path belongs to: the one in which it comes before the `=`, or else
 /// the nearest before it, in its own block or one around that.
 fn binding_of(
     alloc: Global,

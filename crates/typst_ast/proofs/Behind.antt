@@ -1,4 +1,4 @@
--- The second and the third of a class, by what stands after the first.
+-- The second and the third of a class, by what comes after the first.
 use Rattle.std.proofs.Common.{◌≡◌, true, false, cond, List, [], ◌∷◌, refl}
 use Rattle.typst_ast.specs.Lists.{third_of}
 use Rattle.typst_node.specs.Children.{all_in, behind_first, first_of, second_of}

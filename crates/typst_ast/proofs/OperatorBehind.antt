@@ -16,7 +16,7 @@ use Rattle.typst_node.specs.Tree.{Tree}
 use Rattle.typst_node.specs.Views.{node_kind}
 use denote.Enum.Bare.{same_true}
 
--- that of the first node that is a binary operator, else `+`; the flag says whether a `not` stands before the list
+-- that of the first node that is a binary operator, else `+`; the flag says whether a `not` comes before the list
 abbrev pub binary_operator_behind : Bool → List Tree → BinOp
 binary_operator_behind negated [] = Add
 binary_operator_behind negated (t ∷ ts) =
@@ -48,7 +48,7 @@ or_false : (v : Bool) → (v || false) ≡ v
 or_false true = refl
 or_false false = refl
 
--- so nothing stands there where a token is no operator
+-- so there is nothing if a token is no operator
 no_operator_at : (n : Bool) (k : SyntaxKind) → binary_operator_of k ≡ None → binary_operator_at n k ≡ None
 no_operator_at n k h =
     ap (λ v. cond v (Some NotIn) (binary_operator_of k)) (and_false n (is_kind kinds.In k) (no_operator_is_not_in k h)) ∙ h

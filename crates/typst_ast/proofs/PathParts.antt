@@ -13,7 +13,7 @@ last_by : (v : Bool) (o : Option (List ℕ)) (x : List ℕ) (ps : List (List ℕ
 last_by true o x ps = refl
 last_by false o x ps = refl
 
--- the part before the first slash, and what stands after it
+-- the part before the first slash, and what comes after it
 pub last_before_slash : (o : Option (List ℕ)) (path front back : List ℕ) → position_or_len (λ b. b == 47) path < length path → front ≡ before_first (λ b. b == 47) path → back ≡ after_first (λ b. b == 47) path
     → last_or (cond (is_part front) (Some front) o) (path_parts back) ≡ last_or o (path_parts path)
 last_before_slash o path front back h f b =

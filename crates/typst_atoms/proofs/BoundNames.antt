@@ -128,7 +128,7 @@ items_step t ts =
     let P : Bool → Type 0 = λ v. (v ≡ false → names_of_item names_bound t ≡ []) → flat_map (names_of_item names_bound) (cond v (t ∷ all_in is_destructuring_item_kind ts) (all_in is_destructuring_item_kind ts)) ≡ names_of_item names_bound t ++ flat_map (names_of_item names_bound) (all_in is_destructuring_item_kind ts) in
     (elim (is_destructuring_item_kind (node_kind t)) as P [ true ↦ λ h. refl | false ↦ λ h. sym (ap (λ ns. ns ++ flat_map (names_of_item names_bound) (all_in is_destructuring_item_kind ts)) (h refl)) ]) none
 
--- the same with the names that stand before them
+-- the same with the names that come before them
 pub items_step_behind : (A : List (Option Tree)) (ts us : List Tree) (t : Tree) (added all : List (Option Tree)) → ts ≡ t ∷ us → added ≡ A ++ map Some (names_of_item names_bound t)
     → A ++ map Some (flat_map (names_of_item names_bound) (all_in is_destructuring_item_kind ts)) ≡ all
     → added ++ map Some (flat_map (names_of_item names_bound) (all_in is_destructuring_item_kind us)) ≡ all

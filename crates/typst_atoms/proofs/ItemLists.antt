@@ -126,7 +126,7 @@ step_past b arg semi hash start all ts t e a v s w h i =
     ap (λ x. ends_in_semicolon (items_in x ts)) h
     ∙ (sym (ends_in_semicolon-later b t ts (sym a ∙ v) (sym s ∙ w)) ∙ (ap (λ xs. ends_in_semicolon (items_in b xs)) (sym e) ∙ i))
 
--- each of them is an item also where no hash stands before
+-- each of them is an item even if no hash comes before it
 item_behind_none : (b : Bool) (k : SyntaxKind) → is_item b k ≡ true → is_item false k ≡ true
 item_behind_none b k h =
     elim (is_kind kinds.Semicolon k) as (λ v. cond v (not b) (is_separator_kind k || is_arg_kind k) ≡ true → cond v true (is_separator_kind k || is_arg_kind k) ≡ true) [

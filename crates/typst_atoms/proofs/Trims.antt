@@ -142,7 +142,7 @@ module _ (R Q : List ℕ → Option ℕ → Type 0) (weaker : (s : List ℕ) (o 
   pub weaker_trim : (s r : List ℕ) → IsTrimEndMatches R s r → IsTrimEndMatches Q s r
   weaker_trim s r h = ((h.0.0, weaker_cuts s h.0.0 r h.0.1), (h.1.0, weaker r h.1.0 h.1.1, h.1.2))
 
--- where the trimmed text ends, the text may be cut, and the ending stands after it
+-- where the trimmed text ends, the text may be cut, and the ending comes after it
 module _ (p : ℕ → Bool) (bs r : List ℕ) (e : r ≡ without_trailing p bs) where
   length-trimmed : length r ≡ length bs - suffix_len p bs
   length-trimmed = ap length e ∙ length-take-le (length bs - suffix_len p bs) bs (omega arith)

@@ -14,7 +14,7 @@ unescaped_skips zero cs = refl
 unescaped_skips (suc k) [] = refl
 unescaped_skips (suc k) (c ∷ cs) = unescaped_skips k cs
 
--- what a step over an escape tells: n characters, `escape`, belong to the backslash c, and `behind` stand after them
+-- what a step over an escape tells: n characters, `escape`, belong to the backslash c, and `behind` comes after them
 pub escape_more : (read old cs escape behind : List ℕ) (c n : ℕ) (o : Option ℕ) → c ≡ 92 → n ≡ escape_len cs → escape ≡ take n cs → behind ≡ drop n cs → o ≡ escape_char cs → read ≡ old ++ encodes (char_or (92 ∷ escape) o) → read ++ encodes (unescaped 0 behind) ≡ old ++ encodes (unescaped 0 (c ∷ cs))
 escape_more read old cs escape behind c n o e1 e2 e3 e4 e5 e6 =
     rw (e6, e5, e4, e3, e2, e1, append_assoc, ← encodes-append, ← unescaped_skips (escape_len cs) cs)

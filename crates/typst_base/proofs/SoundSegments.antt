@@ -1,4 +1,4 @@
--- The first invalid segment, found one segment after another, is the one that stands behind sound ones.
+-- The first invalid segment, found one segment after another, is the one that comes after sound ones.
 use Rattle.std.proofs.Common.{◌≡◌, ◌↔◌, ◌⊎◌, None, Some, ℕ, ◌≤◌, List, [], ◌∷◌, ◌++◌, refl, ap, sym, ◌∙◌, subst, arith, inl, inr}
 use Rattle.std.proofs.lemmas.Bool.Decides.{nat_tests, leb_tells}
 use Rattle.std.specs.List.{fold}
@@ -14,7 +14,7 @@ end_from low segments = fold (λ _ segment. segment.end) low segments
 abbrev pub Fits : ℕ → Range ℕ → Type 0
 Fits low segment = (low ≤ segment.start) × (segment.start ≤ segment.end)
 
--- each segment is sound behind those before it, the first behind a place
+-- each segment is sound after those before it, the first after a place
 abbrev pub AllFit : ℕ → List (Range ℕ) → Type 0
 AllFit low segments =
     (before rest : List (Range ℕ)) (segment : Range ℕ) → segments ≡ before ++ (segment ∷ rest) → Fits (end_from low before) segment
@@ -35,7 +35,7 @@ invalid_here low r rest h = grind (arith, nat_tests, h)
 invalid_later : (low : ℕ) (r : Range ℕ) (rest : List (Range ℕ)) → Fits low r → first_invalid low (r ∷ rest) ≡ first_invalid r.end rest
 invalid_later low r rest h = grind (arith, nat_tests, h)
 
--- the others are sound behind the first
+-- the others are sound after the first
 fit_behind : (low : ℕ) (r : Range ℕ) (rs : List (Range ℕ)) → AllFit low (r ∷ rs) → AllFit r.end rs
 fit_behind low r rs h before rest s e = h (r ∷ before) rest s (ap (λ xs. r ∷ xs) e)
 
@@ -56,13 +56,13 @@ none_sound low (r ∷ rs) h before rest s e =
         let parts : rs ≡ before ++ (s ∷ rest) = cc in
         subst (λ (y : Range ℕ). Fits (end_from y.end before) s) same (others before rest s parts)
 
--- behind sound segments, one that isn't is the first invalid one
+-- after sound segments, one that isn't is the first invalid one
 pub first_unsound : (low : ℕ) (sound rest : List (Range ℕ)) (s : Range ℕ) → AllFit low sound → ¬ (Fits (end_from low sound) s) → first_invalid low (sound ++ (s ∷ rest)) ≡ Some s
 first_unsound low [] rest s fit bad = invalid_here low s rest bad
 first_unsound low (r ∷ sound) rest s fit bad =
     invalid_later low r (sound ++ (s ∷ rest)) (fit [] sound r refl) ∙ first_unsound r.end sound rest s (fit_behind low r sound fit) bad
 
--- and the first invalid one stands behind sound ones
+-- and the first invalid one comes after sound ones
 abbrev pub Stands : ℕ → List (Range ℕ) → Range ℕ → Type 0
 Stands low rs s =
     (sound : List (Range ℕ)) × (rest : List (Range ℕ)) × (rs ≡ sound ++ (s ∷ rest)) × AllFit low sound × ¬ (Fits (end_from low sound) s)

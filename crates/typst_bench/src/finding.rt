@@ -23,7 +23,7 @@ pub fn made(alloc: Global, watch: &mut Stopwatch<'_>, asked: Asked<'_>) -> Resul
     Ok(Some(sum))
 }
 
-/// The spans of so many nodes that are spread over the tree.
+/// The spans of this many nodes, spread over the tree.
 fn spans(alloc: Global, tree: &SyntaxNode, count: usize) -> Result<Vec<Span>> {
     let mut all = Vec::new(alloc);
     for node in LinkedNode::new(tree).preorder(alloc)? {

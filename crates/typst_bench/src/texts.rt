@@ -27,7 +27,7 @@ pub struct Edit {
     pub with: &'static str,
 }
 
-/// A text of so many lines.
+/// A text with this many lines.
 pub fn text(alloc: Global, lines: usize) -> Result<String, AllocError> {
     let mut text = String::new(alloc);
     for _ in 0..lines / LINES {

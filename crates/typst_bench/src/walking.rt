@@ -57,7 +57,7 @@ fn backwards(alloc: Global, tree: &SyntaxNode) -> Result<usize> {
     Ok(sum)
 }
 
-/// Walks over the linked children of a node and of all nodes below it, for so many levels.
+/// Walks over the linked children of a node and of all nodes below it, for this many levels.
 fn below(alloc: Global, node: &LinkedNode<'_>, levels: usize) -> Result<usize> {
     let Some(left) = levels.checked_sub(1) else {
         return Ok(0);

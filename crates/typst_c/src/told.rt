@@ -14,7 +14,7 @@ use typst_tree::Renumbered;
 /// The status of a handle that holds nothing.
 pub const NOT_MADE: u32 = 1;
 
-/// The range of children that were numbered anew.
+/// The range of children that an edit numbered anew.
 #[repr(C)]
 #[derive(Clone, Copy, Drop)]
 pub struct Window {
@@ -62,7 +62,7 @@ pub struct Length {
 pub struct ByteRange {
     /// Where the range begins.
     pub start: usize,
-    /// Where they end.
+    /// Where it ends.
     pub end: usize,
 }
 

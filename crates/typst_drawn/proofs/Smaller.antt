@@ -3,7 +3,7 @@ use Rattle.std.specs.Prelude.{ℕ, ◌<◌, ◌+◌, suc, zero, length}
 use Rattle.std.proofs.Common.{arith, get_or}
 use Rattle.typst_node.specs.Tree.{Tree, Forest, none, tree, trees}
 
--- how many nodes stand in the trees
+-- how many nodes are in the trees
 abbrev pub size : Forest → ℕ
 size none = 0
 size (tree label children rest) = suc (size children + size rest)

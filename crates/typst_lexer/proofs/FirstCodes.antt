@@ -5,7 +5,7 @@ use Rattle.std.specs.List.{slice_get}
 use Rattle.std.specs.Str.{chars, continuation_len, lead_bits, chars_after}
 use Rattle.typst_lexer.specs.FirstCodes.{with_byte, code_of_two, code_of_three, code_of_four, first_code}
 
--- the first character, of which so many bytes are still to come
+-- the first character, of which this many bytes are still to come
 abbrev front : ℕ → ℕ → List ℕ → Option ℕ
 front n code bs = slice_get (chars_after n code bs) 0
 

@@ -9,7 +9,7 @@ use Rattle.typst_lexer.specs.Steps.{kind_of, begin, stay}
 use Rattle.typst_lexer.specs.First.{more, last, first_len, first_last}
 use Rattle.typst_lexer.specs.Tokens.{Piece, AreFilled, last_piece, joined, onto, tokens_from, tokens_behind, tokens}
 
--- the first token, and the tokens behind it
+-- the first token, and the tokens after it
 from_step : (s : State) (a : ℕ) (bs : List ℕ)
     → tokens_from s a bs ≡ (let p : Piece = record { kind = kind_of (last s bs).inside; bytes = a ∷ take (more s bs) bs } in p) ∷ tokens_behind (last s bs).behind (drop (more s bs) bs)
 from_step s a [] = refl

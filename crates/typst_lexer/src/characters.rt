@@ -143,7 +143,7 @@ pub fn is_blank_or_end(text: &[u8]) -> bool
     }
 }
 
-/// The text after so many bytes.
+/// The text after its first `many` bytes.
 pub fn behind(text: &[u8], many: usize) -> &[u8]
     ensures { result.now ≡ drop many text.now }
 {

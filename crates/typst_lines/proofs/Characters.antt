@@ -168,7 +168,7 @@ lead_of_three c rest h = ⊎_elim
     (cases_lt c 2048))
     (cases_lt c 128)
 
--- the place behind a character that begins here
+-- the place after a character that begins here
 behind_char : (text : List ℕ) (at b len : ℕ) → IsUtf8 text → at < length text → get_or text at 0 ≡ b → 192 ≤ b → ((c : ℕ) (rest : List ℕ) → get_or (encode c ++ rest) 0 0 ≡ b → len_utf8 c ≡ len) → IsCharBoundary text (at + len)
 behind_char text at b len u less e lead long =
     let le : at ≤ length text = omega arith in

@@ -296,7 +296,7 @@ is_in_line text at le =
           omega (arith, start_is text (line_of text at + 1) more, h.behind more');
     }
 
--- what stands before a place is the first bytes of its line
+-- what comes before a place is the first bytes of its line
 pub before_is : (text : List ℕ) (at : ℕ) → at ≤ length text → line_before text at ≡ take (at - bytes_before text (line_of text at)) (line_bytes text (line_of text at))
 before_is text at le =
     let line = line_of text at in

@@ -6,7 +6,7 @@ use Rattle.typst_lines.specs.LineStarts.{begins_line, starts_between, line_start
 use Rattle.typst_lines.proofs.Picked.{picked-halves, picked-some, picked_within}
 use Rattle.typst_lines.proofs.Seams.{begins-first}
 
--- the line of a place begins there or before, and the next one behind it
+-- the line of a place begins there or before, and the next one after it
 pub record InLine (text : List ℕ) (at line : ℕ) : Type 0 where
   pub inside : line < length (line_starts text)
   pub before : line_start text line ≤ at

@@ -12,7 +12,7 @@ pub length-offsets : (at : ℕ) (ls : List (List ℕ)) → length (offsets at ls
 length-offsets at [] = refl
 length-offsets at (l ∷ ls) = ap suc (length-offsets (at + length l) ls)
 
--- it begins behind those before it
+-- it begins after those before it
 pub get_or-offsets : (at : ℕ) (ls : List (List ℕ)) (k : ℕ) → k < length ls → get_or (offsets at ls) k 0 ≡ at + length (concat (take k ls))
 get_or-offsets at [] k less = absurd (omega arith)
 get_or-offsets at (l ∷ ls) zero less = omega arith
@@ -20,7 +20,7 @@ get_or-offsets at (l ∷ ls) (suc k) less =
     let within : k < length ls = omega arith in
     omega (arith, get_or-offsets (at + length l) ls k within, length-append l (concat (take k ls)))
 
--- and is what stands from there up to the next one
+-- and is the part from there up to the next one
 pub piece : (ls : List (List ℕ)) (k : ℕ) → k < length ls → slice_range (concat ls) (length (concat (take k ls))) (length (concat (take (suc k) ls))) ≡ get_or ls k []
 piece [] k less = absurd (omega arith)
 piece (l ∷ ls) zero less =

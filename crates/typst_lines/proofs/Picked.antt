@@ -25,7 +25,7 @@ range-halves a m b low high =
     let f : a + (m - a) ≡ m = omega arith in
     ap (range_with_len a) e ∙ range-parts a (m - a) (b - m) ∙ ap (λ x. range_with_len a (m - a) ++ range_with_len x (b - m)) f
 
--- ---- what stands in a list of which the first may be left out
+-- ---- what is in a list of which the first may be left out
 within_more : (b : Bool) (a n : ℕ) (rest : List ℕ) (k d : ℕ) → ((j : ℕ) → j < length rest → (a + 1 ≤ get_or rest j d) × (get_or rest j d < a + 1 + n)) → k < length (cond b (a ∷ rest) rest) → (a ≤ get_or (cond b (a ∷ rest) rest) k d) × (get_or (cond b (a ∷ rest) rest) k d < a + suc n)
 within_more true a n rest zero d h l = (omega arith, omega arith)
 within_more true a n rest (suc k) d h l =

@@ -1,4 +1,4 @@
--- A list of numbers that is written in its middle and moved behind it.
+-- A list of numbers that is written in its middle and moved after it.
 use Rattle.std.proofs.Common.{◌≡◌, ℕ, ◌+◌, ◌-◌, ◌<◌, ◌≤◌, List, [], ◌∷◌, ◌++◌, length, map, get_or, set, take, drop, ap, sym, ◌∙◌, arith, ⊎_elim, length-append, length-drop}
 use Rattle.std.proofs.lemmas.List.{append_assoc, set_at, drop_more, get_or_append_left, get_or-append_right, get_or-take, get_or-drop, get_or-map, ext_get_or, length-take-le, length-map, take_at, drop_at, take-append-drop, drop-drop, take_rest}
 use Rattle.std.specs.List.{slice_range}
@@ -53,7 +53,7 @@ in_three a o b old first last e ef el = record {
   inside = omega (arith, ap (λ l. length l) (e ∙ sym (append_assoc a o b)), length-append (a ++ o) b);
 }
 
--- what stands after a middle that is written anew stays, and is moved
+-- what comes after a middle that is written anew stays, and is moved
 pub exchanged : (f : ℕ → ℕ) (a m b written new : List ℕ) (n : ℕ) → written ≡ (a ++ m) ++ b → n ≡ length a + length m → new ≡ take n written ++ map f (drop n written) → new ≡ a ++ (m ++ map f b)
 exchanged f a m b written new n ew en e =
     let long : length (a ++ m) ≡ n = omega (arith, length-append a m) in

@@ -196,7 +196,7 @@ before_edit parts gone view kept now new seam first last end room is are inside 
       inside = omega (arith, k.inside);
     }
 
--- ---- an edit at the seam moves none of those behind it
+-- ---- an edit at the seam moves none of those after it
 module _ (parts : Parts) (gone : List ℕ) (end : ℕ) (is_end : end ≡ length (whole_with parts gone)) where
   far_moved : (far : List ℕ) → map (λ left. end - left) far ≡ starts_behind parts gone
       → map (λ left. end - length gone + length parts.middle.now - left) far ≡ map (moved_place (length gone) (length parts.middle.now)) (starts_behind parts gone)

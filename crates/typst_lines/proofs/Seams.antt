@@ -28,7 +28,7 @@ begins-before front s t i less =
     let l3 : i - 3 < length front = omega arith in
     begins_alike (front ++ s) (front ++ t) i i refl refl refl refl (same i less) (same (i - 1) l1) (same (i - 2) l2) (same (i - 3) l3)
 
--- the byte behind the middle
+-- the byte after the middle
 read_behind : (front middle back : List ℕ) (n k : ℕ) → n ≡ length front + length middle + k → get_or (front ++ (middle ++ back)) n 0 ≡ get_or back k 0
 read_behind front middle back n k e =
     let l1 : length front ≤ n = omega arith in
@@ -41,7 +41,7 @@ read_behind front middle back n k e =
 read_alike : (front gone added back : List ℕ) (i j k : ℕ) → i ≡ length front + length added + k → j ≡ length front + length gone + k → get_or (front ++ (added ++ back)) i 0 ≡ get_or (front ++ (gone ++ back)) j 0
 read_alike front gone added back i j k ei ej = read_behind front added back i k ei ∙ sym (read_behind front gone back j k ej)
 
--- three bytes and more behind the middle
+-- three bytes and more after the middle
 pub begins-behind : (front gone added back : List ℕ) (i j k : ℕ) → i ≡ length front + length added + k → j ≡ length front + length gone + k → 3 ≤ k → begins_line (front ++ (added ++ back)) i ≡ begins_line (front ++ (gone ++ back)) j
 begins-behind front gone added back i j k ei ej three =
     let e0 : eqb i 0 ≡ eqb j 0 = grind (arith, nat_tests) in
@@ -54,7 +54,7 @@ begins-behind front gone added back i j k ei ej three =
     (read_alike front gone added back (i - 2) (j - 2) (k - 2) (omega arith) (omega arith))
     (read_alike front gone added back (i - 3) (j - 3) (k - 3) (omega arith) (omega arith))
 
--- ---- the beginnings of lines in three parts: up to the middle, about it, and behind it
+-- ---- the beginnings of lines in three parts: up to the middle, about it, and after it
 pub three_parts : (text : List ℕ) (from to : ℕ) → from ≤ to → to ≤ length text → line_starts text ≡ starts_between text 0 from ++ (starts_between text from (to + 1) ++ starts_between text (to + 1) (length text + 1))
 three_parts text from to low high =
     let l0 : 0 ≤ from = omega arith in
@@ -67,7 +67,7 @@ three_parts text from to low high =
 pub same_before : (front s t : List ℕ) → starts_between (front ++ s) 0 (length front) ≡ starts_between (front ++ t) 0 (length front)
 same_before front s t = picked-agree (begins_line (front ++ s)) (begins_line (front ++ t)) 0 (length front) (λ i l u. begins-before front s t i u)
 
--- `near`: two bytes behind the middle, or as many as there are
+-- `near`: two bytes after the middle, or as many as there are
 pub same_behind : (front gone added back : List ℕ) (near : ℕ) → near ≡ min (length back) 2
     → starts_between (front ++ (added ++ back)) (length front + length added + near + 1) (length (front ++ (added ++ back)) + 1)
     ≡ map (moved_place (length gone) (length added)) (starts_between (front ++ (gone ++ back)) (length front + length gone + near + 1) (length (front ++ (gone ++ back)) + 1))
@@ -105,7 +105,7 @@ kept parts gone old first last e ef el =
     ef
     (el ∙ ap (λ l. length l) halves)
 
--- ---- those behind are behind what is gone, and fit where the text does
+-- ---- those after it are after what is gone, and fit where the text does
 pub record Movable (parts : Parts) (gone : List ℕ) (start : ℕ) : Type 0 where
   pub behind : length gone ≤ start
   pub later : 0 < start

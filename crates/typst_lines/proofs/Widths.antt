@@ -33,7 +33,7 @@ none_here unit xs at left column k less passed none here high h e =
     goes_on-apart xs at less (here z) (rw same at h))
     (cases_lt k at)
 
--- and none behind, if the next byte goes past it
+-- and none after it, if the next byte goes past it
 pub none_there : (unit : ColumnUnit) (xs : List ℕ) (at left column k : ℕ) → at < length xs → left + sum_by (width unit) (take at xs) ≡ column → ((j : ℕ) → j < at → IsCharBoundary xs j → sum_by (width unit) (take j xs) ≢ column) → (left ≡ 0 → goes_on (get_or xs at 0) ≡ true) → left < width unit (get_or xs at 0) → IsCharBoundary xs k → sum_by (width unit) (take k xs) ≢ column
 none_there unit xs at left column k less passed none here past h e =
     ⊎_elim

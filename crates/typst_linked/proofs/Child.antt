@@ -10,7 +10,7 @@ use Rattle.typst_linked.specs.Linked.{IsAt, place_below}
 use Rattle.typst_node.proofs.PathSteps.{at-push, pushed}
 use Rattle.typst_node.proofs.Offsets.{offset-push, length-text, text_of_all-more, text_of_all-take}
 
--- no text stands at a node that has children
+-- a node that has children has no text of its own
 pub no_own_text : (t c : Tree) (i : ℕ) (kids : List Tree) → kids ≡ trees t.children → (¬ (IsInner t.label.content) → kids ≡ []) → slice_get (trees t.children) i ≡ Some c → length (own_text t.label) ≡ 0
 no_own_text t c i kids e none s = no_text t.label.content (λ out. let k : None ≡ Some c = ap (λ (ks : List Tree). slice_get ks i) (sym (none out) ∙ e) ∙ s in cc)
   where

@@ -27,7 +27,7 @@ use Rattle.typst_linked.proofs.Searching.{Searching, searching_first, searching_
 abbrev pub top : Tree → Place
 top root = record { root = root; path = [] }
 
--- The search stands at this place, whose node's text begins here.
+-- The search is at this place, whose node's text begins here.
 pub record Descent (root node : Tree) (begin wanted looks : ℕ) : Type 0 where
   pub here : Place
   pub search : Searching binary_digits root (top root) here wanted looks
@@ -38,7 +38,7 @@ get_or_there [] i c s = absurd (let s : None ≡ Some c = s in cc)
 get_or_there (t ∷ ts) zero c s = let s : Some t ≡ Some c = s in cc
 get_or_there (t ∷ ts) (suc i) c s = get_or_there ts i c s
 
--- the subtree that is read at a path is the one that stands there
+-- the subtree that is read at a path is the one that is there
 there : (path : List ℕ) (t m : Tree) → at path t ≡ Some m → tree_at path t ≡ m
 there [] t m e = let e : Some t ≡ Some m = e in cc
 there (i ∷ path) t m e =

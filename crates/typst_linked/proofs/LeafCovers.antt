@@ -70,7 +70,7 @@ text_within (i ∷ q) t m h =
     let x = if_some_value (at q) (slice_get (trees t.children) i) m h in
     omega (arith, offset-cons i q t x.0 m x.1 x.2, text_within q x.0 m x.2, text_of_all-more (trees t.children) i x.0 x.1, text_of_all-take (trees t.children) (i + 1), length-text t)
 
--- two nodes below children of which the first stands before the second
+-- two nodes below children of which the first comes before the second
 apart : (i j : ℕ) (p q : List ℕ) (t c d m n : Tree) → i < j → slice_get (trees t.children) i ≡ Some c → slice_get (trees t.children) j ≡ Some d → at p c ≡ Some m → at q d ≡ Some n →
     offset (i ∷ p) t + length (text m) ≤ offset (j ∷ q) t
 apart i j p q t c d m n l sc sd hc hd =

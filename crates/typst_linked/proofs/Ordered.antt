@@ -1,4 +1,4 @@
--- Where numbers stand in a numbered tree.
+-- Where numbers are in a numbered tree.
 use Rattle.std.proofs.Common.{◌≡◌, ℕ, suc, zero, ◌+◌, ◌<◌, ◌≤◌, inl, inr, List, [], ◌∷◌, length, None, Some, refl, sym, ◌∙◌, ap, subst, arith, length-append}
 use Rattle.std.specs.Prelude.{slice_get}
 use Rattle.std.proofs.lemmas.Bool.{cases_order}
@@ -67,7 +67,7 @@ deeper file j p t m h e =
     let c = child_in_order file t x.0 j h x.1 in
     omega (arith, c.0, (node_in_order file p x.0 m c.2 x.2).0)
 
--- A number from that of a child up to n stands below that child, where each later child's number is above n.
+-- A number from that of a child up to n is below that child, where each later child's number is above n.
 pub narrow : (file : ℕ) (t c : Tree) (i n : ℕ) → IsInOrder file t → slice_get (trees t.children) i ≡ Some c →
     ((k : ℕ) (e : Tree) → i < k → slice_get (trees t.children) k ≡ Some e → n < number e.label) →
     (q : List ℕ) (m : Tree) → at q t ≡ Some m → number c.label ≤ number m.label → number m.label ≤ n → (p : List ℕ) × (q ≡ i ∷ p) × (at p c ≡ Some m)

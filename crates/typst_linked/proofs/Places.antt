@@ -5,7 +5,7 @@ use Rattle.typst_node.specs.Tree.{Tree, trees}
 use Rattle.typst_node.proofs.PathSteps.{pushed}
 use Rattle.typst_linked.specs.Place.{Place, subtree, child_place, last_step}
 
--- one node stands at a place
+-- one node is at a place
 pub same_node : (s n : Tree) (p : Place) → subtree p ≡ Some s → subtree p ≡ Some n → s ≡ n
 same_node s n p hs hn = let e : Some s ≡ Some n = sym hs ∙ hn in cc
 

@@ -237,7 +237,7 @@ pub searching_start : (w : ℕ → ℕ) (s : Tree) (start here : Place) (wanted 
 unfolding searching_first
 searching_start w s start here wanted looks e l h = (searching_first w s start here wanted looks e l (omega arith), λ same. omega arith)
 
--- the node of a search that stands at a number
+-- the node of a search that is at a number
 pub searching_hit : (w : ℕ → ℕ) (s : Tree) (start here : Place) (wanted looks : ℕ) → subtree start ≡ Some s → (x : Searching w s start here wanted looks) → number x.node.label ≡ wanted → HasNumberBelow wanted start here
 searching_hit w s start here wanted looks hs x is = record {
   path = x.done;

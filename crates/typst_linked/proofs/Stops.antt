@@ -94,7 +94,7 @@ stop_below t c i p q s = elim (eqb_tells i i) [
       ∙ (λ x. solid_below t c i (branch p q) s x && is_there is_good (if_some (at q) (s x)))
 ]
 
--- nothing stands after a root
+-- nothing comes after a root
 pub stop_behind-root : (t : Tree) → stop_behind t [] ≡ None
 stop_behind-root t = find_none (is_stop t []) (after_first (is_same_path []) (paths t)) (λ q. refl)
 

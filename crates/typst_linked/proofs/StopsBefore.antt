@@ -41,7 +41,7 @@ or_none : (o : Option (List ℕ)) → option_or o None ≡ o
 or_none None = refl
 or_none (Some p) = refl
 
--- nothing stands before a root
+-- nothing comes before a root
 pub stop_before-root : (t : Tree) → stop_before t [] ≡ None
 stop_before-root t = find_none (is_stop t []) (reverse (before_first (is_same_path []) (paths t))) (λ q. refl)
 

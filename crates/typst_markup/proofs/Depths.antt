@@ -95,7 +95,7 @@ kind_within tokens.ListMarker bs = (tt, tt)
 kind_within tokens.EnumMarker bs = (tt, tt)
 kind_within tokens.Text bs = (tt, tt)
 
--- how deep trees may be where so many more nodes may be open
+-- how deep trees may be if this many more nodes may be open
 abbrev deepest : ℕ → ℕ
 deepest zero = suc (suc zero)
 deepest (suc m) = suc (suc (deepest m))
@@ -140,7 +140,7 @@ ended_within n f ts before g =
 closed_within : (n : ℕ) (f : Frame) (mark : List ℕ) (ts : List Tree) → AreWithin (suc (suc n)) f.before → AreWithin n ts → AreWithin (suc (suc n)) (closed f mark ts)
 closed_within n f mark ts before g = join (suc (suc n)) f.before _ before ((tt, (g, (tt, tt))), tt)
 
--- open nodes and the trees behind them, where so many may be open in all
+-- open nodes and the trees after them, if this many may be open in all
 abbrev Fit : ℕ → List Frame → List Tree → Type 0
 Fit m [] ts = AreWithin (deepest m) ts
 Fit zero (f ∷ fs) ts = ⊥

@@ -26,7 +26,7 @@ split_more l bs [] e = absurd (some bs e)
     some (b ∷ bs) h = step b (is_feed b) (slice_split is_feed bs) h
 split_more l bs (m ∷ ls) e = refl
 
--- the first line, and those behind its line feed
+-- the first line, and those after its line feed
 pub lines_more : (bs line after : List ℕ) → position_or_len is_feed bs < length bs → line ≡ before_first is_feed bs → after ≡ after_first is_feed bs
     → lines bs ≡ some_leaf kinds.Text line ++ (leaf_tree kinds.RawTrimmed (10 ∷ []) ∷ lines after)
 lines_more bs line after within line_is after_is =
@@ -57,7 +57,7 @@ push_line nodes mid new all rest line after mid_is new_is more h =
     ∙ regroup nodes (some_leaf kinds.Text line) (leaf_tree kinds.RawTrimmed (10 ∷ []) ∷ []) (lines after)
     ∙ ap (λ ts. nodes ++ ts) (sym more) ∙ h
 
--- what stands behind a line feed is a text
+-- what comes after a line feed is a text
 pub after_utf8 : (bs after : List ℕ) → IsUtf8 bs → position_or_len is_feed bs < length bs → after ≡ after_first is_feed bs → IsUtf8 after
 after_utf8 bs after utf8 within after_is =
     let feed : get_or bs (position_or_len is_feed bs) 0 ≡ 10 = eqb-true (get_or bs (position_or_len is_feed bs) 0) 10 (passes_at_first is_feed bs 0 within) in

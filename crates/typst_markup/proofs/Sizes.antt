@@ -54,7 +54,7 @@ less_inside before kind ts behind =
 pub inner_fits : (kind : SyntaxKind) (ts : List Tree) → SumsFit (inner_tree kind ts ∷ []) → SumsFit ts
 inner_fits kind ts = fits_less ts (inner_tree kind ts ∷ []) (less_inside [] kind ts [])
 
--- what stands between delimiters, and the node around it
+-- what is between delimiters, and the node around it
 pub closed_fits : (f : Frame) (mark : List ℕ) (ts : List Tree) → SumsFit (closed f mark ts) → SumsFit (mark_leaf f ∷ inner_tree kinds.Markup ts ∷ leaf_tree (mark_kind f.form) mark ∷ []) × SumsFit ts
 closed_fits f mark ts fits =
     let parts : List Tree = mark_leaf f ∷ inner_tree kinds.Markup ts ∷ leaf_tree (mark_kind f.form) mark ∷ [] in
@@ -69,7 +69,7 @@ ended_fits f ts fits =
     let around : SumsFit parts = fits_less parts (ended f ts) (less_inside f.before (node_kind f.form) parts (white_behind (content f ts))) fits in
     (around, fits_less inside parts (less_inside (opening f ts) kinds.Markup inside []) around)
 
--- how many nodes a frame that ends adds to those behind its mark
+-- how many nodes a frame that ends adds to those after its mark
 body_white_by : (ts : List Tree) (o : Option (List Tree × Tree)) → ((p : List Tree × Tree) → o ≡ Some p → ts ≡ p.0 ++ p.1 ∷ []) → count_of_all (body_by ts o) + count_of_all (white_by o) ≡ count_of_all ts
 body_white_by ts None was = omega arith
 body_white_by ts (Some p) was =
@@ -129,7 +129,7 @@ finish_count : (fs : List Frame) (ts : List Tree) → count_of_all (finish fs ts
 finish_count [] ts = omega arith
 finish_count (f ∷ fs) ts = omega (arith, ended_count f (finish fs ts), finish_count fs ts)
 
--- the trees behind the innermost mark
+-- the trees after the innermost mark
 pub finish_fits : (fs : List Frame) (ts : List Tree) → SumsFit (finish fs ts) → SumsFit ts
 finish_fits fs ts =
     fits_less ts (finish fs ts) (record {

@@ -199,7 +199,7 @@ seen_before starts within more n =
     ap (take (length within)) (seen_with_zeros starts n (within ++ more))
     ∙ (take-seen (0 ∷ starts) 0 (length within) (within ++ more) ∙ ap (ends_seen (0 ∷ starts) 0) (take-append_seam within more))
 
--- Ends are moved to another place: each of those behind is counted from where the block begins in which it stands now.
+-- Ends are moved to another place: each end after them is counted from the beginning of the block that it is in now.
 module _ (starts within placed after : List ℕ) (from to many n first : ℕ) (order : from ≤ to) (inside : to ≤ length within)
     (moved : length placed + (to - from) ≡ length within + many) (in_all : length after ≡ length placed) (enough : length after / 256 ≤ first)
     (before : take from placed ≡ take from within) (behind : drop (from + many) placed ≡ drop to within)

@@ -37,7 +37,7 @@ frame_cons path n rest t u olds news is kids same children frame =
     let whole : u ≡ with_children (n ∷ rest) (trees (tree_at (n ∷ rest) u).children) t = λ i. record { label = same i; children = all i } in
     subst (λ (p : List ℕ). u ≡ with_children p (trees (tree_at p u).children) t) (sym is) whole
 
--- whether an edit fits behind the first step
+-- whether an edit fits after the first step
 pub fits_cons : (path : List ℕ) (n : ℕ) (rest : List ℕ) (from to : ℕ) (t : Tree) (olds : List Tree) → path ≡ n ∷ rest → trees t.children ≡ olds → n < length olds → FitsInner path from to t ↔ FitsInner rest from to (get_or olds n no_tree)
 fits_cons path n rest from to t olds is kids there =
     let whole : FitsInner (n ∷ rest) from to t ↔ FitsInner rest from to (get_or (trees t.children) n no_tree) = ((λ h. (h.0.1, h.1, h.2, h.3)), (λ h. ((subst (λ (ts : List Tree). n < length ts) (sym kids) there, h.0), h.1, h.2, h.3))) in

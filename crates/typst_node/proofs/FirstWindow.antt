@@ -14,7 +14,7 @@ use Rattle.typst_node.specs.Room.{HasRoom, new_count}
 use Rattle.typst_node.specs.FirstWindow.{HoldsAll, IsFirst, HasNoFirst, IsFoundSoon, IsCrowded}
 use Rattle.typst_node.proofs.Opens.{fewer_in}
 
--- a window with so many neighbours on each side holds all
+-- a window with this many neighbours on each side holds all
 holds_power : (s : Site) (d : ℕ) → max (length s.before) (length s.behind) < 2 ^ d → HoldsAll s (reach (suc d))
 holds_power s d h = (omega arith, omega arith)
 

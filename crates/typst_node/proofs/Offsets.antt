@@ -79,7 +79,7 @@ offset-cons i path t child s there leads =
 pub offset-root : (t : Tree) → offset [] t ≡ 0
 offset-root t = refl
 
--- what stands before a child of the root
+-- what comes before a child of the root
 offset_child : (i : ℕ) (t c : Tree) → slice_get (trees t.children) i ≡ Some c → offset (i ∷ []) t ≡ length (own_text t.label) + length (text_of_all (take i (trees t.children)))
 offset_child i t c s = omega (arith, offset-cons i [] t c c s refl, offset-root c)
 

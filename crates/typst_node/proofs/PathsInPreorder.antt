@@ -33,7 +33,7 @@ pub at-among : (t : Tree) (path : List ℕ) → at path t ≡ at_among (Some t) 
 at-among t [] = refl
 at-among t (i ∷ path) = refl
 
--- trees side by side that stand in a list from a place on
+-- trees side by side that are in a list from a place on
 abbrev pub StandFrom : List Tree → ℕ → Forest → Type 0
 StandFrom ts i f = (j : ℕ) → slice_get ts (i + j) ≡ slice_get (trees f) j
 
@@ -68,7 +68,7 @@ length-paths t =
 pub contains_map : {A B : Type 0} (f : A → B) (xs : List A) (x : A) → Contains xs x → Contains (map f xs) (f x)
 contains_map f xs x h = (h.0, omega (arith, h.1, length-map xs f), get_or-map f xs h.0 x (f x) h.1 ∙ ap f h.2)
 
--- a path that leads to a node stands in the list
+-- a path that leads to a node is in the list
 pub path_among : (i j : ℕ) (f : Forest) (path : List ℕ) (s : Tree) → if_some (at path) (slice_get (trees f) j) ≡ Some s → Contains (paths_from i f) ((i + j) ∷ path)
 path_among i j none path s h = cc
 path_among i zero (tree l c r) [] s h =

@@ -142,7 +142,7 @@ one_end es ts from to added order inside one is same =
     same ∙ (ap (λ e. take from (ends_from 0 ts) ++ e ∷ []) end
     ∙ (sym (take_more (ends_from 0 ts) from 0 more) ∙ ap (λ n. take n (ends_from 0 ts)) (let e : from + 1 ≡ to = omega arith in e)))
 
--- where one child stands in the place of one of the same length, the ends are right
+-- if a child is replaced by one of the same length, the ends are right
 pub ends_stay : (ends : List ℕ) (ts : List Tree) (from to many gone added : ℕ) → many ≡ 1 → to ≡ suc from → from + many ≤ length ts → gone ≡ added
     → added ≡ length (text_of_all (slice_range ts from (from + many))) → IsStaleList from to many gone ends ts → ends ≡ ends_from 0 ts
 ends_stay ends ts from to many gone added came went inside same is stale =

@@ -140,7 +140,7 @@ impl Interpreter {
         Ok(())
     }
 
-    /// Pops so many nodes, and pushes their parent.
+    /// Pops this many nodes, and pushes their parent.
     fn inner(&mut self, alloc: Global, kind: SyntaxKind, count: u64) -> Result<(), CommandError>
         requires { kind ≢ ErrorKind }
         ensures done { OnOk result (IsDone (Inner kind count) self.old self.new) }
@@ -199,7 +199,7 @@ impl Interpreter {
         }
     }
 
-    /// Pops so many nodes, and queues a replacement by them.
+    /// Pops this many nodes, and queues a replacement by them.
     fn replace(
         &mut self,
         alloc: Global,

@@ -17,12 +17,12 @@ pub(crate) fn assert_status(rt: &impl Abort, shows: &str, status: u8, wanted: u8
     assert_eq!(rt; status, wanted, "{shows}");
 }
 
-/// Asserts a fact that holds after so many calls, or of so many bytes.
+/// Asserts a fact about this many calls or bytes.
 pub(crate) fn assert_after(rt: &impl Abort, count: usize, holds: bool) {
     assert!(rt; holds, "after {count}");
 }
 
-/// Asserts that a script ended as expected when a call failed after so many calls.
+/// Asserts that a script ended as expected when a call failed after this many calls.
 pub(crate) fn assert_done(
     rt: &impl Abort,
     calls: usize,
@@ -32,7 +32,7 @@ pub(crate) fn assert_done(
     assert_eq!(rt; done, wanted, "after {calls} calls");
 }
 
-/// Asserts that a script wrote what is expected when a call failed after so many calls.
+/// Asserts that a script wrote what is expected when a call failed after this many calls.
 pub(crate) fn assert_out(rt: &impl Abort, calls: usize, out: &[u8], wanted: &[u8]) {
     assert_eq!(rt; out, wanted, "after {calls} calls");
 }

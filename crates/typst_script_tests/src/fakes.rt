@@ -13,7 +13,7 @@ pub(crate) struct Failure {
 }
 
 impl Failure {
-    /// The failure of the call after so many calls.
+    /// The failure of the call that comes after this many calls.
     pub(crate) fn after(calls_left: usize, recovers: bool) -> Failure {
         Failure {
             calls_left,
@@ -64,7 +64,7 @@ impl Read for FailingReader<'_> {
     }
 }
 
-/// Gives so many letters, which are stored nowhere before they are read.
+/// Gives this many letters, which are stored nowhere before they are read.
 #[derive(Drop)]
 pub(crate) struct Letters {
     pub(crate) left: usize,

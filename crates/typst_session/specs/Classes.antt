@@ -48,7 +48,7 @@ abbrev pub beside : Bool → ℕ → List Tree → List Tree
 beside false at nodes = take at nodes
 beside true at nodes = drop (at + 1) nodes
 
--- a node of the class is at an index, with so many others of the class on one side of it
+-- a node of the class is at an index, with this many others of the class on one side of it
 pub record IsPicked (class : NodeClass) (index : ℕ) (from_end : Bool) (nodes : List Tree) (at : ℕ) : Type 0 where
   pub there : IsOfClass class nodes at
   pub others : count_by (is_of class) (beside from_end at nodes) ≡ index

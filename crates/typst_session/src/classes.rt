@@ -67,7 +67,7 @@ fn count_of(nodes: &[SyntaxNode], class: NodeClass) -> usize
     count
 }
 
-/// The index of the node of a class that has so many nodes of the class before it.
+/// The index of the node of a class that has this many nodes of the class before it.
 fn index_of(nodes: &[SyntaxNode], class: NodeClass, before: usize) -> Option<usize>
     ensures { MatchOption result (count_by (is_of class) nodes.now ≤ before)
         (λ at. IsOfClass class nodes.now at × (count_by (is_of class) (take at nodes.now) ≡ before)) }
@@ -84,7 +84,7 @@ fn index_of(nodes: &[SyntaxNode], class: NodeClass, before: usize) -> Option<usi
     None
 }
 
-/// The index of the node of a class that has so many others of the class after it.
+/// The index of the node of a class that has this many others of the class after it.
 fn index_from_end(nodes: &[SyntaxNode], class: NodeClass, behind: usize) -> Option<usize>
     ensures { MatchOption result (count_by (is_of class) nodes.now ≤ behind)
         (λ at. IsPicked class behind true nodes.now at) }
@@ -97,7 +97,7 @@ fn index_from_end(nodes: &[SyntaxNode], class: NodeClass, behind: usize) -> Opti
     Some(at)
 }
 
-/// The index of the node of a class that has so many others of the class on one side.
+/// The index of the node of a class that has this many others of the class on one side.
 fn pick(nodes: &[SyntaxNode], class: NodeClass, index: usize, from_end: bool) -> Option<usize>
     ensures { MatchOption result (count_by (is_of class) nodes.now ≤ index)
         (λ at. IsPicked class index from_end nodes.now at) }

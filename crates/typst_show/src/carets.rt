@@ -113,7 +113,7 @@ fn write_excerpt<W: Write>(
     out.write_all(b"\n")
 }
 
-/// Writes so many blanks.
+/// Writes this many blanks.
 fn write_blanks<W: Write>(out: &mut W, count: usize) -> io::Result<()> {
     for _ in 0..count {
         out.write_all(b" ")?;

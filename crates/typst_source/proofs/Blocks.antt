@@ -34,7 +34,7 @@ reach_mono (suc i) zero bs h = absurd (omega arith)
 reach_mono (suc i) (suc j) [] h = omega arith
 reach_mono (suc i) (suc j) (b ∷ bs) h = omega (arith, reach_mono i j bs (omega arith))
 
--- an end at or behind that of the first k blocks is one of those behind them
+-- an end at or after that of the first k blocks is one of those after them
 pub behind_end : (bs : List Block) (k a : ℕ) → a ≤ length bs → bytes_of (take k bs) ≤ bytes_of (take a bs)
     → (i : ℕ) × (i ≤ length (drop k bs)) × (bytes_of (take k bs) + bytes_of (take i (drop k bs)) ≡ bytes_of (take a bs))
 behind_end bs k a h le =
@@ -74,7 +74,7 @@ module _ (first : List ℕ → Block) (laws : AreLaws first) where
   blocks_some [] h = absurd (omega arith)
   blocks_some (t ∷ ts) h = omega arith
 
-  -- the blocks behind some are those of the rest
+  -- the blocks after some are those of the rest
   pub drop_blocks : (k : ℕ) (text : List ℕ) → k ≤ length (blocks first text) → drop k (blocks first text) ≡ blocks first (drop (bytes_of (take k (blocks first text))) text)
   drop_blocks zero text h = refl
   drop_blocks (suc k) text h =

@@ -11,7 +11,7 @@ module _ (first : List ℕ → Block) (laws : AreLaws first) (old new : List ℕ
   pub same_tail : length old - cut.old_end ≡ length new - cut.new_end
   same_tail = omega (arith, ap length is.behind, length-drop cut.old_end old, length-drop cut.new_end new)
 
-  -- the ends of both texts, of no more bytes than stand behind the cut
+  -- the ends of both texts, of no more bytes than come after the cut
   same_rest : (left : ℕ) → left ≤ length old - cut.old_end → drop (length old - left) old ≡ drop (length new - left) new
   same_rest left few =
       let more : ℕ = (length old - cut.old_end) - left in
@@ -55,7 +55,7 @@ module _ (first : List ℕ → Block) (laws : AreLaws first) (old new : List ℕ
           ∙ ap (λ i. blocks first (drop i old)) (sym old_at)
           ∙ sym (drop_blocks first laws (k + j) old old_some) ∙ sym of_old
 
-      -- the blocks of the new text: those before, those that were parsed anew, and those behind
+      -- the blocks of the new text: those before, those that were parsed anew, and those after them
       pub changed_blocks : blocks first new ≡ take k (blocks first old) ++ (take m (blocks first (drop (bytes_of (take k (blocks first old))) new)) ++ drop j (drop k (blocks first old)))
       changed_blocks =
           sym (take-append-drop k (blocks first new))

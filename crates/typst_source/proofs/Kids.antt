@@ -31,7 +31,7 @@ inner_of (AsLeaf kind text) k e = cc
 inner_of (AsError text message hints) k e = cc
 inner_of (AsInner kind bound) k e = tt
 
--- the trees of the first blocks, and of those behind
+-- the trees of the first blocks, and of those after them
 pub trees_parts : (k : ℕ) (bs : List Block) → trees_of bs ≡ trees_of (take k bs) ++ trees_of (drop k bs)
 trees_parts k bs = ap trees_of (sym (take-append-drop k bs)) ∙ flat_map-append (λ (b : Block). b.trees) (take k bs) (drop k bs)
 

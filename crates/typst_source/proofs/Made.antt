@@ -48,7 +48,7 @@ module _ (first : List ℕ → Block) (laws : AreLaws first) where
         let place : bytes_of (take kept.blocks (blocks first new)) ≡ kept.bytes = sym (kept_bytes ∙ ap bytes_of same) in
         subst (IsCharBoundary new) place (ends_between first laws kept.blocks new u some)
 
-    -- a text whose rest behind the kept blocks is too large
+    -- a text whose rest after the kept blocks is too large
     pub new_too_large : IsTooLarge first (drop kept.bytes new) → IsTooLarge first new
     new_too_large large =
         let same = front_stays first laws old new cut is kept.blocks kept_some kept_far in

@@ -79,7 +79,7 @@ module _ (first : List ℕ → Block) (laws : AreLaws first) where
       let rests : drop k (blocks first source) ≡ first rest ∷ behind = drop_blocks first laws k source s.many ∙ ap (blocks first) (sym s.rest_is) ∙ blocks_step first laws rest some in
       among source (trees_of (take k (blocks first source))) (first rest).trees (trees_of behind) (trees_parts k (blocks first source) ∙ ap (λ (bs : List Block). trees_of (take k (blocks first source)) ++ trees_of bs) rests)
 
-  -- the rest of a text behind some blocks
+  -- the rest of a text after some blocks
   pub rest_too_large : (k : ℕ) (source : List ℕ) → k ≤ length (blocks first source) → IsTooLarge first (drop (bytes_of (take k (blocks first source))) source) → IsTooLarge first source
   rest_too_large k source some large fits =
       let rest : List Tree = trees_of (blocks first (drop (bytes_of (take k (blocks first source))) source)) in

@@ -189,7 +189,7 @@ impl Extents {
         untouched(&self.list, self.near, start)
     }
 
-    /// The extents after so many blocks.
+    /// The extents after the first `blocks` blocks.
     pub(crate) fn behind(&self, blocks: usize) -> &[Extent]
         requires { blocks ≤ length self.now.items }
         ensures { result.now ≡ drop blocks self.now.items }

@@ -93,7 +93,7 @@ impl<P: BlockParser + Drop> Source<P> {
     }
 
     /// The parser that [`Source::new`] was given. Contracts see only its type, whose [`BlockParser::first`] says what
-    /// it parses. So no clause tells its value. A caller who names no type can't be given any other parser.
+    /// it parses. So no clause tells its value. A caller that names no type can't be given any other parser.
     pub fn parser(&self) -> &P {
         &self.parser
     }

@@ -118,7 +118,7 @@ fn misfit(root: &SyntaxNode, path: &[usize], range: Range<usize>) -> EditError
     misfit_below(root, 0, path, range)
 }
 
-/// The same, for the part of a path below a node that so many child indices lead to.
+/// The same, for the part of a path below a node that this many child indices lead to.
 fn misfit_below(node: &SyntaxNode, depth: usize, path: &[usize], range: Range<usize>) -> EditError
     requires misfit { ¬ (FitsInner path.now range.start range.end node.now) }
     requires depth { depth + length path.now < 2 ^ 64 }
