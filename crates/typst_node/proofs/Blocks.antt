@@ -24,6 +24,10 @@ seen_at starts es i h =
     let same : 0 + i ≡ i = omega arith in
     seen_from starts 0 es i h ∙ ap (λ n. (get_or starts (n / 256) 0 + get_or es i 0) % 2 ^ 32) same
 
+-- numbers that wrap
+pub raised_within : (s w by : ℕ) → (s + (w + by) % 2 ^ 32) % 2 ^ 32 ≡ ((s + w) % 2 ^ 32 + by) % 2 ^ 32
+raised_within s w by = omega arith
+
 seen_set : (starts : List ℕ) (place : ℕ) (es : List ℕ) (i e : ℕ) → ends_seen starts place (set es i e) ≡ set (ends_seen starts place es) i ((get_or starts ((place + i) / 256) 0 + e) % 2 ^ 32)
 seen_set starts place [] i e = refl
 seen_set starts place (x ∷ es) zero e =
@@ -44,6 +48,22 @@ seen-write starts es i start end a b is =
     let same : 0 + i ≡ i = omega arith in
     seen_set starts 0 es i d ∙ (λ j. set (ends_seen starts 0 es) i ((get_or starts (same j / 256) 0 + d) % 2 ^ 32))
     ∙ ap (λ n. set (ends_seen starts 0 es) i n) (ap (λ s. (s + d) % 2 ^ 32) (sym is) ∙ written start end a b)
+
+-- the end before an end, if there is one
+pub seen-before : (es : List ℕ) (i : ℕ) → 0 < i → get_or (0 ∷ es) i 0 ≡ get_or es (i - 1) 0
+seen-before es zero h = absurd (omega arith)
+seen-before es (suc i) h = let same : i ≡ suc i - 1 = omega arith in ap (λ k. get_or es k 0) same
+
+-- an end in the same block as the one before it
+pub seen-follow : (starts es : List ℕ) (i by : ℕ) → i < length es → 0 < i % 256 → ends_seen starts 0 (set es i ((get_or es (i - 1) 0 + by) % 2 ^ 32)) ≡ set (ends_seen starts 0 es) i ((get_or (0 ∷ ends_seen starts 0 es) i 0 + by) % 2 ^ 32)
+seen-follow starts es i by inside middle =
+    let w : ℕ = get_or es (i - 1) 0 in
+    let some : 0 < i = omega (arith, middle) in
+    let block : (i - 1) / 256 ≡ (0 + i) / 256 = omega (arith, middle) in
+    let before : get_or (0 ∷ ends_seen starts 0 es) i 0 ≡ (get_or starts ((0 + i) / 256) 0 + w) % 2 ^ 32 =
+    seen-before (ends_seen starts 0 es) i some ∙ (seen_at starts es (i - 1) (omega arith) ∙ ap (λ b. (get_or starts b 0 + w) % 2 ^ 32) block) in
+    seen_set starts 0 es i ((w + by) % 2 ^ 32)
+    ∙ ap (λ n. set (ends_seen starts 0 es) i n) (raised_within (get_or starts ((0 + i) / 256) 0) w by ∙ ap (λ n. (n + by) % 2 ^ 32) (sym before))
 
 -- ends that are counted from the beginning of all
 pub seen_plain : (starts : List ℕ) (place : ℕ) (es : List ℕ) → ((k : ℕ) → get_or starts k 0 ≡ 0) → ((k d : ℕ) → k < length es → get_or es k d < 2 ^ 32) → ends_seen starts place es ≡ es
@@ -87,10 +107,7 @@ within_taken starts first (suc k) h = within starts first k (omega arith)
     within (x ∷ xs) (suc n) zero h = refl
     within (x ∷ xs) (suc n) (suc k) h = within xs n k (omega arith)
 
--- numbers that wrap
-pub raised_within : (s w by : ℕ) → (s + (w + by) % 2 ^ 32) % 2 ^ 32 ≡ ((s + w) % 2 ^ 32 + by) % 2 ^ 32
-raised_within s w by = omega arith
-
+-- numbers that wrap, in the other order
 pub raised_start : (s w by : ℕ) → ((s + by) % 2 ^ 32 + w) % 2 ^ 32 ≡ ((s + w) % 2 ^ 32 + by) % 2 ^ 32
 raised_start s w by = omega arith
 

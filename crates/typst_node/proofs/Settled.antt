@@ -85,6 +85,13 @@ start_at es ts n some few same =
 pub start_none : (ts : List Tree) (n : ℕ) → n ≡ 0 → 0 ≡ length (text_of_all (take n ts)) % 2 ^ 32
 start_none ts n e = ap (λ m. length (text_of_all (take m ts)) % 2 ^ 32) (sym e)
 
+-- where the text begins whose end is written next
+pub end_before : (es : List ℕ) (ts : List Tree) (n : ℕ) → n ≤ length ts → take n es ≡ take n (ends_from 0 ts) → get_or (0 ∷ es) n 0 ≡ length (text_of_all (take n ts)) % 2 ^ 32
+end_before es ts zero few same = refl
+end_before es ts (suc n) few same =
+    let e : n ≡ suc n - 1 = omega arith in
+    ap (λ k. get_or es k 0) e ∙ start_at es ts (suc n) (omega arith) few same
+
 -- the text of one more
 pub text_more : (ts : List Tree) (i : ℕ) (d : Tree) → i < length ts → length (text_of_all (take (i + 1) ts)) ≡ length (text_of_all (take i ts)) + length (text (get_or ts i d))
 text_more ts i d h =

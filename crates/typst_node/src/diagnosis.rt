@@ -30,8 +30,8 @@ impl Diagnosis {
         ensures warnings { result.warnings ≡ (self.warnings || other.warnings) }
     {
         Diagnosis {
-            errors: self.errors || other.errors,
-            warnings: self.warnings || other.warnings,
+            errors: self.errors | other.errors,
+            warnings: self.warnings | other.warnings,
         }
     }
 }

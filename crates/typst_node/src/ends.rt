@@ -186,6 +186,20 @@ impl Ends {
         self.within[index] = end.wrapping_sub(start);
     }
 
+    /// Writes the end at an index, `len` after the end before it. Sums wrap. Only at the beginning of a block it reads
+    /// where blocks begin.
+    pub(crate) fn follow(&mut self, index: usize, len: u32)
+        requires { index < length self.old }
+        ensures { self.new ≡ slice_set self.old index ((slice_index (0 ∷ self.old) index + len) % 2 ^ 32) }
+    {
+        if index % BLOCK != 0 {
+            self.within[index] = self.within[index - 1].wrapping_add(len);
+            return;
+        }
+        let before = if index == 0 { 0 } else { self.get(index - 1) };
+        self.set(index, before.wrapping_add(len));
+    }
+
     /// Adds a number to all ends from an index on. Sums wrap.
     #[cycle(add)]
     fn add(&mut self, from: usize, by: u32)
@@ -207,7 +221,9 @@ impl Ends {
         ensures before { take from self.new ≡ take from self.old }
         ensures behind { drop from self.new ≡ map (moved gone added) (drop from self.old) }
     {
-        self.add(from, low(added).wrapping_sub(low(gone)));
+        if from < self.within.len() {
+            self.add(from, low(added).wrapping_sub(low(gone)));
+        }
     }
 
     /// Writes 0 at each index from `from` on.

@@ -50,10 +50,8 @@ fn write_ends(ends: &mut Ends, children: &[SyntaxNode], from: usize, to: usize)
     ensures before { take to ends.new ≡ take to (ends_from 0 children.now) }
     ensures behind { drop to ends.new ≡ drop to ends.old }
 {
-    let mut end = if from == 0 { 0 } else { ends.get(from - 1) };
     for i in from..to {
-        end = end.wrapping_add(low(children[i].len()));
-        ends.set(i, end);
+        ends.follow(i, low(children[i].len()));
     }
 }
 
