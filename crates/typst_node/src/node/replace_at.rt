@@ -259,6 +259,10 @@ impl SyntaxNode {
             to: range.end,
             others: replacement,
         };
+        if path.is_empty() {
+            // The sums of this node are those of the whole tree, so the replacement tests them itself.
+            return self.replace_range(edit);
+        }
         if self.overflows(path, &edit) {
             return Some(Err(ReplaceError::Overflow));
         }
