@@ -1,4 +1,6 @@
-use Rattle.std.proofs.Common.{arith, ◌≡◌, ℕ, List, [], ◌∷◌, length, refl, sym, subst}
+use Rattle.std.proofs.Common.{◌≡◌, ℕ, List, [], length, refl, sym, subst, ◌∙◌}
+use Rattle.std.proofs.lemmas.Bool.{eqb-true}
+use Rattle.std.proofs.lemmas.List.{nil_from_length}
 use Rattle.std.specs.Prelude.{Option, None, Some, Result, IfErr, IfOk, IfSome, IsSome}
 use Rattle.std.specs.declared.ops.Range.{Range}
 use Rattle.typst_node.specs.Tree.{Tree}
@@ -18,10 +20,6 @@ use Rattle.typst_node.proofs.node.SyntaxNode.try_replace_at.Goals as goal
 if_some : {A : Type 0} (P Q : A → Type 0) (o : Option A) → (IsSome o → (a : A) → P a → Q a) → IfSome o P → IfSome o Q
 if_some P Q None f h = tt
 if_some P Q (Some a) f h = f refl a h
-
-nothing : (path : List ℕ) → length path ≡ 0 → path ≡ []
-nothing [] h = refl
-nothing (n ∷ path) h = absurd (omega (arith, h))
 
 -- the edit of the children of the whole tree
 module _ (path : List ℕ) (is : path ≡ []) (range : Range ℕ) (ys : List Tree) (t new : Tree) (o : Option (Result Renumbered ReplaceError))
@@ -43,12 +41,12 @@ module _ (path : List ℕ) (is : path ≡ []) (range : Range ℕ) (ys : List Tre
 
 pub returns-then-is_empty-clause-accepted : goal.returns-then-is_empty-clause-accepted
 returns-then-is_empty-clause-accepted c =
-    accepted_at_root c.args.path.now (nothing c.args.path.now (omega (arith, c.is_empty.ensures, c.if-is_empty.true))) c.args.range c.args.replacement.items c.args.self.now _ c.replace_range.result
+    accepted_at_root c.args.path.now (nil_from_length c.args.path.now (eqb-true (length c.args.path.now) 0 (sym c.is_empty.ensures ∙ c.if-is_empty.true))) c.args.range c.args.replacement.items c.args.self.now _ c.replace_range.result
     c.replace_range.ensures.fits.0 c.replace_range.ensures.made c.requires.numbered_ask_is_numbered
 
 pub returns-then-is_empty-clause-refused : goal.returns-then-is_empty-clause-refused
 returns-then-is_empty-clause-refused c =
-    refused_at_root c.args.path.now (nothing c.args.path.now (omega (arith, c.is_empty.ensures, c.if-is_empty.true))) c.args.range c.args.replacement.items c.args.self.now c.replace_range.new.self c.replace_range.result
+    refused_at_root c.args.path.now (nil_from_length c.args.path.now (eqb-true (length c.args.path.now) 0 (sym c.is_empty.ensures ∙ c.if-is_empty.true))) c.args.range c.args.replacement.items c.args.self.now c.replace_range.new.self c.replace_range.result
     c.replace_range.ensures.fits.0 c.replace_range.ensures.made
 
 pub returns-clause-accepted : goal.returns-clause-accepted
