@@ -1,7 +1,8 @@
 -- The items of the arguments of a function call in math, read from the end, and the semicolons after arguments.
-use Rattle.std.proofs.Common.{◌≡◌, ◌<◌, ℕ, ◌+◌, Bool, true, false, not, ◌&&◌, ◌||◌, cond, map, filter, take, Some, List, [], ◌∷◌, ◌++◌, length, refl, sym, ap, subst, ◌∙◌, append-nil, append_assoc, length-append, arith}
+use Rattle.std.proofs.Common.{◌≡◌, ◌<◌, ℕ, ◌+◌, Bool, true, false, not, ◌&&◌, ◌||◌, cond, map, filter, take, Option, None, Some, List, [], ◌∷◌, ◌++◌, length, refl, sym, ap, subst, ◌∙◌, append-nil, append_assoc, length-append, arith}
 use Rattle.std.proofs.Math.Seq.{take-append_seam}
-use Rattle.std.specs.List.{enumerate_from, list_all}
+use Rattle.std.specs.List.{enumerate_from, last_or, list_all}
+use Rattle.std.specs.Option.{option_map_or}
 use Rattle.typst_atoms.proofs.Ends.{last_in_append}
 use Rattle.typst_node.specs.Children.{all_in, last_of}
 use Rattle.typst_atoms.specs.Classes.{is_arg_kind}
@@ -16,9 +17,19 @@ use Rattle.typst_node.specs.Tree.{Tree}
 use Rattle.typst_node.specs.Views.{node_kind}
 use denote.Enum.Bare.{same_true}
 
-pub ends_behind_hash_append : (b : Bool) (ts : List Tree) (t : Tree) → ends_behind_hash b (ts ++ t ∷ []) ≡ is_behind_hash (ends_behind_hash b ts) t
-ends_behind_hash_append b [] t = refl
-ends_behind_hash_append b (s ∷ ts) t = ends_behind_hash_append (is_behind_hash b s) ts t
+-- the last node that is not an argument decides
+ends_after : (b : Bool) (o : Option Tree) (ts : List Tree) → ends_behind_hash (option_map_or (λ t. is_kind kinds.Hash (node_kind t)) o b) ts ≡ option_map_or (λ t. is_kind kinds.Hash (node_kind t)) (last_or o (all_in (λ k. not (is_arg_kind k)) ts)) b
+ends_after b o [] = refl
+ends_after b o (t ∷ ts) =
+    let others = all_in (λ k. not (is_arg_kind k)) ts in
+    elim (is_arg_kind (node_kind t)) as
+    (λ v. ends_behind_hash (cond v (option_map_or (λ s. is_kind kinds.Hash (node_kind s)) o b) (is_kind kinds.Hash (node_kind t))) ts ≡ option_map_or (λ s. is_kind kinds.Hash (node_kind s)) (last_or o (cond (not v) (t ∷ others) others)) b) [
+      | true ↦ ends_after b o ts
+      | false ↦ ends_after b (Some t) ts
+    ]
+
+pub ends_by_last : (b : Bool) (ts : List Tree) → ends_behind_hash b ts ≡ option_map_or (λ t. is_kind kinds.Hash (node_kind t)) (last_of (all_in (λ k. not (is_arg_kind k)) ts)) b
+ends_by_last b ts = ends_after b None ts
 
 pub items_in_append : (b : Bool) (ts : List Tree) (t : Tree) → items_in b (ts ++ t ∷ []) ≡ items_in b ts ++ item_alone (ends_behind_hash b ts) t
 items_in_append b [] t = append-nil (item_alone b t)

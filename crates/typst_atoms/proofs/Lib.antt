@@ -1,6 +1,7 @@
 pub mod Answered
 pub mod BoundNames
 pub mod Ends
+pub mod Finds
 pub mod HexRuns
 pub mod ItemLists
 pub mod KeptLists

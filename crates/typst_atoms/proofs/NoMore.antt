@@ -1,6 +1,5 @@
 -- What is picked out of a list of nodes is no more than the list.
 use Rattle.std.proofs.Common.{◌≤◌, ◌&&◌, Bool, true, false, cond, List, [], ◌∷◌, ◌++◌, length, arith}
-use Rattle.typst_node.specs.Children.{all_in}
 use Rattle.typst_atoms.specs.Classes.{is_arg_kind}
 use Rattle.typst_atoms.specs.KeptNodes.{kept_in}
 use Rattle.typst_atoms.specs.Kinds.{is_kind}
@@ -8,7 +7,7 @@ use Rattle.typst_atoms.specs.MathItems.{args_in, ends_in_semicolon, is_behind_ha
 use Rattle.typst_base.specs.KindClasses.{is_stmt_kind}
 use Rattle.typst_base.specs.declared.kind.SyntaxKind.TheVariants as kinds
 use Rattle.typst_node.specs.Tree.{Tree}
-use Rattle.typst_node.specs.Views.{Class, node_kind}
+use Rattle.typst_node.specs.Views.{node_kind}
 
 pub no_more_kept : (d b : Bool) (ts : List Tree) → length (kept_in d b ts) ≤ length ts
 no_more_kept d b [] = omega arith

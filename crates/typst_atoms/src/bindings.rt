@@ -19,29 +19,17 @@ use typst_node::SyntaxNode;
 pub fn first_pattern<'a>(node: Option<&'a SyntaxNode>) -> Option<&'a SyntaxNode>
     ensures { option_copied result ≡ first_child is_pattern_kind (option_copied node.entry) }
 {
-    let mut rest = children(node);
-    while let [first, more @ ..] = rest {
-        if is_pattern(first.kind()) {
-            return Some(first);
-        }
-        rest = more;
-    }
-    None
+    children(node).iter().find(|child| is_pattern(child.kind()))
 }
 
 /// The last child that is a pattern.
-#[tactic(auto, using(crate::proofs::Ends::last_in_append))]
 fn last_pattern<'a>(node: Option<&'a SyntaxNode>) -> Option<&'a SyntaxNode>
     ensures { option_copied result ≡ last_child is_pattern_kind (option_copied node.entry) }
 {
-    let mut rest = children(node);
-    while let Some((last, before)) = rest.split_last() {
-        if is_pattern(last.kind()) {
-            return Some(last);
-        }
-        rest = before;
-    }
-    None
+    children(node)
+        .iter()
+        .rev()
+        .find(|child| is_pattern(child.kind()))
 }
 
 /// Adds the name, if there is one.

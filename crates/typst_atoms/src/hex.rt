@@ -11,13 +11,9 @@ fn capped_value(bytes: &[u8]) -> u32
     ensures { result ≡ capped_value 0 bytes.now }
 {
     let mut code: u32 = 0;
-    let mut rest = bytes;
-    while let [first, more @ ..] = rest {
-        match (*first as char).to_digit(16) {
-            Some(digit) => {
-                code = (code * 16 + digit).min(0x11_0000);
-                rest = more;
-            }
+    for byte in bytes {
+        match (*byte as char).to_digit(16) {
+            Some(digit) => code = (code * 16 + digit).min(0x11_0000),
             None => break,
         }
     }
@@ -37,13 +33,9 @@ fn capped_value_of(chars: &[char]) -> u32
     ensures { result ≡ capped_value 0 chars.now }
 {
     let mut code: u32 = 0;
-    let mut rest = chars;
-    while let [first, more @ ..] = rest {
-        match first.to_digit(16) {
-            Some(digit) => {
-                code = (code * 16 + digit).min(0x11_0000);
-                rest = more;
-            }
+    for c in chars {
+        match c.to_digit(16) {
+            Some(digit) => code = (code * 16 + digit).min(0x11_0000),
             None => break,
         }
     }
@@ -63,14 +55,5 @@ pub(crate) fn hex_len(chars: &[char]) -> usize
     ensures value { result ≡ hex_len chars.now }
     ensures within { result ≤ length chars.now }
 {
-    let mut rest = chars;
-    let mut n = 0;
-    while let [first, more @ ..] = rest {
-        if !first.is_digit(16) {
-            break;
-        }
-        n += 1;
-        rest = more;
-    }
-    n
+    chars.iter().take_while(|c| c.is_digit(16)).count()
 }

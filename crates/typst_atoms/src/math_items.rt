@@ -53,18 +53,13 @@ fn is_behind_hash(behind_hash: bool, is_arg: bool, node: &SyntaxNode) -> bool
 
 /// Whether the last of these nodes that is not an argument is a hash. `behind_hash` says this for the nodes before
 /// them.
-#[tactic(auto, using(crate::proofs::ItemLists::ends_behind_hash_append))]
 fn ends_behind_hash(behind_hash: bool, nodes: &[SyntaxNode]) -> bool
     ensures { result ≡ ends_behind_hash behind_hash nodes.now }
 {
-    let mut rest = nodes;
-    while let Some((last, before)) = rest.split_last() {
-        if !is_arg_node(last) {
-            return is_hash(last);
-        }
-        rest = before;
+    match nodes.iter().rev().find(|node| !is_arg_node(node)) {
+        Some(last) => is_hash(last),
+        None => behind_hash,
     }
-    behind_hash
 }
 
 /// Whether the node is an item after the nodes `before`. `behind_hash` says whether the nearest node before these that
@@ -107,16 +102,14 @@ fn is_item_semicolon(behind_hash: bool, node: &SyntaxNode) -> bool
 fn ends_in_semicolon(mut behind_hash: bool, nodes: &[SyntaxNode]) -> bool
     ensures { result ≡ ends_in_semicolon (items_in behind_hash nodes.now) }
 {
-    let mut rest = nodes;
-    while let Some((first, more)) = rest.split_first() {
-        if is_arg_node(first) {
+    for node in nodes {
+        if is_arg_node(node) {
             return false;
         }
-        if is_item_semicolon(behind_hash, first) {
+        if is_item_semicolon(behind_hash, node) {
             return true;
         }
-        behind_hash = is_hash(first);
-        rest = more;
+        behind_hash = is_hash(node);
     }
     false
 }

@@ -32,26 +32,16 @@ pub fn leaf_text<'a>(node: Option<&'a SyntaxNode>) -> &'a str
 pub fn first_of_kind<'a>(node: Option<&'a SyntaxNode>, kind: SyntaxKind) -> Option<&'a SyntaxNode>
     ensures { option_copied result ≡ first_child (is_kind kind) (option_copied node.entry) }
 {
-    let mut rest = children(node);
-    while let [first, more @ ..] = rest {
-        if first.kind() == kind {
-            return Some(first);
-        }
-        rest = more;
-    }
-    None
+    children(node).iter().find(|child| child.kind() == kind)
 }
 
 /// The children after the first child of the kind. There are none if there is no such child.
 pub fn behind<'a>(node: Option<&'a SyntaxNode>, kind: SyntaxKind) -> &'a [SyntaxNode]
     ensures { result.now ≡ behind_first (is_kind kind) (children_in (option_copied node.entry)) }
 {
-    let mut rest = children(node);
-    while let [first, more @ ..] = rest {
-        rest = more;
-        if first.kind() == kind {
-            break;
-        }
+    let nodes = children(node);
+    match nodes.iter().position(|node| node.kind() == kind) {
+        Some(first) => &nodes[first + 1..],
+        None => &[],
     }
-    rest
 }

@@ -60,10 +60,8 @@ fn escape_char(chars: &[char]) -> Option<char>
 fn push_all(text: &mut String, chars: &[char]) -> Result<(), AllocError>
     ensures { IfOk result (λ _. string_bytes text.new ≡ string_bytes text.old ++ encodes chars.now) }
 {
-    let mut rest = chars;
-    while let [first, more @ ..] = rest {
-        text.push(*first)?;
-        rest = more;
+    for c in chars {
+        text.push(*c)?;
     }
     Ok(())
 }
