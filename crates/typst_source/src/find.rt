@@ -5,7 +5,7 @@ ghost use Rattle.typst_base.specs.SpanKind.{span_kind_of};
 ghost use Rattle.typst_linked.specs.DiagPlaces.{place_in};
 ghost use Rattle.typst_linked.specs.Finds.{FindsSpan};
 ghost use Rattle.typst_linked.specs.Own.{FindsOwn};
-ghost use Rattle.typst_linked.specs.Place.{Place};
+ghost use Rattle.typst_linked.specs.Place.{Place, root_place};
 ghost use Rattle.typst_source.specs.Found.{IsRangeAt};
 
 use crate::parser::BlockParser;
