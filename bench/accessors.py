@@ -4,13 +4,15 @@
     bench/accessors.py            writes them, and says which changed
     bench/accessors.py --check    says which differ from what it would write, and changes nothing
 
-These are the enums of typst_accessors, and the numbers that their contracts cite. The code is laid out as `rt fmt` lays it out.
+These are the enums of typst_accessors and the numbers that their contracts cite, the constants of bindings/c, the enum of
+bindings/rust, and docs/ACCESSORS.md. The code is laid out as `rt fmt` and `cargo fmt` lay it out.
 """
 import argparse
 import sys
 from dataclasses import dataclass
 from pathlib import Path
 
+from bindings import constant
 from kinds import TABLE as KINDS, Table
 
 TOP = Path(__file__).resolve().parent.parent
@@ -190,11 +192,47 @@ def accessor_specs(found):
                       "-- those of each form", *tables, *wholes])
 
 
+# The tables of the bindings, and of the documents.
+
+
+def header(found):
+    lines = [f"/* The accessors of views, by number. {WRITTEN} */"]
+    lines += ["#ifndef TYPST_ACCESSORS_H", "#define TYPST_ACCESSORS_H", "", "enum {"]
+    for one in found:
+        lines += [f"    /** Of a {one.view}, {FORMS[one.form]}: {one.doc[0].lower()}{one.doc[1:]} */"]
+        lines += [f"    TYPST_VIEW_{constant(one.view)}_{one.name.upper()} = {one.number},"]
+    lines += ["    /** The number of accessors. */", f"    TYPST_ACCESSORS = {len(found)}", "};", "", "#endif", ""]
+    return "\n".join(lines)
+
+
+def rust(found):
+    lines = [f"//! The accessors of views. {WRITTEN}", ""]
+    lines += ["/// An accessor of a view: what is read of the nodes of one kind."]
+    lines += ["#[derive(Clone, Copy, Debug, PartialEq, Eq, PartialOrd, Ord, Hash)]", "#[repr(u32)]"]
+    lines += ["#[non_exhaustive]", "pub enum Accessor {"]
+    for one in found:
+        lines += [f"    /// Of a `{one.view}`, {FORMS[one.form]}: {one.doc[0].lower()}{one.doc[1:]}", f"    {one.variant()},"]
+    lines += ["}", ""]
+    return "\n".join(lines)
+
+
+def page(found):
+    lines = [f"<!-- {WRITTEN} -->", "# The accessors of typed views, by numbers", ""]
+    lines += ["A program in C or Rust reads a node by the number of an accessor (`docs/C.md`, `docs/RUST.md`). Each accessor belongs to the"]
+    lines += ["nodes of one kind, its view. Of any other node it answers nothing.", ""]
+    lines += ["| number | accessor | form | what it answers |", "|---|---|---|---|"]
+    lines += [f"| {one.number} | `{one.called()}` | {one.form} | {one.doc} |" for one in found]
+    return "\n".join([*lines, ""])
+
+
 def files():
     found = accessors()
     return {
         "crates/typst_accessors/src/accessor.rt": accessor_code(found),
         "crates/typst_accessors/specs/Accessors.antt": accessor_specs(found),
+        "bindings/c/typst_accessors.h": header(found),
+        "bindings/rust/src/accessor.rs": rust(found),
+        "docs/ACCESSORS.md": page(found),
     }
 
 

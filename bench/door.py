@@ -6,7 +6,8 @@
     bench/door.py --declared       compares what declares the functions alone, in a second
     bench/door.py --speed          times calls from C beside the same work in Rattle, where that is a row of bench/speed.py
 
-1. The kinds of the header and of the Rust crate must be those that bench/bindings.py writes.
+1. The kinds of the header and of the Rust crate must be those that bench/bindings.py writes, and the accessors those of
+   bench/accessors.py.
 2. The exports of crates/typst_c, the functions of bindings/c/typst.h and those of bindings/rust/src/raw.rs must be the same, with
    the same arguments: their names, their number and their widths. So must the fields of the structs that cross, and the functions
    of the archive. Each export needs a function `typst_try_` in the header. Each status must say in C what its refusal says in
@@ -46,11 +47,11 @@ REFUSALS = TOP / "crates/typst_session/src/refusal.rt"
 OWN_STATUSES = {"0", "1"}
 POINTER = "pointer"
 # The widths of types: in bits, or a pointer.
-WIDTHS = {"u8": 8, "u16": 16, "u32": 32, "u64": 64, "usize": 64, "uint8_t": 8, "uint16_t": 16, "uint32_t": 32, "uint64_t": 64,
-          "size_t": 64, "typst_status": 32}
+WIDTHS = {"u8": 8, "u16": 16, "u32": 32, "u64": 64, "i64": 64, "usize": 64, "uint8_t": 8, "uint16_t": 16, "uint32_t": 32, "uint64_t": 64,
+          "int64_t": 64, "size_t": 64, "typst_status": 32}
 # The structs that cross, by their names in C, and where each stands in Rattle and in Rust.
 STRUCTS = {"typst_session": None, "typst_node_info": "NodeInfo", "typst_place": "Place", "typst_length": "Length",
-           "typst_range": "ByteRange", "typst_line_column": "LineColumn",
+           "typst_range": "ByteRange", "typst_line_column": "LineColumn", "typst_answer": "ViewAnswer",
            "typst_diagnostic": "Diagnostic", "typst_diagnostic_sizes": "DiagnosticSizes",
            "typst_kind_info": "KindClasses", "typst_window": "Window", "typst_edited": "Edited"}
 # The rows of speed.c that have the work of a row of bench/speed.py: its operation, and how many steps its round has.
@@ -281,6 +282,7 @@ def main():
     asked = parser.parse_args()
     try:
         run([TOP / "bench/bindings.py", "--check"])
+        run([TOP / "bench/accessors.py", "--check"])
         wanted = compare_declarations()
         if asked.declared:
             print(f"{len(wanted)} exports, declared in C and in Rust as they are")
