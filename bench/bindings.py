@@ -76,4 +76,5 @@ def main():
     sys.exit(int(check and bool(stale)))
 
 
-main()
+if __name__ == "__main__":
+    main()

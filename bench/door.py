@@ -6,7 +6,8 @@
     bench/door.py --declared       only compares the declarations, in a second
     bench/door.py --speed          times calls from C, next to the same work in Rattle where bench/speed.py has a row for it
 
-1. The kinds of the header and of the Rust crate must be those that bench/bindings.py writes.
+1. The kinds of the header and of the Rust crate must be those that bench/bindings.py writes, and the accessors those of
+   bench/accessors.py.
 2. The exports of crates/typst_c, the functions of bindings/c/typst.h and those of bindings/rust/src/raw.rs must be the same, with
    the same names, numbers and widths of arguments. So must the fields of the structs that are passed, and the functions of the
    archive. Each export needs a function `typst_try_` in the header. The text of a status in C must be that of its refusal in
@@ -45,11 +46,11 @@ REFUSALS = TOP / "crates/typst_session/src/refusal.rt"
 OWN_STATUSES = {"0", "1"}
 POINTER = "pointer"
 # The widths of types: in bits, or a pointer.
-WIDTHS = {"u8": 8, "u16": 16, "u32": 32, "u64": 64, "usize": 64, "uint8_t": 8, "uint16_t": 16, "uint32_t": 32, "uint64_t": 64,
-          "size_t": 64, "typst_status": 32}
+WIDTHS = {"u8": 8, "u16": 16, "u32": 32, "u64": 64, "i64": 64, "usize": 64, "uint8_t": 8, "uint16_t": 16, "uint32_t": 32, "uint64_t": 64,
+          "int64_t": 64, "size_t": 64, "typst_status": 32}
 # The structs that are passed, by their names in C, and their names in Rattle and in Rust.
 STRUCTS = {"typst_session": None, "typst_node_info": "NodeInfo", "typst_place": "Place", "typst_length": "Length",
-           "typst_range": "ByteRange", "typst_line_column": "LineColumn",
+           "typst_range": "ByteRange", "typst_line_column": "LineColumn", "typst_answer": "ViewAnswer",
            "typst_diagnostic": "Diagnostic", "typst_diagnostic_sizes": "DiagnosticSizes",
            "typst_kind_info": "KindClasses", "typst_window": "Window", "typst_edited": "Edited"}
 # The rows of speed.c that do the same work as a row of bench/speed.py, with its operation and the number of steps of a round.
@@ -280,6 +281,7 @@ def main():
     asked = parser.parse_args()
     try:
         run([TOP / "bench/bindings.py", "--check"])
+        run([TOP / "bench/accessors.py", "--check"])
         wanted = compare_declarations()
         if asked.declared:
             print(f"{len(wanted)} exports, with the same declarations in C and in Rust")

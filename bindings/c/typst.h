@@ -23,6 +23,7 @@
 #include <stddef.h>
 #include <stdint.h>
 
+#include "typst_accessors.h"
 #include "typst_kinds.h"
 
 #ifdef __cplusplus
@@ -81,6 +82,8 @@ enum {
     TYPST_BAD_SET = 19,
     /** The text has no such place: the byte is past its end or within a character, or no byte has that line and column. */
     TYPST_NO_PLACE = 20,
+    /** The number is no accessor of a view. */
+    TYPST_BAD_ACCESSOR = 21,
     /** A pointer was null. Only functions whose names begin with `typst_try_` return this. */
     TYPST_NULL = 255
 };
@@ -141,6 +144,18 @@ typedef struct typst_line_column {
     /** How much of the line is before the place. */
     size_t column;
 } typst_line_column;
+
+/** What an accessor answers of a node. What the answer doesn't have is 0. */
+typedef struct typst_answer {
+    /** The natural number, 1 for true and 0 for false, or the code of a character. */
+    uint64_t number;
+    /** The integer with a sign. */
+    int64_t integer;
+    /** The length of the text. */
+    size_t len;
+    /** A TYPST_ANSWER_ constant. */
+    uint32_t form;
+} typst_answer;
 
 /** An error, a warning or a hint. */
 typedef struct typst_diagnostic {
@@ -235,6 +250,21 @@ enum {
 /** The end from which children are counted. */
 enum { TYPST_FROM_FIRST = 0, TYPST_FROM_LAST = 1 };
 
+/** What an accessor of a view answers. */
+enum {
+    /** Nothing: the node isn't of the accessor's view, or has no such answer. */
+    TYPST_ANSWER_NONE = 0,
+    TYPST_ANSWER_FLAG = 1,
+    /** A natural number. */
+    TYPST_ANSWER_NATURAL = 2,
+    /** An integer with a sign. */
+    TYPST_ANSWER_INTEGER = 3,
+    /** A character, by its code. */
+    TYPST_ANSWER_CHARACTER = 4,
+    /** A text in UTF-8. */
+    TYPST_ANSWER_TEXT = 5
+};
+
 /** How severe a diagnostic is. */
 enum {
     TYPST_ERROR = 0,
@@ -279,6 +309,7 @@ TYPST_ASSERT(sizeof(typst_place) == 16, "typst_place");
 TYPST_ASSERT(sizeof(typst_length) == 8, "typst_length");
 TYPST_ASSERT(sizeof(typst_range) == 16, "typst_range");
 TYPST_ASSERT(sizeof(typst_line_column) == 16, "typst_line_column");
+TYPST_ASSERT(sizeof(typst_answer) == 32, "typst_answer");
 TYPST_ASSERT(sizeof(typst_diagnostic) == 40, "typst_diagnostic");
 TYPST_ASSERT(sizeof(typst_diagnostic_sizes) == 16, "typst_diagnostic_sizes");
 TYPST_ASSERT(sizeof(typst_kind_info) == 6, "typst_kind_info");
@@ -447,6 +478,20 @@ typst_status typst_full_text(typst_session *session, const size_t *path, size_t 
  */
 typst_status typst_child_of_class(typst_session *session, const size_t *path, size_t depth, uint32_t node_class, size_t index,
                                   uint32_t from_end, size_t *child);
+
+/**
+ * Asks what an accessor of a typed view answers of the node at a path, such as the depth of a heading or the value of a string. If
+ * the node isn't of the accessor's view, the answer is TYPST_ANSWER_NONE. Only the value of a string takes memory, in proportion to
+ * its text.
+ * @param accessor a TYPST_VIEW_ constant.
+ * @param index which of its answers, counted from 0. After the last one the answer is TYPST_ANSWER_NONE.
+ * @param out receives the text, if the answer is one.
+ * @param room the number of bytes that `out` has room for.
+ * @param answer receives the answer, even if the buffer is too short for its text.
+ * @return TYPST_DONE, TYPST_NOT_MADE, TYPST_BAD_ACCESSOR, TYPST_NO_TREE, TYPST_NO_NODE, TYPST_NO_MEMORY or TYPST_SHORT_BUFFER.
+ */
+typst_status typst_view(typst_session *session, const size_t *path, size_t depth, uint32_t accessor, size_t index, char *out,
+                        size_t room, typst_answer *answer);
 
 /**
  * Lists the errors of the tree in preorder, and then the warnings in preorder. The warnings of one node go from the outermost to
@@ -626,6 +671,7 @@ static inline const char *typst_status_text(typst_status status)
     case TYPST_NO_HINTS: return "the node takes no hints";
     case TYPST_BAD_SET: return "no set of kinds has this number";
     case TYPST_NO_PLACE: return "the text has no such place";
+    case TYPST_BAD_ACCESSOR: return "the number is no accessor";
     case TYPST_NULL: return "a pointer is null";
     default: return "no status of this library";
     }
@@ -769,6 +815,14 @@ static inline typst_status typst_try_child_of_class(typst_session *session, cons
 {
     if (!session || (!path && depth) || !child) return TYPST_NULL;
     return typst_child_of_class(session, TYPST_OR_NOWHERE(path, const size_t *), depth, node_class, index, from_end, child);
+}
+
+static inline typst_status typst_try_view(typst_session *session, const size_t *path, size_t depth, uint32_t accessor,
+                                          size_t index, char *out, size_t room, typst_answer *answer)
+{
+    if (!session || (!path && depth) || (!out && room) || !answer) return TYPST_NULL;
+    return typst_view(session, TYPST_OR_NOWHERE(path, const size_t *), depth, accessor, index, TYPST_OR_NOWHERE(out, char *), room,
+                      answer);
 }
 
 static inline typst_status typst_try_diagnostics(typst_session *session, typst_diagnostic *out, size_t room, char *texts,

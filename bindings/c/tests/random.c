@@ -12,7 +12,7 @@
 #include <stdlib.h>
 #include <string.h>
 
-enum { STACK = 12, LARGEST = 120, DEPTH = 64, TEXT = 4096, REMARKS = 2000, CALLS = 29, STATUSES = 21 };
+enum { STACK = 12, LARGEST = 120, DEPTH = 64, TEXT = 4096, REMARKS = 2000, CALLS = 30, STATUSES = 22 };
 
 static uint64_t seed = 88172645463325252u;
 
@@ -568,6 +568,77 @@ static typst_status pick(void)
     return status;
 }
 
+/* Accessors whose answers the model works out, with the kinds of their nodes. */
+static const struct {
+    uint32_t accessor, kind;
+} known[] = {{TYPST_VIEW_TEXT_GET, TYPST_KIND_TEXT},           {TYPST_VIEW_LINK_GET, TYPST_KIND_LINK},
+             {TYPST_VIEW_IDENT_GET, TYPST_KIND_IDENT},         {TYPST_VIEW_FLOAT_GET, TYPST_KIND_FLOAT},
+             {TYPST_VIEW_MATH_PRIMES_COUNT, TYPST_KIND_MATH_PRIMES}, {TYPST_VIEW_BOOL_GET, TYPST_KIND_BOOL},
+             {TYPST_VIEW_HEADING_DEPTH, TYPST_KIND_HEADING},   {TYPST_VIEW_REF_TARGET, TYPST_KIND_REF}};
+
+/* The first child of a kind, or null. */
+static const struct node *first_of(const struct node *node, uint32_t kind)
+{
+    for (size_t i = 0; i < node->count; i++)
+        if (node->children[i]->kind == kind) return node->children[i];
+    return NULL;
+}
+
+/* What an accessor that is known should answer of a node of its kind. It writes the text into `out`. */
+static typst_answer answer_of(uint32_t accessor, const struct node *node, char *out)
+{
+    typst_answer answer = {0, 0, 0, TYPST_ANSWER_TEXT};
+    const struct node *marker = first_of(node, accessor == TYPST_VIEW_REF_TARGET ? TYPST_KIND_REF_MARKER : TYPST_KIND_HEADING_MARKER);
+    const struct node *of = accessor == TYPST_VIEW_REF_TARGET ? marker : node;
+    size_t len = !of || of->inner ? 0 : of->len, from = 0;
+    if (accessor == TYPST_VIEW_REF_TARGET)
+        while (from < len && of->text[from] == '@') from++;
+    if (accessor == TYPST_VIEW_MATH_PRIMES_COUNT || accessor == TYPST_VIEW_HEADING_DEPTH) {
+        size_t depth = marker && node_len(marker) ? node_len(marker) : 1;
+        answer.form = TYPST_ANSWER_NATURAL;
+        answer.number = accessor == TYPST_VIEW_HEADING_DEPTH ? depth : len;
+    } else if (accessor == TYPST_VIEW_BOOL_GET) {
+        answer.form = TYPST_ANSWER_FLAG;
+        answer.number = len == 4 && memcmp(of->text, "true", 4) == 0;
+    } else if ((answer.len = len - from)) {
+        memcpy(out, of->text + from, len - from);
+    }
+    return answer;
+}
+
+/* Reads a node by an accessor. */
+static typst_status view(void)
+{
+    char out[80], text[80] = {0};
+    size_t path[8], depth = draw_path(path), index = once_in(8) ? once_in(2) ? 1 : SIZE_MAX : 0;
+    size_t at = draw(sizeof known / sizeof *known), room = once_in(4) ? draw(8) : sizeof out;
+    const struct node *node = model_at(path, depth);
+    for (size_t i = 0; node && i < sizeof known / sizeof *known; i++)
+        if (known[i].kind == node->kind) at = i;
+    bool is_known = !once_in(8);
+    uint32_t accessor = is_known ? known[at].accessor : once_in(3) ? UINT32_MAX - (uint32_t)draw(2) : (uint32_t)draw(TYPST_ACCESSORS + 9);
+    typst_answer answer = {77, 77, 77, 77}, wanted = {0, 0, 0, TYPST_ANSWER_NONE};
+    memset(out, '#', sizeof out);
+    typst_status status = typst_view(&session, path, depth, accessor, index, out, room, &answer);
+    if (status != TYPST_DONE && status != TYPST_SHORT_BUFFER) WANT(answer.number == 77 && answer.integer == 77 && answer.len == 77 && answer.form == 77, 1);
+    for (size_t i = status == TYPST_DONE ? answer.len : 0; i < sizeof out; i++) WANT(out[i], '#');
+    if (model.is_document) return status;
+    if (!is_known) {
+        typst_status refused = !model.made ? TYPST_NOT_MADE : TYPST_ACCESSORS <= accessor ? TYPST_BAD_ACCESSOR : reads(node);
+        if (refused != TYPST_DONE) WANT(status, refused);
+        return status;
+    }
+    if (node && node->kind == known[at].kind && index == 0) wanted = answer_of(accessor, node, text);
+    WANT(status, !model.made ? TYPST_NOT_MADE : reads(node) ? reads(node) : room < wanted.len ? TYPST_SHORT_BUFFER : TYPST_DONE);
+    if (status != TYPST_DONE && status != TYPST_SHORT_BUFFER) return status;
+    WANT(answer.form, wanted.form);
+    WANT(answer.number, wanted.number);
+    WANT(answer.integer, 0);
+    WANT(answer.len, wanted.len);
+    if (status == TYPST_DONE) WANT(memcmp(out, text, wanted.len), 0);
+    return status;
+}
+
 /* Reads what is wrong. */
 static typst_status diagnostics(void)
 {
@@ -809,7 +880,7 @@ int main(int argc, char **argv)
                       {"preorder", preorder, 60},    {"range_of", range_of, 60},     {"neighbor", neighbor, 120},
                       {"kind", kind, 20},            {"places", places, 100},
                       {"diagnostics", diagnostics, 15}, {"compare", compare, 60},
-                      {"pick", pick, 60}};
+                      {"pick", pick, 60},            {"view", view, 100}};
     static unsigned long seen[CALLS][STATUSES];
     unsigned long many = argc > 1 ? strtoul(argv[1], NULL, 10) : 1000000;
     size_t weights = 0;

@@ -119,6 +119,22 @@ static void tree(typst_session *session, long refused)
     check(info.children == 2 && info.descendants == 16 && info.warnings == 1, "the copy has other nodes", refused);
 }
 
+/* Reads the value of a string, which is made for the call. */
+static void view(typst_session *session, long refused)
+{
+    static const char string[] = "\"a \\\"text\\\" that is longer than those that take no memory\"";
+    static const char value[] = "a \"text\" that is longer than those that take no memory";
+    size_t path[1] = {0};
+    typst_answer answer = {0, 0, 0, 0};
+    char text[80];
+
+    DO(typst_push_leaf(session, TYPST_KIND_STR, string, sizeof string - 1));
+    DO(typst_number(session, 1, TYPST_FIRST_NUMBER, TYPST_END_NUMBER));
+    DO(typst_view(session, path, 0, TYPST_VIEW_STR_GET, 0, text, sizeof text, &answer));
+    check(answer.form == TYPST_ANSWER_TEXT && answer.len == sizeof value - 1, "the string has another length", refused);
+    check(memcmp(text, value, sizeof value - 1) == 0, "the string has another value", refused);
+}
+
 /* Opens a document, edits and reads it. */
 static void document(typst_session *session, long refused)
 {
@@ -150,6 +166,7 @@ int main(void)
         granted = refused;
         DO(typst_new(&session));
         tree(&session, refused);
+        view(&session, refused);
         document(&session, refused);
         any = granted < 0;
         check(!any || refused_calls == before + 1, "no call says that memory was refused", refused);

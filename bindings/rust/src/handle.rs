@@ -8,7 +8,8 @@
 
 use crate::error::Error;
 use crate::raw::{
-    self, ByteRange, Diagnostic, DiagnosticSizes, Edited, KindClasses, Length, LineColumn, NodeInfo, Place, Window,
+    self, ByteRange, Diagnostic, DiagnosticSizes, Edited, KindClasses, Length, LineColumn, NodeInfo, Place, ViewAnswer,
+    Window,
 };
 use std::cell::UnsafeCell;
 use std::ops::Range;
@@ -190,6 +191,45 @@ impl Handle {
             raw::typst_child_of_class(self.at(), path.as_ptr(), many, class, index, from_end, &mut child)
         })?;
         Ok(child)
+    }
+
+    /// What an accessor answers, and its text.
+    pub(crate) fn view(&self, path: &[usize], accessor: u32, index: usize) -> Result<(ViewAnswer, String), Error> {
+        let mut few = [0; 64];
+        let mut answer = ViewAnswer::default();
+        match self.view_into(path, accessor, index, &mut few, &mut answer) {
+            Ok(()) => Ok((answer, text(few[..answer.len].to_vec(), Length { len: answer.len }))),
+            Err(Error::Buffer) => {
+                let mut out = vec![0; answer.len];
+                self.view_into(path, accessor, index, &mut out, &mut answer)?;
+                Ok((answer, text(out, Length { len: answer.len })))
+            }
+            Err(error) => Err(error),
+        }
+    }
+
+    fn view_into(
+        &self,
+        path: &[usize],
+        accessor: u32,
+        index: usize,
+        out: &mut [u8],
+        answer: &mut ViewAnswer,
+    ) -> Result<(), Error> {
+        let (depth, room) = (path.len(), out.len());
+        // SAFETY: what the head of this module says.
+        outcome(unsafe {
+            raw::typst_view(
+                self.at(),
+                path.as_ptr(),
+                depth,
+                accessor,
+                index,
+                out.as_mut_ptr(),
+                room,
+                answer,
+            )
+        })
     }
 
     /// The errors, warnings and hints, and their texts one after the other.

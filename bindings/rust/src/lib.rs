@@ -20,6 +20,7 @@
 //! ```
 #![deny(unsafe_code)]
 
+mod accessor;
 mod classes;
 mod cursor;
 mod diagnostic;
@@ -33,7 +34,9 @@ mod raw;
 mod source;
 mod span;
 mod tree;
+mod view;
 
+pub use accessor::Accessor;
 pub use classes::SyntaxSet;
 pub use cursor::Cursor;
 pub use diagnostic::{Diagnostic, Hint, Severity};
@@ -45,3 +48,4 @@ pub use place::{ColumnUnit, LineColumn};
 pub use source::{Edited, Source};
 pub use span::{FileId, Side, Span};
 pub use tree::{Builder, Nodes, NotNumbered, Renumbered, Tree};
+pub use view::Answer;

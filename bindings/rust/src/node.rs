@@ -1,5 +1,6 @@
 //! Nodes with their places.
 
+use crate::accessor::Accessor;
 use crate::cursor::Cursor;
 use crate::error::Error;
 use crate::handle::Handle;
@@ -7,6 +8,7 @@ use crate::kind::SyntaxKind;
 use crate::node_class::NodeClass;
 use crate::raw::NodeInfo;
 use crate::span::{Side, Span};
+use crate::view::Answer;
 use std::fmt;
 use std::iter::{Enumerate, FusedIterator};
 use std::ops::Range;
@@ -135,6 +137,26 @@ impl<'t> Node<'t> {
             .child_of_class(&self.path, class.number(), index, true)
             .ok()?;
         self.child(child)
+    }
+
+    /// What an accessor of a typed view answers of this node. It answers nothing if the node isn't of the accessor's
+    /// view. This fails only if memory is refused, and only the value of a string takes memory of the library.
+    ///
+    /// ```
+    /// use typst_tree::{Accessor, Answer, Builder, Error, FileId, Span, SyntaxKind};
+    ///
+    /// # fn main() -> Result<(), Error> {
+    /// let mut builder = Builder::new()?;
+    /// builder.leaf(SyntaxKind::HeadingMarker, "==")?.leaf(SyntaxKind::Text, "Results")?.wrap(SyntaxKind::Heading, 2)?;
+    /// let tree = builder.number(FileId::MIN, Span::FULL)?;
+    /// assert_eq!(tree.root().view(Accessor::HeadingDepth)?, Some(Answer::Natural(2)));
+    /// assert_eq!(tree.root().view(Accessor::StrGet)?, None);
+    /// # Ok(())
+    /// # }
+    /// ```
+    pub fn view(&self, accessor: Accessor) -> Result<Option<Answer>, Error> {
+        let (told, text) = self.handle.view(&self.path, accessor as u32, 0)?;
+        Ok(Answer::of(told, text))
     }
 
     /// The child indices from the root down to this node.

@@ -56,6 +56,16 @@ pub struct LineColumn {
     pub column: usize,
 }
 
+/// What an accessor answers of a node.
+#[repr(C)]
+#[derive(Clone, Copy, Debug, Default)]
+pub struct ViewAnswer {
+    pub number: u64,
+    pub integer: i64,
+    pub len: usize,
+    pub form: u32,
+}
+
 /// An error, a warning or a hint.
 #[repr(C)]
 #[derive(Clone, Copy, Debug, Default)]
@@ -176,6 +186,16 @@ extern "C" {
         index: usize,
         from_end: u32,
         child: *mut usize,
+    ) -> u32;
+    pub fn typst_view(
+        session: *mut Session,
+        path: *const usize,
+        depth: usize,
+        accessor: u32,
+        index: usize,
+        out: *mut u8,
+        room: usize,
+        answer: *mut ViewAnswer,
     ) -> u32;
     pub fn typst_diagnostics(
         session: *mut Session,

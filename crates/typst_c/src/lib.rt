@@ -22,3 +22,4 @@ pub mod places;
 pub mod reading;
 pub mod told;
 pub mod trees;
+pub mod views;

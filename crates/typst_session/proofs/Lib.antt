@@ -2,3 +2,4 @@ pub mod Listed
 pub mod Tops
 pub mod OwnPlaces
 pub mod Picked
+pub mod Viewed

@@ -6,7 +6,7 @@ use Rattle.typst_source.specs.declared.error.SourceError.TheVariants as source
 use Rattle.typst_tree.specs.declared.edit.EditError.{EditError}
 use Rattle.typst_tree.specs.declared.edit.EditError.TheVariants as edit
 use Rattle.typst_session.specs.declared.refusal.Refusal.{Refusal}
-use Rattle.typst_session.specs.declared.refusal.Refusal.TheVariants.{Memory, Kind, Text, Stack, Size, NoTree, IsDocument, NoDocument, File, Numbers, Unnumberable, NoNode, Leaf, Range, NotFound, Buffer, NoHints, Set, NoPlace}
+use Rattle.typst_session.specs.declared.refusal.Refusal.TheVariants.{Memory, Kind, Text, Stack, Size, NoTree, IsDocument, NoDocument, File, Numbers, Unnumberable, NoNode, Leaf, Range, NotFound, Buffer, NoHints, Set, NoPlace, Accessor}
 
 -- the code of a refusal; 0 says that a call was done, and 1 that a handle holds nothing
 abbrev pub code_of : Refusal → ℕ
@@ -29,6 +29,7 @@ code_of Buffer = 17
 code_of NoHints = 18
 code_of Set = 19
 code_of NoPlace = 20
+code_of Accessor = 21
 
 -- the refusal for an error of an edit of a tree
 abbrev pub of_edit : EditError → Refusal

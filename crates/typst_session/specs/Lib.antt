@@ -14,3 +14,4 @@ pub mod Diagnostics
 pub mod Comparing
 pub mod Classes
 pub mod Kinds
+pub mod Views

@@ -14,6 +14,7 @@ pub use neighbors::Neighbor;
 pub use places::LineColumn;
 pub use refusal::Refusal;
 pub use session::{Held, Session};
+pub use views::{Asked, ViewAnswer};
 
 pub mod building;
 pub mod classes;
@@ -32,3 +33,4 @@ pub mod reading;
 pub mod refusal;
 pub mod session;
 pub mod trees;
+pub mod views;

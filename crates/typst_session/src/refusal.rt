@@ -68,6 +68,9 @@ pub enum Refusal {
     /// The text has no such place: the byte is past its end or within a character, or no byte has that line and column.
     #[error("the text has no such place")]
     NoPlace,
+    /// The number is no accessor of a view.
+    #[error("the number is no accessor")]
+    Accessor,
 }
 
 impl Refusal {
@@ -95,6 +98,7 @@ impl Refusal {
             Refusal::NoHints => 18,
             Refusal::Set => 19,
             Refusal::NoPlace => 20,
+            Refusal::Accessor => 21,
         }
     }
 }

@@ -19,3 +19,5 @@ mod refusals;
 mod stack;
 #[cfg(test)]
 mod trees;
+#[cfg(test)]
+mod views;

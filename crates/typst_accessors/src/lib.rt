@@ -1,0 +1,15 @@
+//! The accessors of typed views by numbers, for callers in other languages.
+//!
+//! An [`Accessor`] has a number, and belongs to the nodes of one kind: its view. It answers an [`Answer`] of a node, as
+//! the accessor of its name in `typst_ast` does.
+#![tactic(auto)]
+
+pub use accessor::Accessor;
+pub use answer::Answer;
+
+pub mod accessor;
+pub mod answer;
+mod characters;
+mod flags;
+mod naturals;
+mod texts;

@@ -1,0 +1,5 @@
+//! The tests of `typst_accessors`: each accessor answers by its number.
+#![tactic(auto)]
+
+#[cfg(test)]
+mod accessors;
