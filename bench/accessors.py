@@ -45,6 +45,11 @@ class Accessor:
         return f"{self.view}.{self.name}"
 
 
+def article(view):
+    """The article before the name of a view."""
+    return "an" if view[0] in "AEIO" else "a"
+
+
 def row(line, number, kinds):
     cells = [cell.strip() for cell in line.split(" | ")]
     if len(cells) != 5:
@@ -199,7 +204,7 @@ def header(found):
     lines = [f"/* The accessors of views, by number. {WRITTEN} */"]
     lines += ["#ifndef TYPST_ACCESSORS_H", "#define TYPST_ACCESSORS_H", "", "enum {"]
     for one in found:
-        lines += [f"    /** Of a {one.view}, {FORMS[one.form]}: {one.doc[0].lower()}{one.doc[1:]} */"]
+        lines += [f"    /** Of {article(one.view)} {one.view}, {FORMS[one.form]}: {one.doc[0].lower()}{one.doc[1:]} */"]
         lines += [f"    TYPST_VIEW_{constant(one.view)}_{one.name.upper()} = {one.number},"]
     lines += ["    /** The number of accessors. */", f"    TYPST_ACCESSORS = {len(found)}", "};", "", "#endif", ""]
     return "\n".join(lines)
@@ -211,7 +216,7 @@ def rust(found):
     lines += ["#[derive(Clone, Copy, Debug, PartialEq, Eq, PartialOrd, Ord, Hash)]", "#[repr(u32)]"]
     lines += ["#[non_exhaustive]", "pub enum Accessor {"]
     for one in found:
-        lines += [f"    /// Of a `{one.view}`, {FORMS[one.form]}: {one.doc[0].lower()}{one.doc[1:]}", f"    {one.variant()},"]
+        lines += [f"    /// Of {article(one.view)} `{one.view}`, {FORMS[one.form]}: {one.doc[0].lower()}{one.doc[1:]}", f"    {one.variant()},"]
     lines += ["}", ""]
     return "\n".join(lines)
 

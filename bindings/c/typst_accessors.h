@@ -13,11 +13,11 @@ enum {
     TYPST_VIEW_RAW_LANG_GET = 3,
     /** Of a Link, a text of the tree: the address. */
     TYPST_VIEW_LINK_GET = 4,
-    /** Of a Ident, a text of the tree: the identifier. */
+    /** Of an Ident, a text of the tree: the identifier. */
     TYPST_VIEW_IDENT_GET = 5,
     /** Of a MathIdent, a text of the tree: the identifier. */
     TYPST_VIEW_MATH_IDENT_GET = 6,
-    /** Of a Escape, a character: the escaped character. It is U+0000 if the text names no character. */
+    /** Of an Escape, a character: the escaped character. It is U+0000 if the text names no character. */
     TYPST_VIEW_ESCAPE_GET = 7,
     /** Of a Shorthand, a character: the character that the signs stand for. It is U+0000 if the text is no shorthand. */
     TYPST_VIEW_SHORTHAND_GET = 8,
@@ -35,7 +35,7 @@ enum {
     TYPST_VIEW_MATH_PRIMES_COUNT = 14,
     /** Of a Bool, a boolean: the value: whether the text is `true`. */
     TYPST_VIEW_BOOL_GET = 15,
-    /** Of a Int, an integer with a sign: the value. It is 0 if the text is no integer, or one that 64 bits with a sign don't hold. */
+    /** Of an Int, an integer with a sign: the value. It is 0 if the text is no integer, or one that 64 bits with a sign don't hold. */
     TYPST_VIEW_INT_GET = 16,
     /** Of a Float, a text of the tree: the number, as it is written. */
     TYPST_VIEW_FLOAT_GET = 17,
@@ -49,11 +49,11 @@ enum {
     TYPST_VIEW_MATH_WAS_DEPARENTHESIZED = 21,
     /** Of a Heading, a natural number, or none: the section depth: the number of bytes of the marker, or 1 if it is empty or missing. */
     TYPST_VIEW_HEADING_DEPTH = 22,
-    /** Of a EnumItem, a natural number, or none: the number that the text gives to the item, if it gives one. */
+    /** Of an EnumItem, a natural number, or none: the number that the text gives to the item, if it gives one. */
     TYPST_VIEW_ENUM_ITEM_NUMBER = 23,
     /** Of a Ref, a text of the tree: the target: the marker's text without all `@` at its beginning. */
     TYPST_VIEW_REF_TARGET = 24,
-    /** Of a Equation, a boolean: whether the equation is a block: its second child and its last child but one are spaces. */
+    /** Of an Equation, a boolean: whether the equation is a block: its second child and its last child but one are spaces. */
     TYPST_VIEW_EQUATION_BLOCK = 25,
     /** Of a MathRoot, a natural number, or none: the index of a root by its sign: 3 or 4, if it has one. */
     TYPST_VIEW_MATH_ROOT_INDEX = 26,
@@ -67,7 +67,7 @@ enum {
     TYPST_VIEW_BINARY_PRECEDENCE = 30,
     /** Of a Binary, a boolean: whether the operator groups from the right, as assignments do. */
     TYPST_VIEW_BINARY_IS_RIGHT = 31,
-    /** Of a Args, a boolean: whether a comma comes after the last argument. */
+    /** Of an Args, a boolean: whether a comma comes after the last argument. */
     TYPST_VIEW_ARGS_TRAILING_COMMA = 32,
     /** The number of accessors. */
     TYPST_ACCESSORS = 33

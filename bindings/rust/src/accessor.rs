@@ -15,11 +15,11 @@ pub enum Accessor {
     RawLangGet,
     /// Of a `Link`, a text of the tree: the address.
     LinkGet,
-    /// Of a `Ident`, a text of the tree: the identifier.
+    /// Of an `Ident`, a text of the tree: the identifier.
     IdentGet,
     /// Of a `MathIdent`, a text of the tree: the identifier.
     MathIdentGet,
-    /// Of a `Escape`, a character: the escaped character. It is U+0000 if the text names no character.
+    /// Of an `Escape`, a character: the escaped character. It is U+0000 if the text names no character.
     EscapeGet,
     /// Of a `Shorthand`, a character: the character that the signs stand for. It is U+0000 if the text is no shorthand.
     ShorthandGet,
@@ -37,7 +37,7 @@ pub enum Accessor {
     MathPrimesCount,
     /// Of a `Bool`, a boolean: the value: whether the text is `true`.
     BoolGet,
-    /// Of a `Int`, an integer with a sign: the value. It is 0 if the text is no integer, or one that 64 bits with a sign don't hold.
+    /// Of an `Int`, an integer with a sign: the value. It is 0 if the text is no integer, or one that 64 bits with a sign don't hold.
     IntGet,
     /// Of a `Float`, a text of the tree: the number, as it is written.
     FloatGet,
@@ -51,11 +51,11 @@ pub enum Accessor {
     MathWasDeparenthesized,
     /// Of a `Heading`, a natural number, or none: the section depth: the number of bytes of the marker, or 1 if it is empty or missing.
     HeadingDepth,
-    /// Of a `EnumItem`, a natural number, or none: the number that the text gives to the item, if it gives one.
+    /// Of an `EnumItem`, a natural number, or none: the number that the text gives to the item, if it gives one.
     EnumItemNumber,
     /// Of a `Ref`, a text of the tree: the target: the marker's text without all `@` at its beginning.
     RefTarget,
-    /// Of a `Equation`, a boolean: whether the equation is a block: its second child and its last child but one are spaces.
+    /// Of an `Equation`, a boolean: whether the equation is a block: its second child and its last child but one are spaces.
     EquationBlock,
     /// Of a `MathRoot`, a natural number, or none: the index of a root by its sign: 3 or 4, if it has one.
     MathRootIndex,
@@ -69,6 +69,6 @@ pub enum Accessor {
     BinaryPrecedence,
     /// Of a `Binary`, a boolean: whether the operator groups from the right, as assignments do.
     BinaryIsRight,
-    /// Of a `Args`, a boolean: whether a comma comes after the last argument.
+    /// Of an `Args`, a boolean: whether a comma comes after the last argument.
     ArgsTrailingComma,
 }
