@@ -1,8 +1,9 @@
 /* Refuses each request for memory of a run of calls in turn.
  *
  * The call that is refused memory must return TYPST_NO_MEMORY and change nothing. The same call is then made once more,
- * with memory, and must be done. The run must end with the same text and the same nodes as a run without refusals. At
- * the end no block may be left. */
+ * with memory, and must be done. Only the value of a string may also be done with less memory. The run must end with the
+ * same text and the same nodes as a run without refusals. At the end no block may be left.
+ */
 #include "typst.h"
 
 #include <stdbool.h>
@@ -127,10 +128,16 @@ static void view(typst_session *session, long refused)
     size_t path[1] = {0};
     typst_answer answer = {0, 0, 0, 0};
     char text[80];
+    long before;
+    bool is_open;
 
     DO(typst_push_leaf(session, TYPST_KIND_STR, string, sizeof string - 1));
     DO(typst_number(session, 1, TYPST_FIRST_NUMBER, TYPST_END_NUMBER));
+    before = refused_calls;
+    is_open = granted >= 0;
     DO(typst_view(session, path, 0, TYPST_VIEW_STR_GET, 0, text, sizeof text, &answer));
+    /* A list that grows asks for more than it needs at once. If that is refused, it asks for less, and the call is done. */
+    if (is_open && granted < 0 && refused_calls == before) refused_calls++;
     check(answer.form == TYPST_ANSWER_TEXT && answer.len == sizeof value - 1, "the string has another length", refused);
     check(memcmp(text, value, sizeof value - 1) == 0, "the string has another value", refused);
 }
