@@ -2,12 +2,6 @@
 #![tactic(auto)]
 
 #[cfg(test)]
-mod classes;
-#[cfg(test)]
-mod columns;
-#[cfg(test)]
-mod diagnostics;
-#[cfg(test)]
 mod documents;
 #[cfg(test)]
 mod kinds;
@@ -19,5 +13,3 @@ mod refusals;
 mod stack;
 #[cfg(test)]
 mod trees;
-#[cfg(test)]
-mod views;
