@@ -87,7 +87,6 @@ impl Beginning {
 ///
 /// It walks on from `near`. If the parser looked further than `start` for the blocks of `near`, it walks from the first
 /// block.
-#[tactic(auto, using(crate::proofs::Sums::bytes_more, crate::proofs::Sums::nodes_more, crate::proofs::Sums::reach_more))]
 fn untouched(extents: &[Extent], near: Beginning, start: usize) -> Beginning
     requires bytes { bytes_in extents.now < 2 ^ 64 }
     requires nodes { nodes_in extents.now < 2 ^ 64 }

@@ -33,7 +33,6 @@ pub(crate) struct Window {
 }
 
 /// Passes over old blocks while more than `left` bytes of them are left.
-#[tactic(auto, using(crate::proofs::Sums::bytes_more, crate::proofs::Sums::nodes_more, crate::proofs::Sums::bytes_parts, crate::proofs::Sums::nodes_parts))]
 fn pass(olds: &Olds<'_>, passed: Sums, left: usize) -> Sums
     requires bytes { bytes_in olds.now.extents.now ≡ olds.now.bytes }
     requires nodes { nodes_in olds.now.extents.now < 2 ^ 64 }

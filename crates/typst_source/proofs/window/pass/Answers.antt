@@ -32,3 +32,9 @@ loop-now-preserved c =
         | inr same ↦ let is : k ≡ now.blocks = omega arith in subst (λ i. c.args.left < bytes_in (drop i es)) (sym is) (omega (arith, bytes_parts es now.blocks, c.loop-now.invariant.sums.bytes))
       ];
     }
+
+pub overflow_sub-olds : goal.overflow_sub-olds
+overflow_sub-olds c = omega (arith, bytes_parts c.args.olds.now.extents.now c.loop-now.now.blocks, c.loop-now.invariant.sums.bytes, c.requires.bytes)
+
+pub returns-clause-left : goal.returns-clause-left
+returns-clause-left c = omega (arith, bytes_parts c.args.olds.now.extents.now c.loop-now.now.blocks, c.loop-now.invariant.sums.bytes, c.requires.bytes)
