@@ -81,7 +81,7 @@ struct Owner {
 impl InnerNode {
     /// The change that replaces some children by others, if the node's own sums fit a usize then. It reads only these
     /// children and the others.
-    #[tactic(auto, using(crate::proofs::Opens::splice_count, crate::proofs::Opens::splice_text, crate::proofs::Opens::part_count, crate::proofs::Opens::part_text))]
+    #[tactic(auto, using(crate::proofs::Opens::splice_count, crate::proofs::Opens::splice_text))]
     fn change(&self, len: usize, edit: &Splice) -> Option<Change>
         requires len { len ≡ length (text_of_all self.now.children.items) }
         requires measured { IsMeasured self.now }

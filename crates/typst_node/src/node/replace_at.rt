@@ -161,7 +161,7 @@ impl SyntaxNode {
     }
 
     /// Whether the length and the node count of this node fit a usize after an edit at a path.
-    #[tactic(auto, using(crate::proofs::WholeTreeEdited::count_edited, crate::proofs::WholeTreeEdited::text_edited, crate::proofs::Opens::part_count, crate::proofs::Opens::part_text, crate::proofs::WholeTreeEdited::count_below, crate::proofs::WholeTreeEdited::text_below))]
+    #[tactic(auto, using(crate::proofs::WholeTreeEdited::count_edited, crate::proofs::WholeTreeEdited::text_edited))]
     fn sums_fit(&self, path: &[usize], edit: &Splice) -> bool
         requires path { IsPath path.now self.now }
         requires range { (edit.now.from ≤ edit.now.to) × (edit.now.to ≤ length
