@@ -251,6 +251,21 @@ def differing_typing(program):
     return [f"typing has {it}" for it in told]
 
 
+def differing_paste(program):
+    """What differs in the page of an edit that numbers more children than are drawn."""
+    paragraph, count = '  Text "a"\n  Parbreak "\\n\\n"\n', 40
+    old, new = shown.numbered(shown.tree_of("Markup\n" + paragraph)), shown.tree_of("Markup\n" + count * paragraph)
+    new.place()
+    windows = shown.edited(old, new, range(2), range(2 * count))
+    with tempfile.TemporaryDirectory() as room:
+        fill(room, {"a.typ": "a\n\n", "e": '0..3 "' + count * "a\\n\\n" + '"\n'})
+        page = show_page.Page(run(program, ["a.typ", "--edits", "e", "--page", "-"], room).stdout.decode())
+    told = [*page.wrong, *show_page.differing_step(page.steps[1], 1, new), *show_page.differing_drawing(page.steps[1], new, windows[-1], windows)]
+    if page.steps[1]["left_out"] != f"{2 * count - show_page.MOST} more children after these aren't drawn.":
+        told.append(f"{page.steps[1]['left_out']!r} after its drawing")
+    return [f"the paste has {it}" for it in told]
+
+
 def escaped(program):
     """Whether markup in a text, in its name and in an edit is text in a page."""
     markup = "<script>alert(1)</script> & \"'\0\n"
@@ -364,7 +379,7 @@ def main():
     wrong = [line for row in WRONG for line in told_wrong(program, *row)]
     different, views = differing_views(program)
     wrong += differing_pairs(program) + differing_edits(program) + different
-    wrong += differing_pages(program) + differing_typing(program) + escaped(program) + examples(program)
+    wrong += differing_pages(program) + differing_typing(program) + differing_paste(program) + escaped(program) + examples(program)
     pairs = len(list(PAIRS.glob("*.typ")))
     counts = f"{pairs} texts with their trees and edits, {views} trees with their answers, {len(WRONG)} wrong inputs"
     print("\n".join([*wrong, f"{counts}, {len(wrong)} differences"]))

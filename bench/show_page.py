@@ -32,7 +32,7 @@ class Page(HTMLParser):
         if tag == "h2":
             self.title = ""
         elif "numbers" in classes or ("pair" in classes and (not self.steps or self.steps[-1]["nodes"] is not None)):
-            self.steps.append({"title": self.title, "text": "", "nodes": None, "reports": [], "shapes": []})
+            self.steps.append({"title": self.title, "text": "", "nodes": None, "reports": [], "shapes": [], "left_out": ""})
         if "pair" in classes:
             self.steps[-1]["nodes"] = []
         step = self.steps[-1] if self.steps else None
@@ -67,6 +67,8 @@ class Page(HTMLParser):
             self.steps[-1]["reports"][-1] += data
         elif "text" in within:
             self.steps[-1]["shapes"][-1]["told"] += data
+        elif "p" in within and self.steps and self.steps[-1]["nodes"] is None:
+            self.steps[-1]["left_out"] += data
 
 
 def signed(text):
@@ -116,12 +118,14 @@ def reported(root):
 
 
 def drawing_of(new, window, windows):
-    """The children that are drawn with their numbers, and the windows that were tried, as ranges of children."""
+    """The children that are drawn with their numbers, the windows that were tried, as ranges of children, and what is said of the children that aren't drawn."""
     first = max(window.start - BESIDE, 0)
-    drawn = range(first, min(window.stop + BESIDE, len(new.children), first + MOST))
+    end = min(window.stop + BESIDE, len(new.children))
+    drawn = range(first, min(end, first + MOST))
     children = [(new.children[at].kind, str(new.children[at].number), new.children[at].is_new) for at in drawn]
     within = [range(max(it.start, drawn.start), min(it.stop, drawn.stop)) for it in windows]
-    return children, [(it.start - first, max(it.stop - it.start, 0)) for it in within]
+    left_out = f"{end - drawn.stop} more children after these aren't drawn." if end > drawn.stop else ""
+    return children, [(it.start - first, max(it.stop - it.start, 0)) for it in within], left_out
 
 
 def drawn_in(step):
@@ -133,17 +137,17 @@ def drawn_in(step):
     children = [(kind, number, "new" in it["fill"]) for it, kind, number in zip(circles, named[::2], named[1::2])]
     rects = [it for it in shapes if it["tag"] == "rect"]
     windows = [((int(it["x"]) - LEFT) // WIDTH, int(it["width"]) // WIDTH) for it in rects]
-    return children, windows, texts[2 * len(circles) :]
+    return children, windows, step["left_out"], texts[2 * len(circles) :]
 
 
 def differing_drawing(step, new, window, windows):
-    children, ranges = drawing_of(new, window, windows)
+    children, ranges, left_out = drawing_of(new, window, windows)
     told = [f"window {at + 1}: {'room' if at + 1 == len(windows) else 'no room'}" for at in range(len(windows))]
     got = drawn_in(step)
     # A window of no children has no width, and its place is no child's.
     clear = lambda all_: [(x if size else None, size) for x, size in all_]
-    wanted = (children, clear(ranges), told)
-    got = (got[0], clear(got[1]), got[2])
+    wanted = (children, clear(ranges), left_out, told)
+    got = (got[0], clear(got[1]), *got[2:])
     return [] if got == wanted else [f"the drawing {got}, and should have {wanted}"]
 
 
