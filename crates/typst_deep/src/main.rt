@@ -118,7 +118,7 @@ fn chain_over(alloc: Global, last: SyntaxNode, depth: usize) -> Result<SyntaxNod
     Ok(node)
 }
 
-/// The tree with all numbers of a file, or nothing if the numbers don't suffice. They do.
+/// The tree with all numbers of a file, or nothing if there are too few numbers, which there aren't.
 fn numbered(root: SyntaxNode) -> Option<NumberedTree> {
     match NumberedTree::number(root, FileId::FIRST, Span::FULL) {
         Ok(tree) => Some(tree),

@@ -7,23 +7,23 @@ use typst_node::{InnerError, Unnumberable};
 #[derive(Clone, Copy, Debug, PartialEq, Eq, Error)]
 pub enum DrawingError {
     /// A word that isn't a leaf, an error, a warning, a hint or a bracket.
-    #[error("a word without a meaning")]
+    #[error("a word is no leaf, error, warning, hint or bracket")]
     Word,
     /// No kind of leaves or inner nodes has this name.
-    #[error("no kind of this name")]
+    #[error("no leaf or inner node has a kind of this name")]
     Kind,
     /// A bracket that nothing opened or that nothing closes.
-    #[error("a bracket without its other one")]
+    #[error("a bracket has no partner")]
     Bracket,
     /// A warning or a hint before the first node, one whose range isn't a part of the node's text, or a hint for a
     /// node that takes none.
-    #[error("a warning or a hint that no node takes")]
+    #[error("no node takes this warning or hint")]
     Misplaced,
     /// No node or several nodes, where one is asked for.
-    #[error("none or several nodes")]
+    #[error("the drawing isn't a single node")]
     Nodes,
-    /// The numbers don't suffice, or no node may have them.
-    #[error("the numbers don't suffice")]
+    /// There are fewer numbers than nodes, or no node may have them.
+    #[error("there are fewer numbers than nodes, or they aren't in 2..2^47")]
     Numbers,
     /// The tree is too large, or memory was refused.
     #[error("out of memory")]

@@ -86,7 +86,7 @@ fn is_told(alloc: Global, depth: usize) -> Result<bool> {
     Ok(errors.len() == 1 && warnings.is_empty())
 }
 
-/// A chain with numbers, or nothing if the numbers don't suffice. They do.
+/// A chain with numbers, or nothing if there are too few numbers, which there aren't.
 fn numbered_chain(alloc: Global, depth: usize) -> Result<Option<NumberedTree>> {
     Ok(numbered(chain(alloc, depth)?))
 }

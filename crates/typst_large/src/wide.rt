@@ -28,7 +28,7 @@ pub fn texts(alloc: Global, size: usize) -> Result<SyntaxNode> {
     Ok(SyntaxNode::inner(alloc, SyntaxKind::Markup, nodes)?)
 }
 
-/// The tree with numbers, or nothing if the numbers don't suffice. They do.
+/// The tree with numbers, or nothing if there are too few numbers, which there aren't.
 pub fn numbered(root: SyntaxNode) -> Option<NumberedTree> {
     NumberedTree::number(root, FileId::FIRST, Span::FULL).ok()
 }

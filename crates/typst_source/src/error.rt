@@ -11,7 +11,7 @@ use typst_node::{InnerError, ReplaceError, Unnumberable};
 #[derive(Clone, Copy, Debug, PartialEq, Eq, Error)]
 pub enum SourceError {
     /// There are fewer node numbers than nodes.
-    #[error("the text has too many nodes to number them")]
+    #[error("the tree has more nodes than there are numbers")]
     Unnumberable,
     /// The length of the text or the number of nodes would pass a usize.
     #[error("the tree is too large")]

@@ -177,7 +177,7 @@ fn errors_say_what_they_are(rt: HostRuntime) -> Result<(), Fail> {
     let rows = [
         (
             SourceError::Unnumberable,
-            "the text has too many nodes to number them",
+            "the tree has more nodes than there are numbers",
         ),
         (SourceError::Overflow, "the tree is too large"),
         (SourceError::Memory, "out of memory"),
