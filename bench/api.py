@@ -5,8 +5,8 @@
     bench/api.py --check    says whether the page is what it would write
 
 The names are those that a crate's `lib.rt` gives out by `pub use`, and for the facade `typst_tree` also those of its
-modules. The rows of a type are its public functions and constants. A trait has rows for its own, and an enum has rows
-for its variants too. A function is written as `name(arguments) -> answer`, without the types of its arguments. A
+modules. The rows of a type are its public fields, functions and constants. A trait has rows for its own, and an enum has
+rows for its variants too. A function is written as `name(arguments) -> answer`, without the types of its arguments. A
 `Result` or an `Option` shows what it holds.
 """
 import re
@@ -16,16 +16,18 @@ from pathlib import Path
 
 TOP = Path(__file__).resolve().parent.parent
 PAGE = TOP / "docs/API.md"
-CRATES = ("typst_tree", "typst_source", "typst_lines", "typst_markup")
+CRATES = ("typst_tree", "typst_source", "typst_lines", "typst_markup", "typst_session")
 BELOW = ("typst_base", "typst_node", "typst_linked", "typst_atoms", "typst_ast")
 ITEM = re.compile(r"^( *)pub (?:const )?(struct|enum|trait|fn|const|type) (\w+)")
 IMPL = re.compile(r"^impl(?:<.*?>)? (?:(\w+)(?:<.*?>)? for )?(\w+)")
+FIELD = re.compile(r"^    pub (\w+): (.*?),?$")
 VARIANT = re.compile(r"^    ([A-Z]\w*)\b")
 IN_TRAIT = re.compile(r"^    fn (\w+)")
 HEAD = """# API
 
-This page has a line for every public name. `bench/api.py` writes it from the doc comments, and the gate compares it. The sources say
-more: each function's contract, what it costs, and when each error comes. [`GUIDE.md`](GUIDE.md) shows the calls in use.
+This page has a line for every public name of five crates: `typst_tree`, `typst_source`, `typst_lines`, `typst_markup` and
+`typst_session`. `bench/api.py` writes it from the doc comments, and the gate compares it. The sources say more: each function's
+contract, what it costs, and when each error comes. [`GUIDE.md`](GUIDE.md) shows the calls in use.
 
 A name is in the crate of its heading. Arguments are shown without `self`. `alloc` is the allocator, as `rt.alloc()`.
 """
@@ -88,7 +90,7 @@ def shown(text):
 def items_of(path):
     """The public names of a source file: the items, and the rows of each type."""
     lines, items, rows = path.read_text().split("\n"), {}, defaultdict(list)
-    doc, owner, variants = [], None, None
+    doc, owner, variants, struct = [], None, None, None
     for at, line in enumerate(lines):
         stripped = line.strip()
         if stripped.startswith("///"):
@@ -100,12 +102,15 @@ def items_of(path):
             found = IMPL.match(line)
             owner = found[2] if found and not found[1] else None
         elif line.startswith("}"):
-            owner = variants = None
+            owner = variants = struct = None
         item = ITEM.match(line)
         if item and not item[1]:
             text = shown(signature(lines, at)) if item[2] == "fn" else item[3]
             items[item[3]] = Item(item[3], item[2], text, sentence(doc))
             variants = item[3] if item[2] in ("enum", "trait") else None
+            struct = item[3] if item[2] == "struct" and line.endswith("{") else None
+        elif struct and (found := FIELD.match(line)):
+            rows[struct].append((f"{found[1]}: {found[2]}", sentence(doc)))
         elif item and owner and len(item[1]) == 4:
             text = shown(signature(lines, at)) if item[2] == "fn" else item[3]
             rows[owner].append((text, sentence(doc)))

@@ -580,7 +580,7 @@ typst_status typst_open(typst_session *session, uint16_t file, const char *text,
 /**
  * Replaces the bytes `from .. to` of the document's text by a text, and parses anew only the blocks that this can touch.
  * @param edited receives which bytes were parsed and which children of the root were numbered anew, with all nodes below them. All other
- *     nodes keep their numbers.
+ *     nodes keep their numbers. Of nodes that were parsed anew those keep them that come out as before, counted from either end.
  * @return TYPST_DONE, TYPST_NOT_MADE, TYPST_NO_DOCUMENT, TYPST_BAD_TEXT, TYPST_BAD_RANGE, TYPST_TOO_LARGE, TYPST_UNNUMBERABLE or
  *     TYPST_NO_MEMORY.
  */

@@ -76,6 +76,20 @@ impl Document {
         Ok(Document { source, lines })
     }
 
+    /// The text with its tree, for reading: [`Source`] finds nodes by number, and bytes of nodes.
+    pub fn source(&self) -> &Source<Markup>
+        ensures { result.now ≡ self.now }
+    {
+        &self.source
+    }
+
+    /// The text.
+    pub fn text(&self) -> &str
+        ensures { result.now ≡ text self.now }
+    {
+        self.source.text()
+    }
+
     /// The root of the tree.
     pub fn root(&self) -> &SyntaxNode
         ensures same { result.now ≡ self.now }

@@ -24,6 +24,18 @@ impl Mark {
     }
 }
 
+/// Whether a node is outside an edit: outside its window, so that the node kept its number, and outside the bytes that
+/// were parsed anew.
+fn is_outside(alloc: Global, node: &LinkedNode, done: &Edited) -> Result<bool, AllocError> {
+    let path = node.path(alloc)?;
+    let is_in_window = path
+        .first()
+        .is_some_and(|child| done.renumbered.window.contains(child));
+    let bytes = node.range();
+    let is_kept = bytes.end <= done.reparsed.start || done.reparsed.end <= bytes.start;
+    Ok(is_kept && !is_in_window)
+}
+
 /// Where a byte after an edit's range is once the edit was done.
 fn after(byte: usize, edit: &TextEdit) -> Option<usize> {
     byte.checked_sub(edit.range.end)?
@@ -31,20 +43,51 @@ fn after(byte: usize, edit: &TextEdit) -> Option<usize> {
         .checked_add(edit.with.len())
 }
 
-/// Where bytes are after an edit before, after or within them. `None` where the edit crosses an end of them.
-fn moved(bytes: &Range<usize>, edit: &TextEdit) -> Option<Range<usize>> {
+/// Where bytes may be after an edit before, after or within them. An edit at an end of them may be part of them or not.
+/// There is no such place if the edit crosses an end of them.
+fn moved(
+    alloc: Global,
+    bytes: &Range<usize>,
+    edit: &TextEdit,
+) -> Result<Vec<Range<usize>>, AllocError> {
+    let mut places = Vec::new(alloc);
     if bytes.end <= edit.range.start {
-        Some(bytes.start..bytes.end)
-    } else if edit.range.end <= bytes.start {
-        Some(after(bytes.start, edit)?..after(bytes.end, edit)?)
-    } else if bytes.start <= edit.range.start && edit.range.end <= bytes.end {
-        Some(bytes.start..after(bytes.end, edit)?)
-    } else {
-        None
+        places.push(bytes.start..bytes.end)?;
     }
+    if edit.range.end <= bytes.start {
+        if let (Some(start), Some(end)) = (after(bytes.start, edit), after(bytes.end, edit)) {
+            places.push(start..end)?;
+        }
+    }
+    if bytes.start <= edit.range.start && edit.range.end <= bytes.end {
+        if let Some(end) = after(bytes.end, edit) {
+            places.push(bytes.start..end)?;
+        }
+    }
+    Ok(places)
 }
 
-/// The mark after an edit that was done. `None` where the edit took the node away.
+/// The outermost node of a kind with exactly these bytes, as a mark.
+fn mark_at(
+    alloc: Global,
+    root: &LinkedNode,
+    kind: SyntaxKind,
+    range: &Range<usize>,
+) -> Result<Option<Mark>, AllocError> {
+    let Some(outermost) = root.find_range(alloc, range.start, range.end)? else {
+        return Ok(None);
+    };
+    for node in outermost.preorder(alloc)? {
+        let node = node?;
+        if node.get().kind() == kind && node.range() == (range.start..range.end) {
+            return Ok(Some(Mark::of(&node)));
+        }
+    }
+    Ok(None)
+}
+
+/// The mark after an edit that was done. `None` if no node of its kind has its bytes, or if the edit crosses an end of
+/// them.
 fn follow(
     alloc: Global,
     source: &Source<Markup>,
@@ -53,24 +96,17 @@ fn follow(
     done: &Edited,
 ) -> Result<Option<Mark>, AllocError> {
     if let Some(node) = source.find(alloc, mark.span)? {
-        // The window counts children of the root. A node outside it has kept its number.
-        let path = node.path(alloc)?;
-        let child = path.first();
-        if child.is_none_or(|child| !done.renumbered.window.contains(child)) {
+        if is_outside(alloc, &node, done)? {
             return Ok(Some(Mark::of(&node)));
         }
     }
-    // A node within the window has another number now. Its bytes tell where it is.
-    let Some(range) = moved(&mark.range, edit) else {
-        return Ok(None);
-    };
     let root = LinkedNode::new(source.root());
-    let found = root.find_range(alloc, range.start, range.end)?;
-    Ok(
-        found
-            .filter(|node| node.get().kind() == mark.kind)
-            .map(|node| Mark::of(&node)),
-    )
+    for range in &moved(alloc, &mark.range, edit)? {
+        if let Some(found) = mark_at(alloc, &root, mark.kind, range)? {
+            return Ok(Some(found));
+        }
+    }
+    Ok(None)
 }
 
 /// A heading and two paragraphs, the first with strong content.
@@ -117,5 +153,47 @@ fn a_mark_follows_its_node(rt: HostRuntime) -> Result<(), Fail> {
     assert!(rt; source.range(alloc, grown.span)? == Some(26..33));
     // Across its end, after which there is no such node.
     assert!(rt; edit(alloc, &mut source, &grown, 30..34, "")?.is_none());
+    Ok(())
+}
+
+/// A text, a child of its root, an edit, and the bytes of that child after the edit.
+type Row = (
+    &'static str,
+    usize,
+    (usize, usize),
+    &'static str,
+    Option<(usize, usize)>,
+);
+
+/// Edits at the ends of a heading, and edits next to headings that are alike.
+const ROWS: &[Row] = &[
+    ("= Intro\n\nwords", 0, (7, 7), "!", Some((0, 8))),
+    ("= Intro\n\nwords", 0, (0, 0), "=", Some((0, 8))),
+    ("== Intro\n\nwords", 0, (0, 1), "", Some((0, 7))),
+    ("= A\n\ny", 0, (3, 3), "\n\nnew", Some((0, 3))),
+    ("= Intro", 0, (4, 4), "x", Some((0, 8))),
+    ("= A\n= A\n= A", 0, (0, 4), "", None),
+    ("= A\n= A\n= A", 2, (0, 4), "", Some((0, 3))),
+    ("= A\n= A\n= A", 4, (0, 4), "", Some((4, 7))),
+    ("= A\n= A\nx", 0, (0, 4), "", None),
+    ("= A\n= A\nx", 2, (0, 4), "", Some((0, 3))),
+    ("= A\n= A\n= A\nx", 2, (4, 8), "", None),
+    ("= A\n= A\n= A\nx", 4, (4, 8), "", Some((4, 7))),
+    ("x\n= A\ny", 2, (2, 2), "= A\n", Some((6, 9))),
+    ("= A\n= B\ny", 0, (0, 0), "= A\n", Some((4, 7))),
+    ("= A\n= B\ny", 2, (0, 0), "= A\n", Some((8, 11))),
+];
+
+#[test]
+fn a_mark_stays_at_its_node_among_others_that_are_alike(rt: HostRuntime) -> Result<(), Fail> {
+    let alloc = rt.alloc();
+    for (text, child, range, with, wanted) in ROWS {
+        let mut source = Source::new(alloc, FileId::FIRST, text, Markup)?;
+        let mark = mark_child(alloc, &source, *child)?.ok_or("no child")?;
+        assert!(rt; mark.kind == SyntaxKind::Heading, "{text:?}");
+        let found = edit(alloc, &mut source, &mark, range.0..range.1, with)?;
+        let bytes = found.map(|mark| (mark.range.start, mark.range.end));
+        assert!(rt; bytes == *wanted, "{text:?} {range:?} {with:?}: {bytes:?}");
+    }
     Ok(())
 }
