@@ -1,9 +1,8 @@
 -- A list with one element more at its end.
-use Rattle.std.proofs.Common.{◌≡◌, Bool, true, false, not, ◌||◌, cond, List, [], ◌∷◌, ◌++◌, Some, refl, sym, ap, ◌∙◌}
+use Rattle.std.proofs.Common.{◌≡◌, ◌<◌, ℕ, Bool, true, false, ◌||◌, cond, List, [], ◌∷◌, ◌++◌, length, take, length-append, arith, Option, Some, None, MatchOption, refl, sym, ap, ◌∙◌}
+use Rattle.std.proofs.lemmas.List.{take-append-le, take_at}
 use Rattle.std.specs.List.{list_any}
-use Rattle.typst_ast.specs.Lists.{all_but_last, before_last, last_significant}
-use Rattle.typst_atoms.proofs.Ends.{last_in_append}
-use Rattle.typst_base.specs.KindClasses.{is_trivia_kind}
+use Rattle.typst_ast.specs.Lists.{all_but_last, before_last}
 use Rattle.typst_node.specs.Tree.{Tree}
 use Rattle.typst_node.specs.Views.{Class, node_kind}
 
@@ -11,9 +10,6 @@ pub all_but_last_append : {A : Type 0} (xs : List A) (x : A) → all_but_last (x
 all_but_last_append [] x = refl
 all_but_last_append (y ∷ []) x = refl
 all_but_last_append (y ∷ (z ∷ xs)) x = let h = all_but_last_append (z ∷ xs) x in cc
-
-pub last_significant_append : (ts : List Tree) (t : Tree) → last_significant (ts ++ t ∷ []) ≡ cond (not (is_trivia_kind (node_kind t))) (Some t) (last_significant ts)
-last_significant_append ts t = last_in_append (λ k. not (is_trivia_kind k)) ts t
 
 -- the nodes before the last whose kind lies in a class
 any_append : (c : Class) (ts : List Tree) (t : Tree) → list_any (λ s. c (node_kind s)) (ts ++ t ∷ []) ≡ (list_any (λ s. c (node_kind s)) ts || c (node_kind t))
@@ -40,10 +36,19 @@ before_last_append c (s ∷ ts) t =
     ap (λ v. cond v (s ∷ before_last c (ts ++ t ∷ [])) []) (any_append c ts t)
     ∙ before_last_by (c (node_kind t)) (list_any (λ s. c (node_kind s)) ts) s (before_last c (ts ++ t ∷ [])) ts (before_last c ts) (before_last_append c ts t)
 
-pub before_last-found : (c : Class) (all before : List Tree) (t : Tree) (start : List Tree) → all ≡ before ++ t ∷ [] → c (node_kind t) ≡ true → before_last c all ≡ start → before ≡ start
-before_last-found c all before t start e v i =
-    sym (ap (λ b. cond b before (before_last c before)) v) ∙ (sym (before_last_append c before t) ∙ (ap (before_last c) (sym e) ∙ i))
+-- the place of the last whose kind lies in a class, and the nodes before it
+abbrev pub IsPlaceOfLast : Class → List Tree → Option ℕ → Type 0
+IsPlaceOfLast c ts place = MatchOption place ([] ≡ before_last c ts) (λ i. (i < length ts) × (take i ts ≡ before_last c ts))
 
-pub before_last-past : (c : Class) (all before : List Tree) (t : Tree) (start : List Tree) → all ≡ before ++ t ∷ [] → c (node_kind t) ≡ false → before_last c all ≡ start → before_last c before ≡ start
-before_last-past c all before t start e v i =
-    sym (ap (λ b. cond b before (before_last c before)) v) ∙ (sym (before_last_append c before t) ∙ (ap (before_last c) (sym e) ∙ i))
+before_last_past : (c : Class) (t : Tree) (ts : List Tree) → c (node_kind t) ≡ false → before_last c ts ≡ before_last c (ts ++ t ∷ [])
+before_last_past c t ts h = ap (λ v. cond v ts (before_last c ts)) (sym h) ∙ sym (before_last_append c ts t)
+
+pub place-past : (c : Class) (t : Tree) (ts : List Tree) (place : Option ℕ) → c (node_kind t) ≡ false → IsPlaceOfLast c ts place → IsPlaceOfLast c (ts ++ t ∷ []) place
+place-past c t ts None h s = s ∙ before_last_past c t ts h
+place-past c t ts (Some i) h s =
+    (omega (arith, s.0, length-append ts (t ∷ [])), take-append-le i ts (t ∷ []) (omega (arith, s.0)) ∙ s.1 ∙ before_last_past c t ts h)
+
+pub place-found : (c : Class) (t : Tree) (ts : List Tree) → c (node_kind t) ≡ true → IsPlaceOfLast c (ts ++ t ∷ []) (Some (length ts))
+place-found c t ts h =
+    (omega (arith, length-append ts (t ∷ [])),
+     take_at ts (t ∷ []) (length ts) refl ∙ ap (λ v. cond v ts (before_last c ts)) (sym h) ∙ sym (before_last_append c ts t))

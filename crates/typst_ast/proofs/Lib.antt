@@ -1,10 +1,13 @@
+pub mod ArgLists
 pub mod Behind
 pub mod Ends
 pub mod ExprLists
 pub mod ItemViews
+pub mod Mapped
 pub mod NamesByRule
 pub mod OperatorBehind
 pub mod PathParts
 pub mod PlainParts
 pub mod PlainPicks
 pub mod PlainReads
+pub mod PositionBack

@@ -1,30 +1,24 @@
--- The parts of a path, one slash after the other, and the last dot of a part.
-use Rattle.std.proofs.Common.{◌≡◌, ◌≢◌, ◌<◌, ◌==◌, ℕ, suc, Bool, true, false, cond, List, [], ◌∷◌, ◌++◌, length, take, drop, filter, Option, Some, refl, sym, ap, subst, ◌∙◌, arith, inl, inr, lit<}
-use Rattle.std.proofs.lemmas.List.Splits.{slice_split_first, slice_split_none}
-use Rattle.std.proofs.lemmas.List.Sums.{fails_before_first}
+-- The last of the texts that an iterator gives, and the last dot of a part of a path.
+use Rattle.std.proofs.Common.{◌≡◌, ◌≢◌, ◌<◌, ◌==◌, ℕ, suc, List, [], ◌∷◌, ◌++◌, length, take, drop, map, Option, None, Some, refl, sym, ap, subst, ◌∙◌, arith, inl, inr, lit<}
+use Rattle.std.proofs.lemmas.Iterator.{YieldsList, items_from_drains}
 use Rattle.std.proofs.lemmas.List.{take-append-drop}
 use Rattle.std.proofs.lemmas.Str.Pattern.{drop_at_char, NoCharPasses-char}
-use Rattle.std.specs.List.{after_first, before_first, last_or, position_or_len, slice_split}
+use Rattle.std.specs.Iterator.{Drains}
+use Rattle.std.specs.List.{last_or}
+use Rattle.std.specs.Option.{option_copied}
 use Rattle.std.specs.Str.{NoCharPasses}
 use Rattle.std.specs.Str.Pattern.{RFindsChar}
-use Rattle.typst_ast.specs.Paths.{is_part, path_parts, HasNoDot, IsStemOf}
+use Rattle.typst_ast.specs.Paths.{HasNoDot, IsStemOf}
+use denote.Ref.{Bor}
 
-last_by : (v : Bool) (o : Option (List ℕ)) (x : List ℕ) (ps : List (List ℕ)) → last_or (cond v (Some x) o) ps ≡ last_or o (cond v (x ∷ ps) ps)
-last_by true o x ps = refl
-last_by false o x ps = refl
+last_copied : {A : Type 0} (o : Option (Bor A)) (xs : List (Bor A)) → option_copied (last_or o xs) ≡ last_or (option_copied o) (map (λ x. x.now) xs)
+last_copied o [] = refl
+last_copied o (x ∷ xs) = last_copied (Some x) xs
 
--- the part before the first slash, and what comes after it
-pub last_before_slash : (o : Option (List ℕ)) (path front back : List ℕ) → position_or_len (λ b. b == 47) path < length path → front ≡ before_first (λ b. b == 47) path → back ≡ after_first (λ b. b == 47) path
-    → last_or (cond (is_part front) (Some front) o) (path_parts back) ≡ last_or o (path_parts path)
-last_before_slash o path front back h f b =
-    last_by (is_part front) o front (path_parts back)
-    ∙ sym (ap (λ (ps : List (List ℕ)). last_or o (filter is_part ps)) (slice_split_first (λ b. b == 47) path 0 h ∙ (λ i. sym f i ∷ slice_split (λ b. b == 47) (sym b i))))
-
--- the part after the last slash
-pub last_without_slash : (o : Option (List ℕ)) (path : List ℕ) → position_or_len (λ b. b == 47) path ≡ length path → cond (is_part path) (Some path) o ≡ last_or o (path_parts path)
-last_without_slash o path h =
-    last_by (is_part path) o path []
-    ∙ sym (ap (λ (ps : List (List ℕ)). last_or o (filter is_part ps)) (slice_split_none (λ b. b == 47) path (λ k d l. fails_before_first (λ b. b == 47) path k d (omega arith))))
+pub last_from_yields_List : {S A : Type 0} {steps : S → Option (Bor A) → S → Type 0} {s : S} {all : List A} (r : Option (Bor A))
+    → (xs : List (Bor A)) × Drains steps s xs × (r ≡ last_or None xs) → YieldsList steps (λ x. x.now) s all → option_copied r ≡ last_or None all
+last_from_yields_List r (xs, d, e) h =
+    ap option_copied e ∙ last_copied None xs ∙ ap (last_or None) (items_from_drains xs (d.1.0, d.1.1, λ _. (d.0, d.1.2)) h)
 
 -- the last dot of a part, and what stands on both sides
 module _ (part front back : List ℕ) (i j : ℕ) (found : RFindsChar 46 part (Some (i, j))) (before : front ≡ take i part) (behind : back ≡ drop j part) where

@@ -1,10 +1,10 @@
 //! Items of numbered lists.
-ghost use Rattle.std.specs.Prelude.{◌≡◌, ◌==◌};
+ghost use Rattle.std.specs.Prelude.{◌≡◌, ◌==◌, [], ◌∷◌};
 ghost use Rattle.std.specs.Option.{SomeIff};
 ghost use Rattle.std.specs.Str.Parse.{digits_value};
 ghost use Rattle.typst_ast.specs.EnumNumbers.{HasNumber, IsFirstNumber, marker_digits};
 ghost use Rattle.typst_ast.specs.View.{node_of};
-ghost use Rattle.typst_node.specs.Children.{all_children, first_child};
+ghost use Rattle.typst_node.specs.Children.{all_children, all_in, first_child};
 ghost use Rattle.typst_atoms.specs.Kinds.{is_kind};
 ghost use Rattle.typst_atoms.specs.Trims.{without_trailing};
 ghost use Rattle.typst_base.specs.declared.kind.SyntaxKind.TheVariants as kinds;
@@ -13,6 +13,7 @@ use crate::views::{EnumItem, Markup};
 use typst_atoms::cast_first;
 use typst_atoms::nodes::children;
 use typst_base::SyntaxKind;
+use typst_node::SyntaxNode;
 
 /// The text without all `.` at its end.
 fn without_dots(text: &str) -> &str
@@ -31,6 +32,16 @@ fn marker_number(text: &str) -> Option<u64>
     }
 }
 
+/// The number of the node, if it is a marker that has one.
+fn number_of(node: &SyntaxNode) -> Option<u64>
+    ensures { IsFirstNumber (all_in (is_kind kinds.EnumMarker) (node.now ∷ [])) result }
+{
+    match node.kind() {
+        SyntaxKind::EnumMarker => marker_number(node.leaf_text()),
+        _ => None,
+    }
+}
+
 impl<'a> EnumItem<'a> {
     /// The number that the source gives to the item, if it gives one: the number of its first marker that has one.
     ///
@@ -39,16 +50,7 @@ impl<'a> EnumItem<'a> {
     pub fn number(self) -> Option<u64>
         ensures { IsFirstNumber (all_children (is_kind kinds.EnumMarker) (node_of self.entry)) result }
     {
-        let mut rest = children(self.node());
-        while let [first, more @ ..] = rest {
-            if first.kind() == SyntaxKind::EnumMarker {
-                if let Some(number) = marker_number(first.leaf_text()) {
-                    return Some(number);
-                }
-            }
-            rest = more;
-        }
-        None
+        children(self.node()).iter().find_map(number_of)
     }
 
     /// The item's content.

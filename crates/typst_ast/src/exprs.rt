@@ -13,6 +13,7 @@ use crate::expr::Expr;
 use crate::views as of;
 use std::iter::FusedIterator;
 use typst_atoms::KeptNodes;
+use typst_atoms::expr_kinds::is_expr;
 use typst_base::SyntaxKind;
 use typst_node::{AstNode, SyntaxNode};
 
@@ -23,6 +24,13 @@ use typst_node::{AstNode, SyntaxNode};
 #[derive(Clone, Debug, Drop)]
 pub struct Exprs<'a> {
     nodes: KeptNodes<'a>,
+}
+
+/// Whether nodes of the kind are expressions or spaces.
+fn is_expr_or_space(kind: SyntaxKind) -> bool
+    ensures { result ≡ is_expr_or_space_kind kind }
+{
+    kind == SyntaxKind::Space || is_expr(kind)
 }
 
 /// The view of the node as an expression or a space, if it is one.
@@ -45,12 +53,7 @@ impl<'a> Iterator for Exprs<'a> {
     ghost remaining = { item_count exprs_left };
 
     fn next(&mut self) -> Option<Expr<'a>> {
-        while let Some(node) = self.nodes.next() {
-            if let Some(expr) = expr_or_space(node) {
-                return Some(expr);
-            }
-        }
-        None
+        self.nodes.find_map(expr_or_space)
     }
 
     /// At least 0, and at most the number of nodes that it hasn't passed yet.
@@ -68,12 +71,8 @@ impl<'a> DoubleEndedIterator for Exprs<'a> {
     ghost next_back_gives = { YieldsLastBy (told expr_node expr_kind (λ _. true)) told_exprs_left };
 
     fn next_back(&mut self) -> Option<Expr<'a>> {
-        while let Some(node) = self.nodes.next_back() {
-            if let Some(expr) = expr_or_space(node) {
-                return Some(expr);
-            }
-        }
-        None
+        let node = self.nodes.rfind(|node| is_expr_or_space(node.kind()))?;
+        expr_or_space(node)
     }
 }
 

@@ -211,15 +211,11 @@ impl<'a> Iterator for MathArgList<'a> {
     ghost remaining = { item_count args_left };
 
     fn next(&mut self) -> Option<MathArg<'a>> {
-        while let Some(node) = self.nodes.next() {
-            if let Some(arg) = cast_arg(node) {
-                return Some(MathArg {
-                    arg,
-                    ends_in_semicolon: self.nodes.ends_in_semicolon(),
-                });
-            }
-        }
-        None
+        let arg = self.nodes.find_map(cast_arg)?;
+        Some(MathArg {
+            arg,
+            ends_in_semicolon: self.nodes.ends_in_semicolon(),
+        })
     }
 
     /// At least 0, and at most the number of nodes that it hasn't passed yet.

@@ -64,14 +64,10 @@ pub(crate) fn all_but_last(nodes: &[SyntaxNode]) -> &[SyntaxNode]
 pub(crate) fn behind_first_expr(nodes: &[SyntaxNode]) -> &[SyntaxNode]
     ensures { result.now ≡ behind_first is_expr_kind nodes.now }
 {
-    let mut rest = nodes;
-    while let [first, more @ ..] = rest {
-        rest = more;
-        if is_expr(first.kind()) {
-            break;
-        }
+    match nodes.iter().position(|node| is_expr(node.kind())) {
+        Some(first) => &nodes[first + 1..],
+        None => &[],
     }
-    rest
 }
 
 /// The first node, if it is an identifier.
@@ -85,33 +81,20 @@ pub(crate) fn first_ident<'a>(nodes: &'a [SyntaxNode]) -> Option<Ident<'a>>
 }
 
 /// The nodes before the last one of the kind. There are none if there is no such node.
-#[tactic(auto, using(crate::proofs::Ends::before_last_append))]
 pub(crate) fn before_last(nodes: &[SyntaxNode], kind: SyntaxKind) -> &[SyntaxNode]
     ensures { result.now ≡ before_last (is_kind kind) nodes.now }
 {
-    let mut rest = nodes;
-    while let Some((last, before)) = rest.split_last() {
-        if last.kind() == kind {
-            return before;
-        }
-        rest = before;
+    match nodes.iter().rposition(|node| node.kind() == kind) {
+        Some(last) => &nodes[..last],
+        None => &[],
     }
-    &[]
 }
 
 /// The last node that isn't trivia.
-#[tactic(auto, using(crate::proofs::Ends::last_significant_append))]
 pub(crate) fn last_significant(nodes: &[SyntaxNode]) -> Option<&SyntaxNode>
     ensures { option_copied result ≡ last_significant nodes.now }
 {
-    let mut rest = nodes;
-    while let Some((last, before)) = rest.split_last() {
-        if !last.kind().is_trivia() {
-            return Some(last);
-        }
-        rest = before;
-    }
-    None
+    nodes.iter().rev().find(|node| !node.kind().is_trivia())
 }
 
 /// The first child that is an expression, or the placeholder of expressions.

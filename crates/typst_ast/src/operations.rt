@@ -21,14 +21,10 @@ impl<'a> Unary<'a> {
     pub fn op(self) -> UnOp
         ensures { result ≡ unary_operator_in (children_in (node_of self.entry)) }
     {
-        let mut rest = children(self.node());
-        while let [first, more @ ..] = rest {
-            if let Some(op) = UnOp::from_kind(first.kind()) {
-                return op;
-            }
-            rest = more;
-        }
-        UnOp::Pos
+        children(self.node())
+            .iter()
+            .find_map(|child| UnOp::from_kind(child.kind()))
+            .unwrap_or(UnOp::Pos)
     }
 
     /// The operand.
@@ -47,9 +43,8 @@ impl<'a> Binary<'a> {
         ensures { result ≡ binary_operator_in (children_in (node_of self.entry)) }
     {
         let mut negated = false;
-        let mut rest = children(self.node());
-        while let [first, more @ ..] = rest {
-            let kind = first.kind();
+        for child in children(self.node()) {
+            let kind = child.kind();
             if negated && kind == SyntaxKind::In {
                 return BinOp::NotIn;
             }
@@ -57,7 +52,6 @@ impl<'a> Binary<'a> {
                 return op;
             }
             negated = negated || kind == SyntaxKind::Not;
-            rest = more;
         }
         BinOp::Add
     }

@@ -1,30 +1,20 @@
 //! The file stems of paths.
-ghost use Rattle.std.specs.Prelude.{◌≡◌, cond, Some};
+ghost use Rattle.std.specs.Prelude.{◌≡◌};
 ghost use Rattle.std.specs.Option.{option_copied};
 ghost use Rattle.typst_ast.specs.Paths.{is_part, last_part, IsFileStemOf, IsStemOf};
 
-/// The part, if it counts, or else the part that counted before it.
-fn part_or<'a>(part: &'a str, earlier: Option<&'a str>) -> Option<&'a str>
-    ensures { option_copied result ≡ cond (is_part part.now) (Some part.now) (option_copied earlier.entry) }
+/// Whether the part counts: it is neither empty nor a dot.
+fn is_part(part: &str) -> bool
+    ensures { result ≡ is_part part.now }
 {
-    if part.is_empty() || part == "." {
-        earlier
-    } else {
-        Some(part)
-    }
+    !part.is_empty() && part != "."
 }
 
 /// The last part of the path that counts.
 fn last_part(path: &str) -> Option<&str>
     ensures { option_copied result ≡ last_part path.now }
 {
-    let mut last = None;
-    let mut rest = path;
-    while let Some((part, more)) = rest.split_once('/') {
-        last = part_or(part, last);
-        rest = more;
-    }
-    part_or(rest, last)
+    path.split('/').filter(|part| is_part(part)).last()
 }
 
 /// The part without its extension, which begins at its last dot.

@@ -1,15 +1,22 @@
-use Rattle.std.proofs.Common.{◌≡◌, true, false, rules}
+use Rattle.std.proofs.Common.{refl, subst, rules, tests}
+use Rattle.typst_ast.proofs.Ends.{IsPlaceOfLast, place-found, place-past}
+use Rattle.typst_ast.proofs.PositionBack.{position_back}
 use Rattle.typst_atoms.specs.Kinds.{is_kind}
 use Rattle.typst_node.specs.Views.{node_kind}
-use Rattle.typst_ast.proofs.Ends.{before_last-found, before_last-past}
 use Rattle.typst_ast.proofs.nodes.before_last.Goals as goal
 
-pub returns-then-eq : goal.returns-then-eq
-returns-then-eq c =
-    let found : is_kind c.args.kind (node_kind c.in-Some.last.now) ≡ true = search rules in
-    before_last-found (is_kind c.args.kind) _ _ _ _ c.in-Some.ensures.cases.0 found c.loop-last.invariant
+pub returns-in-Some : goal.returns-in-Some
+returns-in-Some c =
+    let k = is_kind c.args.kind in
+    let nodes = c.args.nodes.now in
+    let place : IsPlaceOfLast k nodes c.rposition.result =
+        position_back _ _ (λ t. k (node_kind t)) (λ x b q h. search (rules, tests)) (IsPlaceOfLast k) refl (λ t. place-past k t) (place-found k) _ _ _ _ _ c.iter.ensures.rest (cc) c.rposition.ensures.ran in
+    (subst (IsPlaceOfLast k nodes) c.in-Some.is place).1
 
-pub loop-last-preserved : goal.loop-last-preserved
-loop-last-preserved c =
-    let other : is_kind c.args.kind (node_kind c.in-Some.last.now) ≡ false = search rules in
-    before_last-past (is_kind c.args.kind) _ _ _ _ c.in-Some.ensures.cases.0 other c.loop-last.invariant
+pub returns-in-None : goal.returns-in-None
+returns-in-None c =
+    let k = is_kind c.args.kind in
+    let nodes = c.args.nodes.now in
+    let place : IsPlaceOfLast k nodes c.rposition.result =
+        position_back _ _ (λ t. k (node_kind t)) (λ x b q h. search (rules, tests)) (IsPlaceOfLast k) refl (λ t. place-past k t) (place-found k) _ _ _ _ _ c.iter.ensures.rest (cc) c.rposition.ensures.ran in
+    subst (IsPlaceOfLast k nodes) c.in-None.is place
