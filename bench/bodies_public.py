@@ -11,7 +11,7 @@ ONE_CLAUSE = ("typst_answers",)
 ONE_BODY = {
     "typst_base": ("Spanned::detached",),
     "typst_markup": ("Nest::new",),
-    "typst_session": ("Session::new",),
+    "typst_session": ("Session::new", "Document::source"),
 }
 
 

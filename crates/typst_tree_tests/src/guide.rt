@@ -3,7 +3,6 @@ mod building;
 mod crates;
 mod diagnostics;
 mod editing;
-mod marks;
 mod memory;
 mod places;
 mod reading;
