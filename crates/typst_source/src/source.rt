@@ -136,7 +136,8 @@ impl<P: BlockParser + Drop> Source<P> {
     ///
     /// It keeps the longest beginning of the blocks for which the parser looked only at bytes before the range. From
     /// there on it parses blocks anew, up to the first place after the new bytes where a block ends where an old one
-    /// ended. It replaces the root's children of these blocks as [`SyntaxNode::replace_children`] does.
+    /// ended. It replaces the root's children of these blocks as [`SyntaxNode::replace_children`] does, so children that
+    /// come out as before at either end of them keep their numbers.
     ///
     /// The test of the condition is [`Source::fits`]. After an error nothing has changed. `Unnumberable` comes only if
     /// the new tree has more nodes than the root has open numbers; these suffice for fewer than 2^46 nodes. `Overflow`
