@@ -6,11 +6,12 @@ mod marks;
 mod tests;
 
 use crate::marks::{Mark, follow};
-use anyhow::{Result, bail};
+use anyhow::{Context, Result, bail};
 use std::alloc::{AllocError, Global};
 use std::ops::Range;
-use typst_markup::Markup;
-use typst_source::{Outcome, Source, TextEdit};
+use typst_lines::ColumnUnit;
+use typst_session::Document;
+use typst_source::TextEdit;
 use typst_tree::{FileId, LinkedNode, SyntaxKind};
 
 /// Three headings, each with a paragraph.
@@ -24,9 +25,9 @@ struct Bookmark {
 }
 
 /// All headings of a text.
-fn headings(alloc: Global, source: &Source<Markup>) -> Result<Vec<Bookmark>, AllocError> {
+fn headings(alloc: Global, document: &Document) -> Result<Vec<Bookmark>, AllocError> {
     let mut bookmarks = Vec::new(alloc);
-    for node in LinkedNode::new(source.root()).preorder(alloc)? {
+    for node in LinkedNode::new(document.root()).preorder(alloc)? {
         let node = node?;
         if node.get().kind() == SyntaxKind::Heading {
             let name = node.get().full_text(alloc)?;
@@ -38,14 +39,18 @@ fn headings(alloc: Global, source: &Source<Markup>) -> Result<Vec<Bookmark>, All
 }
 
 /// Prints where each heading is.
-fn show(rt: &HostRuntime, source: &Source<Markup>, bookmarks: &[Bookmark]) -> Result<()> {
+fn show(rt: &HostRuntime, document: &Document, bookmarks: &[Bookmark]) -> Result<()> {
     for Bookmark { name, mark } in bookmarks {
         match mark {
             None => println!(rt; "  {name:?}: gone")?,
             Some(mark) => {
                 let Range { start, end } = mark.range;
-                let now = source.text().get(start..end).unwrap_or("");
-                println!(rt; "  {name:?}: bytes {start}..{end}, {now:?}")?;
+                let at = document
+                    .byte_to_line_column(start, ColumnUnit::Character)
+                    .context("no place")?;
+                let (line, column) = (at.line.saturating_add(1), at.column.saturating_add(1));
+                let now = document.text().get(start..end).unwrap_or("");
+                println!(rt; "  {name:?}: bytes {start}..{end}, {line}:{column}, {now:?}")?;
             }
         }
     }
@@ -55,35 +60,42 @@ fn show(rt: &HostRuntime, source: &Source<Markup>, bookmarks: &[Bookmark]) -> Re
 /// Edits the text, and follows all bookmarks.
 fn edit(
     rt: &HostRuntime,
-    source: &mut Source<Markup>,
+    document: &mut Document,
     bookmarks: &mut [Bookmark],
     range: Range<usize>,
     with: &str,
 ) -> Result<()> {
     let alloc = rt.alloc();
+    if !document.fits(&range) {
+        bail!("the edit doesn't fit");
+    }
     let edit = TextEdit { range, with };
-    let Outcome::Edited(done) = source.serve(alloc, &edit) else {
-        bail!("the edit doesn't fit, or was refused");
-    };
+    let done = document.edit(alloc, edit.range.start..edit.range.end, with)?;
     for bookmark in bookmarks.iter_mut() {
         if let Some(mark) = &bookmark.mark {
-            bookmark.mark = follow(alloc, source, mark, &edit, &done)?;
+            bookmark.mark = follow(alloc, document.source(), mark, &edit, &done)?;
         }
     }
     println!(rt; "{}..{} {with:?}", edit.range.start, edit.range.end)?;
-    show(rt, source, bookmarks)
+    show(rt, document, bookmarks)
 }
 
 fn main(rt: HostRuntime) -> Result<()> {
-    let mut source = Source::new(rt.alloc(), FileId::FIRST, TEXT, Markup)?;
-    let mut bookmarks = headings(rt.alloc(), &source)?;
-    show(&rt, &source, &bookmarks)?;
+    let mut document = Document::new(rt.alloc(), FileId::FIRST, TEXT)?;
+    let mut bookmarks = headings(rt.alloc(), &document)?;
+    show(&rt, &document, &bookmarks)?;
     // A paragraph comes before the first heading.
-    edit(&rt, &mut source, &mut bookmarks, 0..0, "A word before.\n\n")?;
+    edit(
+        &rt,
+        &mut document,
+        &mut bookmarks,
+        0..0,
+        "A word before.\n\n",
+    )?;
     // The first heading gets a letter at its end.
-    edit(&rt, &mut source, &mut bookmarks, 23..23, "s")?;
+    edit(&rt, &mut document, &mut bookmarks, 23..23, "s")?;
     // The second heading goes.
-    edit(&rt, &mut source, &mut bookmarks, 40..50, "")?;
+    edit(&rt, &mut document, &mut bookmarks, 40..50, "")?;
     // A paragraph becomes a heading, which nobody keeps.
-    edit(&rt, &mut source, &mut bookmarks, 40..40, "= ")
+    edit(&rt, &mut document, &mut bookmarks, 40..40, "= ")
 }
