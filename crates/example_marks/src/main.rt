@@ -17,7 +17,7 @@ use typst_tree::{FileId, LinkedNode, SyntaxKind};
 /// Three headings, each with a paragraph.
 const TEXT: &str = "= Intro\n\nFirst words.\n\n= Middle\n\nSecond words.\n\n= End\n\nLast words.\n";
 
-/// A heading that is kept: the text that it had at first, and its mark, or `None` once it is gone.
+/// A heading that is kept: the text that it had at first, and its mark, or `None` once the heading is gone.
 #[derive(Drop)]
 struct Bookmark {
     name: String,
@@ -43,6 +43,7 @@ fn show(rt: &HostRuntime, document: &Document, bookmarks: &[Bookmark]) -> Result
     for Bookmark { name, mark } in bookmarks {
         match mark {
             None => println!(rt; "  {name:?}: gone")?,
+            Some(Mark { span: None, .. }) => println!(rt; "  {name:?}: hidden")?,
             Some(mark) => {
                 let Range { start, end } = mark.range;
                 let at = document
@@ -97,5 +98,8 @@ fn main(rt: HostRuntime) -> Result<()> {
     // The second heading goes.
     edit(&rt, &mut document, &mut bookmarks, 40..50, "")?;
     // A paragraph becomes a heading, which nobody keeps.
-    edit(&rt, &mut document, &mut bookmarks, 40..40, "= ")
+    edit(&rt, &mut document, &mut bookmarks, 40..40, "= ")?;
+    // A raw text begins, and hides what comes after it until it ends.
+    edit(&rt, &mut document, &mut bookmarks, 38..38, " `")?;
+    edit(&rt, &mut document, &mut bookmarks, 40..40, "x`")
 }

@@ -3,23 +3,23 @@ use std::alloc::{AllocError, Global};
 use std::ops::Range;
 use typst_markup::Markup;
 use typst_source::{Edited, Source, TextEdit};
-use typst_tree::{LinkedNode, Span, SyntaxKind};
+use typst_tree::{LinkedNode, Side, Span, SyntaxKind};
 
-/// A node that a tool keeps: its span, its kind, and the bytes of its text.
+/// A node that a tool keeps: its kind, the bytes of its text, and its span, or `None` while there is no such node.
 #[derive(Drop)]
 pub(crate) struct Mark {
-    pub(crate) span: Span,
     pub(crate) kind: SyntaxKind,
     pub(crate) range: Range<usize>,
+    pub(crate) span: Option<Span>,
 }
 
 impl Mark {
     /// The node as a mark.
     pub(crate) fn of(node: &LinkedNode) -> Mark {
         Mark {
-            span: node.get().span(),
             kind: node.get().kind(),
             range: node.range(),
+            span: Some(node.get().span()),
         }
     }
 }
@@ -67,6 +67,17 @@ fn moved(
     Ok(places)
 }
 
+/// Where the first of some bytes is after an edit. `None` if the edit replaced it.
+fn first_byte(bytes: &Range<usize>, edit: &TextEdit) -> Option<usize> {
+    if edit.range.end <= bytes.start && edit.range.start < bytes.start {
+        after(bytes.start, edit)
+    } else if bytes.start < edit.range.start || edit.range.end == bytes.start {
+        Some(bytes.start)
+    } else {
+        None
+    }
+}
+
 /// The outermost node of a kind with exactly these bytes, as a mark.
 fn mark_at(
     alloc: Global,
@@ -86,8 +97,25 @@ fn mark_at(
     Ok(None)
 }
 
-/// The mark after an edit that was done. `None` if no node of its kind has its bytes, or if the edit crosses an end of
-/// them.
+/// The outermost node of a kind that begins at a byte, as a mark.
+fn mark_from(
+    alloc: Global,
+    root: &LinkedNode,
+    kind: SyntaxKind,
+    start: usize,
+) -> Result<Option<Mark>, AllocError> {
+    let leaf = root.leaf_at(alloc, start, Side::After)?;
+    let (mut node, mut found) = (leaf.as_ref(), None);
+    while let Some(at) = node.filter(|at| at.range().start == start) {
+        if at.get().kind() == kind {
+            found = Some(Mark::of(at));
+        }
+        node = at.parent();
+    }
+    Ok(found)
+}
+
+/// The mark after an edit that was done. `None` if the edit replaced the first byte of the node.
 pub(crate) fn follow(
     alloc: Global,
     source: &Source<Markup>,
@@ -95,16 +123,31 @@ pub(crate) fn follow(
     edit: &TextEdit,
     done: &Edited,
 ) -> Result<Option<Mark>, AllocError> {
-    if let Some(node) = source.find(alloc, mark.span)? {
-        if is_outside(alloc, &node, done)? {
-            return Ok(Some(Mark::of(&node)));
+    if let Some(span) = mark.span {
+        if let Some(node) = source.find(alloc, span)? {
+            if is_outside(alloc, &node, done)? {
+                return Ok(Some(Mark::of(&node)));
+            }
         }
     }
     let root = LinkedNode::new(source.root());
-    for range in &moved(alloc, &mark.range, edit)? {
+    let places = moved(alloc, &mark.range, edit)?;
+    for range in &places {
         if let Some(found) = mark_at(alloc, &root, mark.kind, range)? {
             return Ok(Some(found));
         }
     }
-    Ok(None)
+    let Some(start) = first_byte(&mark.range, edit) else {
+        return Ok(None);
+    };
+    if let Some(found) = mark_from(alloc, &root, mark.kind, start)? {
+        return Ok(Some(found));
+    }
+    Ok(Some(Mark {
+        kind: mark.kind,
+        range: places
+            .last()
+            .map_or(start..start, |range| range.start..range.end),
+        span: None,
+    }))
 }
