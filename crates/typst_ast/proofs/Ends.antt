@@ -49,6 +49,7 @@ place-past c t ts (Some i) h s =
     (omega (arith, s.0, length-append ts (t ∷ [])), take-append-le i ts (t ∷ []) (omega (arith, s.0)) ∙ s.1 ∙ before_last_past c t ts h)
 
 pub place-found : (c : Class) (t : Tree) (ts : List Tree) → c (node_kind t) ≡ true → IsPlaceOfLast c (ts ++ t ∷ []) (Some (length ts))
-place-found c t ts h =
-    (omega (arith, length-append ts (t ∷ [])),
-     take_at ts (t ∷ []) (length ts) refl ∙ ap (λ v. cond v ts (before_last c ts)) (sym h) ∙ sym (before_last_append c ts t))
+place-found c t ts h = (
+  omega (arith, length-append ts (t ∷ [])),
+  take_at ts (t ∷ []) (length ts) refl ∙ ap (λ v. cond v ts (before_last c ts)) (sym h) ∙ sym (before_last_append c ts t),
+)

@@ -96,7 +96,6 @@ last_past t all ts us (Some u) h e s = (s.0, ap (all_in is_expr_or_space_kind) e
 
 module _ {F : Type 0} (g : Mut F (Bor (Bor Tree) × Unit {0}) Bool) (f : F)
     (calls : (t : Bor Tree) (b : Bool) (q : F) → CalledAt g f t b q → (q ≡ f) × (b ≡ is_expr_or_space_kind (node_kind t.now))) where
-
   back_to : (xs : List (Bor Tree)) (s t u : KeptNodes) (node : Option (Bor Tree)) (q : F) → Yields (YieldsLastRef kept_left) s xs t → YieldsLastRef kept_left t node u
       → FoldsTo (λ p x q. CalledAt g p x false q) f xs q → IfSome node (λ x. (h : F) × CalledAt g q x true h) → IsLast (kept_left s) node (kept_left u)
   back_to [] s t u None q y p k e = (ap (all_in is_expr_or_space_kind) (ap kept_left y ∙ p.0), ap (all_in is_expr_or_space_kind) p.1)

@@ -1,8 +1,8 @@
 -- What `find_map` finds among what an iterator has left.
-use Rattle.std.proofs.Common.{◌≡◌, ℕ, suc, Bool, true, false, List, [], ◌∷◌, Option, Some, None, MatchOption, IfSome, ◌<◌, ◌+◌, refl, sym, ap, subst, ◌∙◌}
+use Rattle.std.proofs.Common.{◌≡◌, ℕ, suc, true, List, [], ◌∷◌, Option, Some, None, MatchOption, IfSome, ◌<◌, ◌+◌, sym, ap, subst, ◌∙◌}
 use Rattle.std.specs.Fn.{Called}
 use Rattle.std.specs.Iterator.{Yields, FindsMapped}
-use Rattle.std.specs.Iterator.Runs.{AllItemsGive, IsFirstToGive, Run, SomeRun, YieldsRun}
+use Rattle.std.specs.Iterator.Runs.{AllItemsGive, IsFirstToGive, SomeRun, YieldsRun}
 use Rattle.std.specs.List.{AllByRecursion, FoldsTo, slice_get}
 use Rattle.std.proofs.lemmas.List.{nil_from_length}
 use Rattle.std.specs.Slice.Iter.{iter_rest, iter_steps}
@@ -21,7 +21,6 @@ module _ {S A B C F : Type 0} (steps : S → Option A → S → Type 0) (v : A �
     (miss : (y : B) (ys zs : List B) (r : Option C) → Tells y None → P ys r zs → P (y ∷ ys) r zs)
     (left : (y : B) (ys zs : List B) → Tells y None → P ys None zs → P ys None (y ∷ zs))
     (hit : (y : B) (z : C) (ys : List B) → Tells y (Some z) → P (y ∷ ys) (Some z) ys) where
-
   found : (xs : List A) (s t u : S) (z : C) (o : Option A) (q : F) → Yields steps s xs t → steps t o u → FoldsTo (λ p x q. Called g p (x, tt) None q) f xs q
       → MatchOption o (Some z ≡ None) (λ x. (h : F) × Called g q (x, tt) (Some z) h) → P (shown s) (Some z) (shown u)
   found [] s t u z None q y p k e = let e' : Some z ≡ None = e in cc
@@ -79,12 +78,11 @@ module _ {A C F : Type 0} (g : Mut F (Bor A × Unit {0}) (Option C)) (f : F) (Te
     (P : List A → Option C → Type 0) (none : P [] None)
     (miss : (y : A) (ys : List A) (r : Option C) → Tells y None → P ys r → P (y ∷ ys) r)
     (hit : (y : A) (z : C) (ys : List A) → Tells y (Some z) → P (y ∷ ys) (Some z)) where
-
   pub mapped_in_slice : (s u : Iter A) (xs : List A) (r : Option C) → iter_rest s ≡ xs → FindsMapped iter_steps g s f r u
       → SomeRun iter_steps s (λ p. MatchOption r ((p.whole ≡ true) × AllItemsGive p g f None) (λ y. (i : ℕ) × (i < p.len) × (p.len ≡ i + 1) × IsFirstToGive p g f (Some y) None i))
       → P xs r
   mapped_in_slice s u xs r e ran runs =
       subst (λ ys. P ys r) e
       (mapped iter_steps (λ y. y.now) iter_rest
-       (λ s t p. let h = nil_from_length _ p.0 in (h, ap iter_rest p.1 ∙ h)) (λ s x t p. p)
-       g f Tells calls (λ ys r zs. P ys r) none (λ y ys zs r. miss y ys r) (λ y ys zs h p. p) hit s u r ran runs)
+      (λ s t p. let h = nil_from_length _ p.0 in (h, ap iter_rest p.1 ∙ h)) (λ s x t p. p)
+      g f Tells calls (λ ys r zs. P ys r) none (λ y ys zs r. miss y ys r) (λ y ys zs h p. p) hit s u r ran runs)

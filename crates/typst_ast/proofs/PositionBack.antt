@@ -1,5 +1,5 @@
 -- What `rposition` finds in a slice.
-use Rattle.std.proofs.Common.{◌≡◌, ℕ, ◌+◌, Bool, true, false, List, [], ◌∷◌, ◌++◌, length, Option, Some, None, MatchOption, refl, sym, ap, subst, ◌∙◌, arith, length-append}
+use Rattle.std.proofs.Common.{◌≡◌, ℕ, ◌+◌, Bool, true, false, List, [], ◌∷◌, ◌++◌, length, Option, Some, None, MatchOption, sym, ap, subst, ◌∙◌, arith, length-append}
 use Rattle.std.proofs.lemmas.List.{nil_from_length}
 use Rattle.std.specs.Fn.{Called}
 use Rattle.std.specs.Iterator.{FindsPositionBack, Yields}
@@ -16,7 +16,6 @@ module _ {A F : Type 0} (g : Mut F (Bor A × Unit {0}) Bool) (f : F) (test : A �
     (P : List A → Option ℕ → Type 0) (none : P [] None)
     (miss : (y : A) (ys : List A) (r : Option ℕ) → test y ≡ false → P ys r → P (ys ++ y ∷ []) r)
     (hit : (y : A) (ys : List A) → test y ≡ true → P (ys ++ y ∷ []) (Some (length ys))) where
-
   at_hit : (s u : Iter A) (x : Bor A) (r : Option ℕ) (m n : ℕ) → iter_steps_back s (Some x) u → m + length (iter_rest s) ≡ n → IsSomeAnd r (λ i. i + 1 + m ≡ n) → test x.now ≡ true → P (iter_rest s) r
   at_hit s u x None m n p l e t = absurd e
   at_hit s u x (Some i) m n p l e t =
@@ -35,8 +34,8 @@ module _ {A F : Type 0} (g : Mut F (Bor A × Unit {0}) Bool) (f : F) (test : A �
       let w = calls x false f' k' in
       subst (λ ys. P ys r) (sym p')
       (miss x.now (iter_rest j) r (sym w.1)
-       (back xs j t u o q r m n y p (subst (λ f''. FoldsTo (λ p x q. Called g p (x, tt) false q) f'' xs q) w.0 k)
-        (omega (arith, l, ap length p', length-append (iter_rest j) (x.now ∷ []))) e))
+      (back xs j t u o q r m n y p (subst (λ f''. FoldsTo (λ p x q. Called g p (x, tt) false q) f'' xs q) w.0 k)
+      (omega (arith, l, ap length p', length-append (iter_rest j) (x.now ∷ []))) e))
 
   pub position_back : (s u : Iter A) (ys : List A) (n : ℕ) (r : Option ℕ) → iter_rest s ≡ ys → n ≡ length ys → FindsPositionBack iter_steps_back g s f n r u → P ys r
   position_back s u ys n r e l (xs, o, q, (t, y, p), k, h) =

@@ -17,4 +17,4 @@ pub returns-clause-goes : goal.returns-clause-goes
 returns-clause-goes c =
     back_goes c.args.self.now (record { nodes = c.rfind.new.self }) c.expr_or_space.result
     (back_found (kept_left c.args.self.now.nodes) (kept_left c.rfind.new.self) c.rfind.result c.in_ok-node.node c.expr_or_space.result c.in_ok-node.was
-     (found_back _ _ (λ t b q k. search (rules, tests)) c.args.self.now.nodes c.rfind.new.self c.rfind.result c.rfind.ensures.ran) (c.expr_or_space.ensures.in_class, c.expr_or_space.ensures.view))
+    (found_back _ _ (λ t b q k. search (rules, tests)) c.args.self.now.nodes c.rfind.new.self c.rfind.result c.rfind.ensures.ran) (c.expr_or_space.ensures.in_class, c.expr_or_space.ensures.view))

@@ -31,4 +31,4 @@ pub returns : goal.returns
 returns c =
     subst (λ ts. AreImportsIn ts c.find_map.result) (c.children.ensures ∙ ap children_in c.node.ensures)
     (mapped_in_slice _ _ (λ t r. IsImportsOf (of_class is_imports_kind (Some t)) r) (λ x r q k. search (rules, tests)) AreImportsIn refl miss hit
-     _ _ _ _ c.iter.ensures.rest c.find_map.ensures.ran c.find_map.ensures.runs)
+    _ _ _ _ c.iter.ensures.rest c.find_map.ensures.ran c.find_map.ensures.runs)

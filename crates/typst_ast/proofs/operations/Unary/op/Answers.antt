@@ -1,4 +1,4 @@
-use Rattle.std.proofs.Common.{◌≡◌, ◌∙◌, List, [], ◌∷◌, Option, Some, None, unwrap_or, refl, ap, rules, tests}
+use Rattle.std.proofs.Common.{◌≡◌, ◌∙◌, List, ◌∷◌, Option, Some, None, unwrap_or, refl, ap, rules, tests}
 use Rattle.typst_ast.proofs.Mapped.{mapped_in_slice}
 use Rattle.typst_ast.specs.Operators.{unary_operator_in}
 use Rattle.typst_atoms.specs.UnaryOperators.{unary_operator_of}
@@ -22,6 +22,6 @@ pub returns : goal.returns
 returns c =
     c.unwrap_or.ensures
     ∙ mapped_in_slice _ _ (λ t r. r ≡ unary_operator_of (node_kind t)) (λ x r q k. search (rules, tests)) IsOperatorIn refl miss hit
-      _ _ _ _ c.iter.ensures.rest c.find_map.ensures.ran c.find_map.ensures.runs
+    _ _ _ _ c.iter.ensures.rest c.find_map.ensures.ran c.find_map.ensures.runs
     ∙ ap unary_operator_in c.children.ensures
     ∙ ap (λ node. unary_operator_in (children_in node)) c.node.ensures
