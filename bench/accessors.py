@@ -265,8 +265,6 @@ def accessor_specs(found):
     uses = imported("accessor", "Accessor", [one.variant() for one in some])
     for one in values:
         uses += imported("accessor", one.name(), [accessor.variant() for accessor in one.some])
-    for one in some[-2:]:
-        uses += imported(f"{one.word}_accessor", one.name(), [])[:1]
     uses += ["use Rattle.typst_accessors.specs.NodeAccessors.{node_number, node_view, nodes_number, nodes_view}"]
     return "\n".join([f"-- {WRITTEN}", "-- The numbers of accessors, and the kinds of the nodes that have them.",
                       "use Rattle.std.specs.Prelude.{ℕ}", *uses, *KINDS_USED, "-- those of each form",
