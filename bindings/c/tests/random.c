@@ -128,6 +128,15 @@ static uint32_t draw_kind(void)
     return once_in(3) ? once_in(2) ? known[at].kind : known[at].child : (uint32_t)draw(TYPST_KINDS);
 }
 
+/* Draws a kind for a node with these children, often one of which `known` reads a child of their kinds. */
+static uint32_t draw_kind_over(struct node *const *children, size_t count)
+{
+    for (size_t at = 0; at < sizeof known / sizeof *known; at++)
+        for (size_t i = 0; i < count; i++)
+            if (known[at].which != VALUE && known[at].child == children[i]->kind && once_in(2)) return known[at].kind;
+    return draw_kind();
+}
+
 /* What a call should read of the node at a path, in a tree that isn't a document's. */
 static void compare_info(const struct node *node, const typst_node_info *info)
 {
@@ -172,8 +181,8 @@ static typst_status push_error(void)
 
 static typst_status wrap(void)
 {
-    uint32_t kind = draw_kind();
-    size_t count = once_in(30) ? SIZE_MAX - draw(3) : draw(5);
+    size_t count = once_in(30) ? SIZE_MAX - draw(3) : draw(5), there = count < model.depth ? count : model.depth;
+    uint32_t kind = draw_kind_over(model.stack + model.depth - there, there);
     typst_status status = typst_wrap(&session, kind, count);
     typst_status wanted = !model.made                                        ? TYPST_NOT_MADE
                           : kind == TYPST_KIND_ERROR || TYPST_KINDS <= kind ? TYPST_BAD_KIND
@@ -655,15 +664,25 @@ static void compare_child(const typst_answer *answer, const size_t *path, size_t
     WANT(answer->len, 0);
 }
 
-/* Reads a node by an accessor. */
+/* Whether `known` reads a node, and by which of its rows. */
+static bool is_read(const struct node *node, size_t *at)
+{
+    for (size_t i = 0; node && i < sizeof known / sizeof *known; i++)
+        if (known[i].kind == node->kind) return *at = i, true;
+    return false;
+}
+
+/* Reads a node by an accessor, mostly one that `known` reads. */
 static typst_status view(void)
 {
     char out[80], text[80] = {0};
     size_t path[8], depth = draw_path(path), index = once_in(8) ? once_in(2) ? 1 : SIZE_MAX : 0;
     size_t at = draw(sizeof known / sizeof *known), room = once_in(4) ? draw(8) : sizeof out;
     const struct node *node = model_at(path, depth);
-    for (size_t i = 0; node && i < sizeof known / sizeof *known; i++)
-        if (known[i].kind == node->kind) at = i;
+    for (size_t tries = draw(9); tries && !is_read(node, &at); tries--) {
+        depth = draw_path(path);
+        node = model_at(path, depth);
+    }
     bool is_known = !once_in(8);
     uint32_t accessor = is_known ? known[at].accessor : once_in(3) ? UINT32_MAX - (uint32_t)draw(2) : (uint32_t)draw(TYPST_ACCESSORS + 9);
     typst_answer answer = {77, 77, 77, 77}, wanted = {0, 0, 0, TYPST_ANSWER_NONE};
