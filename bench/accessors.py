@@ -96,14 +96,14 @@ def accessors():
 
 @dataclass
 class Enum:
-    """An enum of accessors: the word that its definitions begin with, what its accessors are, and these, or the enums of these."""
+    """An enum of accessors: the word that its definitions begin with, what its accessors are, and these, or enums of them."""
 
     word: str
     says: str
     some: list
 
     def name(self):
-        return f"{self.variant()}Accessor"
+        return "Accessor" if self.word == "accessor" else f"{self.variant()}Accessor"
 
     def variant(self):
         return self.word.capitalize()
@@ -193,14 +193,13 @@ impl {name} {{
 """
 
 
-def code(says, words, uses, parts):
-    """A file of typst_accessors, with what it imports of specs/, other files, and its parts."""
-    names = {where: ", ".join(f"{word}_{it}" for word in some for it in ("number", "view")) for where, some in words.items()}
-    ghosts = "\n".join(f"ghost use Rattle.typst_accessors.specs.{where}.{{{names[where]}}};" for where in sorted(names))
+def code(says, specs, words, parts, uses=""):
+    """A file of typst_accessors: what it is about, the file of specs/ that has its words, and its parts."""
+    imported = ", ".join(f"{word}_{it}" for word in words for it in ("number", "view"))
     return f"""// {WRITTEN}
 //! {says}
 ghost use Rattle.std.specs.Prelude.{{◌≡◌}};
-{ghosts}
+ghost use Rattle.typst_accessors.specs.{specs}.{{{imported}}};
 ghost use Rattle.typst_accessors.specs.Numbered.{{IsNumbered}};
 
 {uses}use typst_base::SyntaxKind;
@@ -211,25 +210,24 @@ ghost use Rattle.typst_accessors.specs.Numbered.{{IsNumbered}};
 def accessor_code(found):
     values, parts, nodes = enums(found)
     node = Enum("node", f"that answers {FORMS['node']}", parts)
-    whole = Enum("", "", [*values, node, nodes])
-    whole.name, whole.word = (lambda: "Accessor"), "accessor"
-    words = ["accessor", *(one.word for one in values)]
-    return code("The accessors of views, by their numbers.", {"Accessors": words},
-                "use crate::node_accessor::NodeAccessor;\nuse crate::nodes_accessor::NodesAccessor;\n",
-                [whole_code(whole, "An accessor of a view, by the form of what it answers.", "pub "), *map(enum_code, values)])
+    whole = Enum("accessor", "", [*values, node, nodes])
+    words = [whole.word, *(one.word for one in values)]
+    return code("The accessors of views, by their numbers.", "Accessors", words,
+                [whole_code(whole, "An accessor of a view, by the form of what it answers.", "pub "), *map(enum_code, values)],
+                "use crate::node_accessor::NodeAccessor;\nuse crate::nodes_accessor::NodesAccessor;\n")
 
 
 def node_accessor_code(found):
     _, parts, _ = enums(found)
     doc = f"An accessor that answers {FORMS['node']}, by the part of the syntax that its view is of."
-    return code("The accessors of views that answer another node, by their numbers.",
-                {"NodeAccessors": ["node", *(one.word for one in parts)]}, "",
+    return code("The accessors of views that answer another node, by their numbers.", "NodeAccessors",
+                ["node", *(one.word for one in parts)],
                 [whole_code(Enum("node", "", parts), doc, "pub(crate) "), *map(enum_code, parts)])
 
 
 def nodes_accessor_code(found):
     _, _, nodes = enums(found)
-    return code("The accessors of views that answer several other nodes, by their numbers.", {"NodeAccessors": [nodes.word]}, "",
+    return code("The accessors of views that answer several other nodes, by their numbers.", "NodeAccessors", [nodes.word],
                 [enum_code(nodes, "pub(crate) ")])
 
 
