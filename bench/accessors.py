@@ -314,7 +314,7 @@ def page(found):
     lines += ["after the last one. Each other accessor has one answer, with the index 0.", ""]
     lines += ["Not here are `Raw.block` and `ModuleImport.bare_name`, which ask the caller what newlines and names are; `bindings`, which would"]
     lines += ["make its list of names anew for each answer; and `ends_in_semicolon` of an argument in math, which the semicolon after it tells"]
-    lines += ["among `MathArgs.content_items`.", ""]
+    lines += ["among `MathArgs.content_items`. An item of an import is read by the accessors of its own kind.", ""]
     lines += ["| number | accessor | form | what it answers |", "|---|---|---|---|"]
     lines += [f"| {one.number} | `{one.called()}` | {one.form} | {one.doc} |" for one in found]
     return "\n".join([*lines, ""])
