@@ -26,6 +26,16 @@ FORMS = {
     "character": "a character",
     "text": "a text of the tree",
     "string": "a text that the call makes",
+    "node": "another node, or none",
+    "nodes": "other nodes, by an index",
+}
+# The parts of the syntax whose accessors answer a node. Each part has an enum.
+PARTS = {
+    "markup": "markup",
+    "math": "math",
+    "code": "code",
+    "control": "bindings, rules and control flow",
+    "module": "imports and includes",
 }
 
 
@@ -35,6 +45,7 @@ class Accessor:
     view: str
     name: str
     form: str
+    part: str
     doc: str
 
     def variant(self):
@@ -56,9 +67,12 @@ def row(line, number, kinds):
         raise ValueError(f"an accessor has 5 cells with ` | ` between them, and here are {len(cells)}")
     if cells[0] != str(number):
         raise ValueError(f"the number is {cells[0]}, and the next one is {number}")
-    one = Accessor(number, *cells[1:])
+    part, _, form = cells[3].rpartition(" ")
+    one = Accessor(number, cells[1], cells[2], form, part, cells[4])
     if one.form not in FORMS or one.view not in kinds:
         raise ValueError(f"no such form or view: {one.form}, {one.view}")
+    if part not in (PARTS if form == "node" else [""]):
+        raise ValueError(f"no such part of the syntax: {part}")
     if not one.doc.endswith("."):
         raise ValueError("what it answers ends in a full stop")
     return one
@@ -80,24 +94,39 @@ def accessors():
     return found
 
 
-def by_form(found):
-    """The forms that have accessors, with these."""
-    return [(form, some) for form in FORMS if (some := [one for one in found if one.form == form])]
+@dataclass
+class Enum:
+    """An enum of accessors: the word that its definitions begin with, what its accessors are, and these, or enums of them."""
+
+    word: str
+    says: str
+    some: list
+
+    def name(self):
+        return "Accessor" if self.word == "accessor" else f"{self.variant()}Accessor"
+
+    def variant(self):
+        return self.word.capitalize()
 
 
-def enum_of(form):
-    return f"{form.capitalize()}Accessor"
+def enums(found):
+    """The enums of accessors that answer values, of those that answer a node, and of those that answer nodes."""
+    values = [Enum(form, f"that answers {FORMS[form]}", [one for one in found if one.form == form]) for form in FORMS
+              if form not in ("node", "nodes")]
+    parts = [Enum(part, f"of {says} that answers a node, or none", [one for one in found if one.part == part])
+             for part, says in PARTS.items()]
+    return values, parts, Enum("nodes", f"that answers {FORMS['nodes']}", [one for one in found if one.form == "nodes"])
 
 
 # The code of typst_accessors.
 
 
-def enum_code(form, some):
-    name = enum_of(form)
-    variants = "\n".join(f"    /// {one.doc}\n    {one.variant()}," for one in some)
-    numbers = "\n".join(f"            {one.number} => Some({name}::{one.variant()})," for one in some)
-    views = "\n".join(f"            {name}::{one.variant()} => SyntaxKind::{one.view}," for one in some)
-    return f"""/// An accessor that answers {FORMS[form]}.
+def enum_code(of, visible=""):
+    name = of.name()
+    variants = "\n".join(f"    /// {one.doc}\n    {one.variant()}," for one in of.some)
+    numbers = "\n".join(f"            {one.number} => Some({name}::{one.variant()})," for one in of.some)
+    views = "\n".join(f"            {name}::{one.variant()} => SyntaxKind::{one.view}," for one in of.some)
+    return f"""/// An accessor {of.says}.
 #[derive(Clone, Copy, Debug, PartialEq, Eq)]
 pub enum {name} {{
 {variants}
@@ -105,8 +134,8 @@ pub enum {name} {{
 
 impl {name} {{
     /// The accessor of this form with a number.
-    fn of_number(number: u32) -> Option<{name}>
-        ensures {{ IsNumbered {form}_number number result }}
+    {visible}fn of_number(number: u32) -> Option<{name}>
+        ensures {{ IsNumbered {of.word}_number number result }}
     {{
         match number {{
 {numbers}
@@ -115,8 +144,8 @@ impl {name} {{
     }}
 
     /// The kind of the nodes that have the accessor.
-    fn view(self) -> SyntaxKind
-        ensures {{ result ≡ {form}_view self }}
+    {visible}fn view(self) -> SyntaxKind
+        ensures {{ result ≡ {of.word}_view self }}
     {{
         match self {{
 {views}
@@ -126,75 +155,130 @@ impl {name} {{
 """
 
 
-def accessor_code(found):
-    forms = [form for form, _ in by_form(found)]
-    words = ", ".join(f"{form}_{it}" for form in forms for it in ("number", "view"))
+def whole_code(of, doc, visible):
+    """The code of an enum whose variants are enums."""
+    name = of.name()
+    variants = "\n".join(f"    /// An accessor {one.says}.\n    {one.variant()}({one.name()})," for one in of.some)
     tries = "\n".join(
-        f"""        if let Some(accessor) = {enum_of(form)}::of_number(number) {{
-            return Some(Accessor::{form.capitalize()}(accessor));
+        f"""        if let Some(accessor) = {one.name()}::of_number(number) {{
+            return Some({name}::{one.variant()}(accessor));
         }}"""
-        for form in forms
+        for one in of.some
     )
-    variants = "\n".join(f"    /// It answers {FORMS[form]}.\n    {form.capitalize()}({enum_of(form)})," for form in forms)
-    views = "\n".join(f"            Accessor::{form.capitalize()}(accessor) => accessor.view()," for form in forms)
-    enums = "\n".join(enum_code(form, some) for form, some in by_form(found))
-    return f"""// {WRITTEN}
-//! The accessors of views, by their numbers.
-ghost use Rattle.std.specs.Prelude.{{◌≡◌}};
-ghost use Rattle.typst_accessors.specs.Accessors.{{accessor_number, accessor_view, {words}}};
-ghost use Rattle.typst_accessors.specs.Numbered.{{IsNumbered}};
-
-use typst_base::SyntaxKind;
-
-/// An accessor of a view, by the form of what it answers.
+    views = "\n".join(f"            {name}::{one.variant()}(accessor) => accessor.view()," for one in of.some)
+    return f"""/// {doc}
 #[derive(Clone, Copy, Debug, PartialEq, Eq)]
-pub enum Accessor {{
+pub enum {name} {{
 {variants}
 }}
 
-impl Accessor {{
+impl {name} {{
     /// The accessor with a number, if there is one.
-    pub fn of_number(number: u32) -> Option<Accessor>
-        ensures {{ IsNumbered accessor_number number result }}
+    {visible}fn of_number(number: u32) -> Option<{name}>
+        ensures {{ IsNumbered {of.word}_number number result }}
     {{
 {tries}
         None
     }}
 
     /// The kind of the nodes that have the accessor.
-    pub fn view(self) -> SyntaxKind
-        ensures {{ result ≡ accessor_view self }}
+    {visible}fn view(self) -> SyntaxKind
+        ensures {{ result ≡ {of.word}_view self }}
     {{
         match self {{
 {views}
         }}
     }}
 }}
+"""
 
-{enums}"""
+
+def code(says, specs, words, parts, uses=""):
+    """A file of typst_accessors: what it is about, the file of specs/ that has its words, and its parts."""
+    imported = ", ".join(f"{word}_{it}" for word in words for it in ("number", "view"))
+    return f"""// {WRITTEN}
+//! {says}
+ghost use Rattle.std.specs.Prelude.{{◌≡◌}};
+ghost use Rattle.typst_accessors.specs.{specs}.{{{imported}}};
+ghost use Rattle.typst_accessors.specs.Numbered.{{IsNumbered}};
+
+{uses}use typst_base::SyntaxKind;
+
+""" + "\n".join(parts)
+
+
+def accessor_code(found):
+    values, parts, nodes = enums(found)
+    node = Enum("node", f"that answers {FORMS['node']}", parts)
+    whole = Enum("accessor", "", [*values, node, nodes])
+    words = [whole.word, *(one.word for one in values)]
+    return code("The accessors of views, by their numbers.", "Accessors", words,
+                [whole_code(whole, "An accessor of a view, by the form of what it answers.", "pub "), *map(enum_code, values)],
+                "use crate::node_accessor::NodeAccessor;\nuse crate::nodes_accessor::NodesAccessor;\n")
+
+
+def node_accessor_code(found):
+    _, parts, _ = enums(found)
+    doc = f"An accessor that answers {FORMS['node']}, by the part of the syntax that its view is of."
+    return code("The accessors of views that answer another node, by their numbers.", "NodeAccessors",
+                ["node", *(one.word for one in parts)],
+                [whole_code(Enum("node", "", parts), doc, "pub(crate) "), *map(enum_code, parts)])
+
+
+def nodes_accessor_code(found):
+    _, _, nodes = enums(found)
+    return code("The accessors of views that answer several other nodes, by their numbers.", "NodeAccessors", [nodes.word],
+                [enum_code(nodes, "pub(crate) ")])
+
+
+def imported(module, name, variants):
+    """The imports of an enum and of its variants in a definition."""
+    whole = f"Rattle.typst_accessors.specs.declared.{module}.{name}"
+    return [f"use {whole}.{{{name}}}", f"use {whole}.TheVariants.{{{', '.join(variants)}}}"]
+
+
+def tables(of):
+    """The numbers and the views of an enum."""
+    return [f"abbrev pub {of.word}_number : {of.name()} → ℕ", *(f"{of.word}_number {one.variant()} = {one.number}" for one in of.some), "",
+            f"abbrev pub {of.word}_view : {of.name()} → SyntaxKind",
+            *(f"{of.word}_view {one.variant()} = kinds.{one.view}" for one in of.some), ""]
+
+
+def wholes(word, name, what, some):
+    """The numbers and the views of an enum whose variants are enums."""
+    lines = []
+    for it, kind, says in [("number", "ℕ", f"the number of {what}"), ("view", "SyntaxKind", f"the kind of the nodes that have {what}")]:
+        lines += [f"-- {says}", f"abbrev pub {word}_{it} : {name} → {kind}",
+                  *(f"{word}_{it} ({one.variant()} accessor) = {one.word}_{it} accessor" for one in some), ""]
+    return lines
+
+
+KINDS_USED = ["use Rattle.typst_base.specs.declared.kind.SyntaxKind.{SyntaxKind}",
+              "use Rattle.typst_base.specs.declared.kind.SyntaxKind.TheVariants as kinds", ""]
 
 
 def accessor_specs(found):
-    forms = by_form(found)
-    uses = [f"use Rattle.typst_accessors.specs.declared.accessor.Accessor.{{Accessor}}",
-            f"use Rattle.typst_accessors.specs.declared.accessor.Accessor.TheVariants.{{{', '.join(form.capitalize() for form, _ in forms)}}}"]
-    tables = []
-    for form, some in forms:
-        name = enum_of(form)
-        uses += [f"use Rattle.typst_accessors.specs.declared.accessor.{name}.{{{name}}}",
-                 f"use Rattle.typst_accessors.specs.declared.accessor.{name}.TheVariants.{{{', '.join(one.variant() for one in some)}}}"]
-        tables += [f"abbrev pub {form}_number : {name} → ℕ", *(f"{form}_number {one.variant()} = {one.number}" for one in some), "",
-                   f"abbrev pub {form}_view : {name} → SyntaxKind",
-                   *(f"{form}_view {one.variant()} = kinds.{one.view}" for one in some), ""]
-    wholes = []
-    for word, kind, says in [("number", "ℕ", "the number of an accessor"), ("view", "SyntaxKind", "the kind of the nodes that have an accessor")]:
-        wholes += [f"-- {says}", f"abbrev pub accessor_{word} : Accessor → {kind}",
-                   *(f"accessor_{word} ({form.capitalize()} accessor) = {form}_{word} accessor" for form, _ in forms), ""]
+    values, parts, nodes = enums(found)
+    some = [*values, Enum("node", "", parts), nodes]
+    uses = imported("accessor", "Accessor", [one.variant() for one in some])
+    for one in values:
+        uses += imported("accessor", one.name(), [accessor.variant() for accessor in one.some])
+    uses += ["use Rattle.typst_accessors.specs.NodeAccessors.{node_number, node_view, nodes_number, nodes_view}"]
     return "\n".join([f"-- {WRITTEN}", "-- The numbers of accessors, and the kinds of the nodes that have them.",
-                      "use Rattle.std.specs.Prelude.{ℕ}", *uses,
-                      "use Rattle.typst_base.specs.declared.kind.SyntaxKind.{SyntaxKind}",
-                      "use Rattle.typst_base.specs.declared.kind.SyntaxKind.TheVariants as kinds", "",
-                      "-- those of each form", *tables, *wholes])
+                      "use Rattle.std.specs.Prelude.{ℕ}", *uses, *KINDS_USED, "-- those of each form",
+                      *(line for one in values for line in tables(one)), *wholes("accessor", "Accessor", "an accessor", some)])
+
+
+def node_accessor_specs(found):
+    _, parts, nodes = enums(found)
+    uses = imported("node_accessor", "NodeAccessor", [one.variant() for one in parts])
+    for one in [*parts, nodes]:
+        module = "nodes_accessor" if one is nodes else "node_accessor"
+        uses += imported(module, one.name(), [accessor.variant() for accessor in one.some])
+    return "\n".join([f"-- {WRITTEN}", "-- The numbers of accessors that answer other nodes, and the kinds of the nodes that have them.",
+                      "use Rattle.std.specs.Prelude.{ℕ}", *uses, *KINDS_USED, "-- those of each part of the syntax, and of lists of nodes",
+                      *(line for one in [*parts, nodes] for line in tables(one)),
+                      *wholes("node", "NodeAccessor", "an accessor that answers a node", parts)])
 
 
 # The tables of the bindings, and of the documents.
@@ -225,6 +309,12 @@ def page(found):
     lines = [f"<!-- {WRITTEN} -->", "# The accessors of typed views, by numbers", ""]
     lines += ["A program in C or Rust reads a node by the number of an accessor (`docs/C.md`, `docs/RUST.md`). Each accessor belongs to the"]
     lines += ["nodes of one kind, its view. Of any other node it answers nothing.", ""]
+    lines += ["An accessor of the form `node` answers the number of a node of the tree, or nothing if the tree lacks it. One of the form"]
+    lines += ["`nodes` has several answers, which are asked by an index: the number of the node with the index, counted from 0, or nothing"]
+    lines += ["after the last one. Each other accessor has one answer, with the index 0.", ""]
+    lines += ["Not here are `Raw.block` and `ModuleImport.bare_name`, which ask the caller what newlines and names are; `bindings`, which would"]
+    lines += ["make its list of names anew for each answer; and `ends_in_semicolon` of an argument in math, which the semicolon after it tells"]
+    lines += ["among `MathArgs.content_items`. An item of an import is read by the accessors of its own kind.", ""]
     lines += ["| number | accessor | form | what it answers |", "|---|---|---|---|"]
     lines += [f"| {one.number} | `{one.called()}` | {one.form} | {one.doc} |" for one in found]
     return "\n".join([*lines, ""])
@@ -234,7 +324,10 @@ def files():
     found = accessors()
     return {
         "crates/typst_accessors/src/accessor.rt": accessor_code(found),
+        "crates/typst_accessors/src/node_accessor.rt": node_accessor_code(found),
+        "crates/typst_accessors/src/nodes_accessor.rt": nodes_accessor_code(found),
         "crates/typst_accessors/specs/Accessors.antt": accessor_specs(found),
+        "crates/typst_accessors/specs/NodeAccessors.antt": node_accessor_specs(found),
         "bindings/c/typst_accessors.h": header(found),
         "bindings/rust/src/accessor.rs": rust(found),
         "docs/ACCESSORS.md": page(found),

@@ -147,7 +147,7 @@ typedef struct typst_line_column {
 
 /** What an accessor answers of a node. What the answer doesn't have is 0. */
 typedef struct typst_answer {
-    /** The natural number, 1 for true and 0 for false, or the code of a character. */
+    /** The natural number, 1 for true and 0 for false, the code of a character, or the number of a node. */
     uint64_t number;
     /** The integer with a sign. */
     int64_t integer;
@@ -262,7 +262,9 @@ enum {
     /** A character, by its code. */
     TYPST_ANSWER_CHARACTER = 4,
     /** A text in UTF-8. */
-    TYPST_ANSWER_TEXT = 5
+    TYPST_ANSWER_TEXT = 5,
+    /** A node of the tree, by its number. */
+    TYPST_ANSWER_NODE = 6
 };
 
 /** How severe a diagnostic is. */
@@ -480,11 +482,13 @@ typst_status typst_child_of_class(typst_session *session, const size_t *path, si
                                   uint32_t from_end, size_t *child);
 
 /**
- * Asks what an accessor of a typed view answers of the node at a path, such as the depth of a heading or the value of a string. If
- * the node isn't of the accessor's view, the answer is TYPST_ANSWER_NONE. Only the value of a string takes memory, in proportion to
- * its text.
+ * Asks what an accessor of a typed view answers of the node at a path, such as the depth of a heading, the value of a string or the
+ * body of a loop. If the node isn't of the accessor's view, or the tree lacks what is asked for, the answer is TYPST_ANSWER_NONE. A
+ * node is told by its number, and typst_find finds it. Only the value of a string takes memory, in proportion to its text. The call
+ * takes time at most in proportion to the children and to that text.
  * @param accessor a TYPST_VIEW_ constant.
- * @param index which of its answers, counted from 0. After the last one the answer is TYPST_ANSWER_NONE.
+ * @param index which of its answers, counted from 0. An accessor of several nodes has as many answers, and any other has one. After
+ *     the last one the answer is TYPST_ANSWER_NONE.
  * @param out receives the text, if the answer is one.
  * @param room the number of bytes that `out` has room for.
  * @param answer receives the answer, even if the buffer is too short for its text.

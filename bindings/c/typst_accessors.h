@@ -69,8 +69,180 @@ enum {
     TYPST_VIEW_BINARY_IS_RIGHT = 31,
     /** Of an Args, a boolean: whether a comma comes after the last argument. */
     TYPST_VIEW_ARGS_TRAILING_COMMA = 32,
+    /** Of a Strong, another node, or none: the strong content. */
+    TYPST_VIEW_STRONG_BODY = 33,
+    /** Of an Emph, another node, or none: the emphasized content. */
+    TYPST_VIEW_EMPH_BODY = 34,
+    /** Of a ContentBlock, another node, or none: the block's content. */
+    TYPST_VIEW_CONTENT_BLOCK_BODY = 35,
+    /** Of a ListItem, another node, or none: the item's content. */
+    TYPST_VIEW_LIST_ITEM_BODY = 36,
+    /** Of an EnumItem, another node, or none: the item's content. */
+    TYPST_VIEW_ENUM_ITEM_BODY = 37,
+    /** Of a TermItem, another node, or none: the term that is described. */
+    TYPST_VIEW_TERM_ITEM_TERM = 38,
+    /** Of a TermItem, another node, or none: the description of the term. */
+    TYPST_VIEW_TERM_ITEM_DESCRIPTION = 39,
+    /** Of a Heading, another node, or none: the heading's content. */
+    TYPST_VIEW_HEADING_BODY = 40,
+    /** Of a Ref, another node, or none: the supplement: the last content block, if there is one. */
+    TYPST_VIEW_REF_SUPPLEMENT = 41,
+    /** Of a Raw, another node, or none: the language tag, which only a text between delimiters of at least three backticks can have. */
+    TYPST_VIEW_RAW_LANG = 42,
+    /** Of an Equation, another node, or none: the equation's content. */
+    TYPST_VIEW_EQUATION_BODY = 43,
+    /** Of a MathFieldAccess, another node, or none: the target whose field is accessed. */
+    TYPST_VIEW_MATH_FIELD_ACCESS_TARGET = 44,
+    /** Of a MathFieldAccess, another node, or none: the field's name. */
+    TYPST_VIEW_MATH_FIELD_ACCESS_FIELD = 45,
+    /** Of a MathCall, another node, or none: the function that is called. */
+    TYPST_VIEW_MATH_CALL_CALLEE = 46,
+    /** Of a MathCall, another node, or none: the arguments of the call. */
+    TYPST_VIEW_MATH_CALL_ARGS = 47,
+    /** Of a MathDelimited, another node, or none: the opening delimiter. */
+    TYPST_VIEW_MATH_DELIMITED_OPEN = 48,
+    /** Of a MathDelimited, another node, or none: the contents without the delimiters. */
+    TYPST_VIEW_MATH_DELIMITED_BODY = 49,
+    /** Of a MathDelimited, another node, or none: the closing delimiter. */
+    TYPST_VIEW_MATH_DELIMITED_CLOSE = 50,
+    /** Of a MathAttach, another node, or none: the base of the attachments. */
+    TYPST_VIEW_MATH_ATTACH_BASE = 51,
+    /** Of a MathAttach, another node, or none: the bottom attachment: the first expression after the first underscore. */
+    TYPST_VIEW_MATH_ATTACH_BOTTOM = 52,
+    /** Of a MathAttach, another node, or none: the top attachment: the first expression after the first hat. */
+    TYPST_VIEW_MATH_ATTACH_TOP = 53,
+    /** Of a MathAttach, another node, or none: the primes, if they come directly after the base. */
+    TYPST_VIEW_MATH_ATTACH_PRIMES = 54,
+    /** Of a MathFrac, another node, or none: the numerator. */
+    TYPST_VIEW_MATH_FRAC_NUM = 55,
+    /** Of a MathFrac, another node, or none: the denominator. */
+    TYPST_VIEW_MATH_FRAC_DENOM = 56,
+    /** Of a MathRoot, another node, or none: the radicand of the root. */
+    TYPST_VIEW_MATH_ROOT_RADICAND = 57,
+    /** Of a CodeBlock, another node, or none: the block's code. */
+    TYPST_VIEW_CODE_BLOCK_BODY = 58,
+    /** Of a Parenthesized, another node, or none: the expression in the parens. */
+    TYPST_VIEW_PARENTHESIZED_EXPR = 59,
+    /** Of a Parenthesized, another node, or none: the pattern in the parens, if they are a pattern. */
+    TYPST_VIEW_PARENTHESIZED_PATTERN = 60,
+    /** Of a Named, another node, or none: the name. */
+    TYPST_VIEW_NAMED_NAME = 61,
+    /** Of a Named, another node, or none: the expression after the name. */
+    TYPST_VIEW_NAMED_EXPR = 62,
+    /** Of a Named, another node, or none: the pattern after the name, if the pair is part of a pattern. */
+    TYPST_VIEW_NAMED_PATTERN = 63,
+    /** Of a Keyed, another node, or none: the key. */
+    TYPST_VIEW_KEYED_KEY = 64,
+    /** Of a Keyed, another node, or none: the expression after the key. */
+    TYPST_VIEW_KEYED_EXPR = 65,
+    /** Of a Spread, another node, or none: the expression that is spread. */
+    TYPST_VIEW_SPREAD_EXPR = 66,
+    /** Of a Spread, another node, or none: the name of the sink, if it has one, where the spread is in a pattern or among parameters. */
+    TYPST_VIEW_SPREAD_SINK_IDENT = 67,
+    /** Of a Spread, another node, or none: the expression of the sink, if it has one, where the spread is in a pattern. */
+    TYPST_VIEW_SPREAD_SINK_EXPR = 68,
+    /** Of a Unary, another node, or none: the operand. */
+    TYPST_VIEW_UNARY_EXPR = 69,
+    /** Of a Binary, another node, or none: the left operand. */
+    TYPST_VIEW_BINARY_LHS = 70,
+    /** Of a Binary, another node, or none: the right operand. */
+    TYPST_VIEW_BINARY_RHS = 71,
+    /** Of a FieldAccess, another node, or none: the target whose field is accessed. */
+    TYPST_VIEW_FIELD_ACCESS_TARGET = 72,
+    /** Of a FieldAccess, another node, or none: the field's name. */
+    TYPST_VIEW_FIELD_ACCESS_FIELD = 73,
+    /** Of a FuncCall, another node, or none: the function that is called. */
+    TYPST_VIEW_FUNC_CALL_CALLEE = 74,
+    /** Of a FuncCall, another node, or none: the arguments of the call. */
+    TYPST_VIEW_FUNC_CALL_ARGS = 75,
+    /** Of a Closure, another node, or none: the closure's name, if it has one. */
+    TYPST_VIEW_CLOSURE_NAME = 76,
+    /** Of a Closure, another node, or none: the closure's parameters. */
+    TYPST_VIEW_CLOSURE_PARAMS = 77,
+    /** Of a Closure, another node, or none: the closure's body. */
+    TYPST_VIEW_CLOSURE_BODY = 78,
+    /** Of a LetBinding, another node, or none: the target of the binding: the closure's name where it binds a closure, or else the pattern. */
+    TYPST_VIEW_LET_BINDING_KIND = 79,
+    /** Of a LetBinding, another node, or none: the value that is bound, if there is one. A closure is the value itself. */
+    TYPST_VIEW_LET_BINDING_INIT = 80,
+    /** Of a DestructAssignment, another node, or none: the pattern whose parts are assigned to. */
+    TYPST_VIEW_DESTRUCT_ASSIGNMENT_PATTERN = 81,
+    /** Of a DestructAssignment, another node, or none: the expression that is assigned. */
+    TYPST_VIEW_DESTRUCT_ASSIGNMENT_VALUE = 82,
+    /** Of a SetRule, another node, or none: the function whose defaults are set. */
+    TYPST_VIEW_SET_RULE_TARGET = 83,
+    /** Of a SetRule, another node, or none: the arguments that become the defaults. */
+    TYPST_VIEW_SET_RULE_ARGS = 84,
+    /** Of a SetRule, another node, or none: the condition under which the rule holds, if there is one. */
+    TYPST_VIEW_SET_RULE_CONDITION = 85,
+    /** Of a ShowRule, another node, or none: the selector of the rule, if there is one. */
+    TYPST_VIEW_SHOW_RULE_SELECTOR = 86,
+    /** Of a ShowRule, another node, or none: the transformation of what the rule selects. */
+    TYPST_VIEW_SHOW_RULE_TRANSFORM = 87,
+    /** Of a Contextual, another node, or none: the expression that depends on the context. */
+    TYPST_VIEW_CONTEXTUAL_BODY = 88,
+    /** Of a Conditional, another node, or none: the condition. */
+    TYPST_VIEW_CONDITIONAL_CONDITION = 89,
+    /** Of a Conditional, another node, or none: the expression for a true condition. */
+    TYPST_VIEW_CONDITIONAL_IF_BODY = 90,
+    /** Of a Conditional, another node, or none: the expression for a false condition, if there is one. */
+    TYPST_VIEW_CONDITIONAL_ELSE_BODY = 91,
+    /** Of a WhileLoop, another node, or none: the condition. */
+    TYPST_VIEW_WHILE_LOOP_CONDITION = 92,
+    /** Of a WhileLoop, another node, or none: the loop's body. */
+    TYPST_VIEW_WHILE_LOOP_BODY = 93,
+    /** Of a ForLoop, another node, or none: the pattern that each item is bound to. */
+    TYPST_VIEW_FOR_LOOP_PATTERN = 94,
+    /** Of a ForLoop, another node, or none: the value that the loop goes through. */
+    TYPST_VIEW_FOR_LOOP_ITERABLE = 95,
+    /** Of a ForLoop, another node, or none: the loop's body. */
+    TYPST_VIEW_FOR_LOOP_BODY = 96,
+    /** Of a FuncReturn, another node, or none: the value that is returned, if there is one. */
+    TYPST_VIEW_FUNC_RETURN_BODY = 97,
+    /** Of an ImportItemPath, another node, or none: the path's last part, which is the item's name. */
+    TYPST_VIEW_IMPORT_ITEM_PATH_NAME = 98,
+    /** Of a RenamedImportItem, another node, or none: the path to the item. */
+    TYPST_VIEW_RENAMED_IMPORT_ITEM_PATH = 99,
+    /** Of a RenamedImportItem, another node, or none: the item's own name, which is the name in its path. */
+    TYPST_VIEW_RENAMED_IMPORT_ITEM_ORIGINAL_NAME = 100,
+    /** Of a RenamedImportItem, another node, or none: the name that the item gets. */
+    TYPST_VIEW_RENAMED_IMPORT_ITEM_NEW_NAME = 101,
+    /** Of a ModuleImport, another node, or none: the module or the path that the import names. */
+    TYPST_VIEW_MODULE_IMPORT_SOURCE = 102,
+    /** Of a ModuleImport, another node, or none: what is imported, if the import names it: the star for everything, or the import items. */
+    TYPST_VIEW_MODULE_IMPORT_IMPORTS = 103,
+    /** Of a ModuleImport, another node, or none: the name that the module gets, if it gets one. */
+    TYPST_VIEW_MODULE_IMPORT_NEW_NAME = 104,
+    /** Of a ModuleInclude, another node, or none: the path that is included. */
+    TYPST_VIEW_MODULE_INCLUDE_SOURCE = 105,
+    /** Of a Markup, other nodes, by an index: the expressions and spaces, without each space directly after a statement. */
+    TYPST_VIEW_MARKUP_EXPRS = 106,
+    /** Of a Math, other nodes, by an index: the expressions and spaces. */
+    TYPST_VIEW_MATH_EXPRS = 107,
+    /** Of a Code, other nodes, by an index: the expressions. */
+    TYPST_VIEW_CODE_EXPRS = 108,
+    /** Of a Raw, other nodes, by an index: the lines of the text. */
+    TYPST_VIEW_RAW_LINES = 109,
+    /** Of a MathArgs, other nodes, by an index: the arguments, spaces, commas, parens and semicolons, without semicolons that only end an expression after a hash. */
+    TYPST_VIEW_MATH_ARGS_CONTENT_ITEMS = 110,
+    /** Of a MathArgs, other nodes, by an index: the arguments. */
+    TYPST_VIEW_MATH_ARGS_ARG_ITEMS = 111,
+    /** Of an Array, other nodes, by an index: the items. */
+    TYPST_VIEW_ARRAY_ITEMS = 112,
+    /** Of a Dict, other nodes, by an index: the items. */
+    TYPST_VIEW_DICT_ITEMS = 113,
+    /** Of a Destructuring, other nodes, by an index: the items. */
+    TYPST_VIEW_DESTRUCTURING_ITEMS = 114,
+    /** Of an Args, other nodes, by an index: the arguments. */
+    TYPST_VIEW_ARGS_ITEMS = 115,
+    /** Of a Params, other nodes, by an index: the parameters. */
+    TYPST_VIEW_PARAMS_CHILDREN = 116,
+    /** Of an ImportItems, other nodes, by an index: the items. */
+    TYPST_VIEW_IMPORT_ITEMS_ITER = 117,
+    /** Of an ImportItemPath, other nodes, by an index: the path's parts. */
+    TYPST_VIEW_IMPORT_ITEM_PATH_ITER = 118,
     /** The number of accessors. */
-    TYPST_ACCESSORS = 33
+    TYPST_ACCESSORS = 119
 };
 
 #endif

@@ -98,6 +98,45 @@ static size_t draw_text(char *text)
     return len;
 }
 
+/* Accessors whose answers the model works out, with the kinds of their nodes. If an accessor answers children, these are of a kind:
+ * the first one, the last one, or each one by its index. */
+enum { VALUE, FIRST, LAST, EACH };
+static const struct {
+    uint32_t accessor, kind, which, child;
+} known[] = {{TYPST_VIEW_TEXT_GET, TYPST_KIND_TEXT, VALUE, 0},
+             {TYPST_VIEW_LINK_GET, TYPST_KIND_LINK, VALUE, 0},
+             {TYPST_VIEW_IDENT_GET, TYPST_KIND_IDENT, VALUE, 0},
+             {TYPST_VIEW_FLOAT_GET, TYPST_KIND_FLOAT, VALUE, 0},
+             {TYPST_VIEW_MATH_PRIMES_COUNT, TYPST_KIND_MATH_PRIMES, VALUE, 0},
+             {TYPST_VIEW_BOOL_GET, TYPST_KIND_BOOL, VALUE, 0},
+             {TYPST_VIEW_HEADING_DEPTH, TYPST_KIND_HEADING, VALUE, 0},
+             {TYPST_VIEW_REF_TARGET, TYPST_KIND_REF, VALUE, 0},
+             {TYPST_VIEW_STRONG_BODY, TYPST_KIND_STRONG, FIRST, TYPST_KIND_MARKUP},
+             {TYPST_VIEW_EQUATION_BODY, TYPST_KIND_EQUATION, FIRST, TYPST_KIND_MATH},
+             {TYPST_VIEW_CLOSURE_PARAMS, TYPST_KIND_CLOSURE, FIRST, TYPST_KIND_PARAMS},
+             {TYPST_VIEW_TERM_ITEM_DESCRIPTION, TYPST_KIND_TERM_ITEM, LAST, TYPST_KIND_MARKUP},
+             {TYPST_VIEW_FUNC_CALL_ARGS, TYPST_KIND_FUNC_CALL, LAST, TYPST_KIND_ARGS},
+             {TYPST_VIEW_FIELD_ACCESS_FIELD, TYPST_KIND_FIELD_ACCESS, LAST, TYPST_KIND_IDENT},
+             {TYPST_VIEW_RAW_LINES, TYPST_KIND_RAW, EACH, TYPST_KIND_TEXT},
+             {TYPST_VIEW_IMPORT_ITEM_PATH_ITER, TYPST_KIND_IMPORT_ITEM_PATH, EACH, TYPST_KIND_IDENT}};
+
+/* Draws a kind, or a number that is none. A third of the kinds are those of nodes that `known` reads, and of their children. */
+static uint32_t draw_kind(void)
+{
+    size_t at = draw(sizeof known / sizeof *known);
+    if (once_in(20)) return (uint32_t)draw(400);
+    return once_in(3) ? once_in(2) ? known[at].kind : known[at].child : (uint32_t)draw(TYPST_KINDS);
+}
+
+/* Draws a kind for a node with these children, often one of which `known` reads a child of their kinds. */
+static uint32_t draw_kind_over(struct node *const *children, size_t count)
+{
+    for (size_t at = 0; at < sizeof known / sizeof *known; at++)
+        for (size_t i = 0; i < count; i++)
+            if (known[at].which != VALUE && known[at].child == children[i]->kind && once_in(2)) return known[at].kind;
+    return draw_kind();
+}
+
 /* What a call should read of the node at a path, in a tree that isn't a document's. */
 static void compare_info(const struct node *node, const typst_node_info *info)
 {
@@ -115,7 +154,7 @@ static typst_status push_leaf(void)
 {
     char text[64];
     size_t len = draw_text(text);
-    uint32_t kind = once_in(20) ? (uint32_t)draw(400) : once_in(20) ? UINT32_MAX - (uint32_t)draw(9) : (uint32_t)draw(TYPST_KINDS);
+    uint32_t kind = once_in(20) ? UINT32_MAX - (uint32_t)draw(9) : draw_kind();
     typst_status status = typst_push_leaf(&session, kind, text, len);
     typst_status wanted = !model.made                                        ? TYPST_NOT_MADE
                           : kind == TYPST_KIND_ERROR || TYPST_KINDS <= kind ? TYPST_BAD_KIND
@@ -142,8 +181,8 @@ static typst_status push_error(void)
 
 static typst_status wrap(void)
 {
-    uint32_t kind = once_in(20) ? (uint32_t)draw(400) : (uint32_t)draw(TYPST_KINDS);
-    size_t count = once_in(30) ? SIZE_MAX - draw(3) : draw(5);
+    size_t count = once_in(30) ? SIZE_MAX - draw(3) : draw(5), there = count < model.depth ? count : model.depth;
+    uint32_t kind = draw_kind_over(model.stack + model.depth - there, there);
     typst_status status = typst_wrap(&session, kind, count);
     typst_status wanted = !model.made                                        ? TYPST_NOT_MADE
                           : kind == TYPST_KIND_ERROR || TYPST_KINDS <= kind ? TYPST_BAD_KIND
@@ -568,14 +607,6 @@ static typst_status pick(void)
     return status;
 }
 
-/* Accessors whose answers the model works out, with the kinds of their nodes. */
-static const struct {
-    uint32_t accessor, kind;
-} known[] = {{TYPST_VIEW_TEXT_GET, TYPST_KIND_TEXT},           {TYPST_VIEW_LINK_GET, TYPST_KIND_LINK},
-             {TYPST_VIEW_IDENT_GET, TYPST_KIND_IDENT},         {TYPST_VIEW_FLOAT_GET, TYPST_KIND_FLOAT},
-             {TYPST_VIEW_MATH_PRIMES_COUNT, TYPST_KIND_MATH_PRIMES}, {TYPST_VIEW_BOOL_GET, TYPST_KIND_BOOL},
-             {TYPST_VIEW_HEADING_DEPTH, TYPST_KIND_HEADING},   {TYPST_VIEW_REF_TARGET, TYPST_KIND_REF}};
-
 /* The first child of a kind, or null. */
 static const struct node *first_of(const struct node *node, uint32_t kind)
 {
@@ -606,15 +637,52 @@ static typst_answer answer_of(uint32_t accessor, const struct node *node, char *
     return answer;
 }
 
-/* Reads a node by an accessor. */
+/* The child that an accessor should answer with an index, or null. */
+static const struct node *child_of(size_t at, const struct node *node, size_t index)
+{
+    const struct node *last = NULL;
+    size_t before = 0;
+    for (size_t i = 0; i < node->count; i++) {
+        if (node->children[i]->kind != known[at].child) continue;
+        if (known[at].which != LAST && before++ == index) return node->children[i];
+        last = node->children[i];
+    }
+    return known[at].which == LAST ? last : NULL;
+}
+
+/* Compares a node that an accessor answers with the child at a path that it should be. */
+static void compare_child(const typst_answer *answer, const size_t *path, size_t depth, const struct node *node, const struct node *child)
+{
+    size_t below[9];
+    typst_node_info info;
+    memcpy(below, path, depth * sizeof *path);
+    for (below[depth] = 0; node->children[below[depth]] != child;) below[depth]++;
+    WANT(typst_node(&session, below, depth + 1, &info), TYPST_DONE);
+    WANT(answer->form, TYPST_ANSWER_NODE);
+    WANT(answer->number, info.number);
+    WANT(answer->integer, 0);
+    WANT(answer->len, 0);
+}
+
+/* Whether `known` reads a node, and by which of its rows. */
+static bool is_read(const struct node *node, size_t *at)
+{
+    for (size_t i = 0; node && i < sizeof known / sizeof *known; i++)
+        if (known[i].kind == node->kind) return *at = i, true;
+    return false;
+}
+
+/* Reads a node by an accessor, mostly one that `known` reads. */
 static typst_status view(void)
 {
     char out[80], text[80] = {0};
     size_t path[8], depth = draw_path(path), index = once_in(8) ? once_in(2) ? 1 : SIZE_MAX : 0;
     size_t at = draw(sizeof known / sizeof *known), room = once_in(4) ? draw(8) : sizeof out;
     const struct node *node = model_at(path, depth);
-    for (size_t i = 0; node && i < sizeof known / sizeof *known; i++)
-        if (known[i].kind == node->kind) at = i;
+    for (size_t tries = draw(9); tries && !is_read(node, &at); tries--) {
+        depth = draw_path(path);
+        node = model_at(path, depth);
+    }
     bool is_known = !once_in(8);
     uint32_t accessor = is_known ? known[at].accessor : once_in(3) ? UINT32_MAX - (uint32_t)draw(2) : (uint32_t)draw(TYPST_ACCESSORS + 9);
     typst_answer answer = {77, 77, 77, 77}, wanted = {0, 0, 0, TYPST_ANSWER_NONE};
@@ -628,9 +696,15 @@ static typst_status view(void)
         if (refused != TYPST_DONE) WANT(status, refused);
         return status;
     }
-    if (node && node->kind == known[at].kind && index == 0) wanted = answer_of(accessor, node, text);
+    bool is_viewed = node && node->kind == known[at].kind && (index == 0 || known[at].which == EACH);
+    if (is_viewed && known[at].which == VALUE) wanted = answer_of(accessor, node, text);
+    const struct node *child = is_viewed && known[at].which != VALUE ? child_of(at, node, index) : NULL;
     WANT(status, !model.made ? TYPST_NOT_MADE : reads(node) ? reads(node) : room < wanted.len ? TYPST_SHORT_BUFFER : TYPST_DONE);
     if (status != TYPST_DONE && status != TYPST_SHORT_BUFFER) return status;
+    if (child) {
+        compare_child(&answer, path, depth, node, child);
+        return status;
+    }
     WANT(answer.form, wanted.form);
     WANT(answer.number, wanted.number);
     WANT(answer.integer, 0);

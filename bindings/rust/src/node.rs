@@ -140,7 +140,8 @@ impl<'t> Node<'t> {
     }
 
     /// What an accessor of a typed view answers of this node. It answers nothing if the node isn't of the accessor's
-    /// view. This fails only if memory is refused, and only the value of a string takes memory of the library.
+    /// view. Of an accessor of several nodes this is the first answer. This fails only if memory is refused, and only the
+    /// value of a string takes memory of the library.
     ///
     /// ```
     /// use typst_tree::{Accessor, Answer, Builder, Error, FileId, Span, SyntaxKind};
@@ -155,8 +156,35 @@ impl<'t> Node<'t> {
     /// # }
     /// ```
     pub fn view(&self, accessor: Accessor) -> Result<Option<Answer>, Error> {
-        let (told, text) = self.handle.view(&self.path, accessor as u32, 0)?;
+        self.view_at(accessor, 0)
+    }
+
+    /// The answer with an index, counted from 0. An accessor of several nodes has as many answers, and any other has one.
+    pub fn view_at(&self, accessor: Accessor, index: usize) -> Result<Option<Answer>, Error> {
+        let (told, text) = self.handle.view(&self.path, accessor as u32, index)?;
         Ok(Answer::of(told, text))
+    }
+
+    /// The node that an accessor answers with an index, if it answers a node. This fails only if memory is refused.
+    ///
+    /// ```
+    /// use typst_tree::{Accessor, Error, FileId, Source};
+    ///
+    /// # fn main() -> Result<(), Error> {
+    /// let source = Source::new(FileId::MIN, "A *bold* word")?;
+    /// let root = source.root();
+    /// let bold = root.view_node(Accessor::MarkupExprs, 2)?.expect("the third expression");
+    /// let body = bold.view_node(Accessor::StrongBody, 0)?.expect("its content");
+    /// assert_eq!(body.text()?, "bold");
+    /// assert!(root.view_node(Accessor::MarkupExprs, 5)?.is_none());
+    /// # Ok(())
+    /// # }
+    /// ```
+    pub fn view_node(&self, accessor: Accessor, index: usize) -> Result<Option<Node<'t>>, Error> {
+        match self.view_at(accessor, index)? {
+            Some(Answer::Node(span)) => find(self.handle, span),
+            _ => Ok(None),
+        }
     }
 
     /// The child indices from the root down to this node.

@@ -1,6 +1,7 @@
 //! What the accessors of typed views answer of a node.
 
 use crate::raw::ViewAnswer;
+use crate::span::Span;
 
 /// What an accessor answers of a node.
 #[derive(Clone, Debug, PartialEq, Eq, Hash)]
@@ -16,6 +17,8 @@ pub enum Answer {
     Character(char),
     /// A text.
     Text(String),
+    /// A node of the tree, by its span.
+    Node(Span),
 }
 
 impl Answer {
@@ -31,6 +34,9 @@ impl Answer {
                 Some(Answer::Character(character.expect("a character is told by its code")))
             }
             5 => Some(Answer::Text(text)),
+            6 => Some(Answer::Node(
+                Span::from_number(told.number).expect("a node that is held is numbered"),
+            )),
             form => unreachable!("the library answers form {form}"),
         }
     }

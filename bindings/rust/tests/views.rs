@@ -40,6 +40,113 @@ fn accessors(kind: SyntaxKind) -> &'static [(&'static str, Accessor)] {
     }
 }
 
+/// The accessors of a kind that answer other nodes, by the names that looks give them.
+fn node_accessors(kind: SyntaxKind) -> &'static [(&'static str, Accessor)] {
+    use Accessor as by;
+    match kind {
+        SyntaxKind::Strong => &[("body", by::StrongBody)],
+        SyntaxKind::Emph => &[("body", by::EmphBody)],
+        SyntaxKind::ContentBlock => &[("body", by::ContentBlockBody)],
+        SyntaxKind::ListItem => &[("body", by::ListItemBody)],
+        SyntaxKind::EnumItem => &[("body", by::EnumItemBody)],
+        SyntaxKind::TermItem => &[("term", by::TermItemTerm), ("description", by::TermItemDescription)],
+        SyntaxKind::Heading => &[("body", by::HeadingBody)],
+        SyntaxKind::Ref => &[("supplement", by::RefSupplement)],
+        SyntaxKind::Raw => &[("lang", by::RawLang), ("lines", by::RawLines)],
+        SyntaxKind::Equation => &[("body", by::EquationBody)],
+        SyntaxKind::MathFieldAccess => &[
+            ("target", by::MathFieldAccessTarget),
+            ("field", by::MathFieldAccessField),
+        ],
+        SyntaxKind::MathCall => &[("callee", by::MathCallCallee), ("args", by::MathCallArgs)],
+        SyntaxKind::MathDelimited => &[
+            ("open", by::MathDelimitedOpen),
+            ("body", by::MathDelimitedBody),
+            ("close", by::MathDelimitedClose),
+        ],
+        SyntaxKind::MathAttach => &[
+            ("base", by::MathAttachBase),
+            ("bottom", by::MathAttachBottom),
+            ("top", by::MathAttachTop),
+            ("primes", by::MathAttachPrimes),
+        ],
+        SyntaxKind::MathFrac => &[("num", by::MathFracNum), ("denom", by::MathFracDenom)],
+        SyntaxKind::MathRoot => &[("radicand", by::MathRootRadicand)],
+        SyntaxKind::CodeBlock => &[("body", by::CodeBlockBody)],
+        SyntaxKind::Parenthesized => &[("expr", by::ParenthesizedExpr), ("pattern", by::ParenthesizedPattern)],
+        SyntaxKind::Named => &[
+            ("name", by::NamedName),
+            ("expr", by::NamedExpr),
+            ("pattern", by::NamedPattern),
+        ],
+        SyntaxKind::Keyed => &[("key", by::KeyedKey), ("expr", by::KeyedExpr)],
+        SyntaxKind::Spread => &[
+            ("expr", by::SpreadExpr),
+            ("sink_ident", by::SpreadSinkIdent),
+            ("sink_expr", by::SpreadSinkExpr),
+        ],
+        SyntaxKind::Unary => &[("expr", by::UnaryExpr)],
+        SyntaxKind::Binary => &[("lhs", by::BinaryLhs), ("rhs", by::BinaryRhs)],
+        SyntaxKind::FieldAccess => &[("target", by::FieldAccessTarget), ("field", by::FieldAccessField)],
+        SyntaxKind::FuncCall => &[("callee", by::FuncCallCallee), ("args", by::FuncCallArgs)],
+        SyntaxKind::Closure => &[
+            ("name", by::ClosureName),
+            ("params", by::ClosureParams),
+            ("body", by::ClosureBody),
+        ],
+        SyntaxKind::LetBinding => &[("kind", by::LetBindingKind), ("init", by::LetBindingInit)],
+        SyntaxKind::DestructAssignment => &[
+            ("pattern", by::DestructAssignmentPattern),
+            ("value", by::DestructAssignmentValue),
+        ],
+        SyntaxKind::SetRule => &[
+            ("target", by::SetRuleTarget),
+            ("args", by::SetRuleArgs),
+            ("condition", by::SetRuleCondition),
+        ],
+        SyntaxKind::ShowRule => &[("selector", by::ShowRuleSelector), ("transform", by::ShowRuleTransform)],
+        SyntaxKind::Contextual => &[("body", by::ContextualBody)],
+        SyntaxKind::Conditional => &[
+            ("condition", by::ConditionalCondition),
+            ("if_body", by::ConditionalIfBody),
+            ("else_body", by::ConditionalElseBody),
+        ],
+        SyntaxKind::WhileLoop => &[("condition", by::WhileLoopCondition), ("body", by::WhileLoopBody)],
+        SyntaxKind::ForLoop => &[
+            ("pattern", by::ForLoopPattern),
+            ("iterable", by::ForLoopIterable),
+            ("body", by::ForLoopBody),
+        ],
+        SyntaxKind::FuncReturn => &[("body", by::FuncReturnBody)],
+        SyntaxKind::ImportItemPath => &[("name", by::ImportItemPathName), ("iter", by::ImportItemPathIter)],
+        SyntaxKind::RenamedImportItem => &[
+            ("path", by::RenamedImportItemPath),
+            ("original_name", by::RenamedImportItemOriginalName),
+            ("new_name", by::RenamedImportItemNewName),
+        ],
+        SyntaxKind::ModuleImport => &[
+            ("source", by::ModuleImportSource),
+            ("imports", by::ModuleImportImports),
+            ("new_name", by::ModuleImportNewName),
+        ],
+        SyntaxKind::ModuleInclude => &[("source", by::ModuleIncludeSource)],
+        SyntaxKind::Markup => &[("exprs", by::MarkupExprs)],
+        SyntaxKind::Math => &[("exprs", by::MathExprs)],
+        SyntaxKind::Code => &[("exprs", by::CodeExprs)],
+        SyntaxKind::MathArgs => &[
+            ("content_items", by::MathArgsContentItems),
+            ("arg_items", by::MathArgsArgItems),
+        ],
+        SyntaxKind::Array => &[("items", by::ArrayItems)],
+        SyntaxKind::Dict => &[("items", by::DictItems)],
+        SyntaxKind::Destructuring => &[("items", by::DestructuringItems)],
+        SyntaxKind::Args => &[("items", by::ArgsItems)],
+        SyntaxKind::Params => &[("children", by::ParamsChildren)],
+        SyntaxKind::ImportItems => &[("iter", by::ImportItemsIter)],
+        _ => &[],
+    }
+}
+
 /// The text of an answer.
 fn text(answer: Option<Answer>) -> String {
     match answer {
@@ -187,6 +294,63 @@ fn sections(text: &str, begins: impl Fn(&str) -> bool) -> Vec<Vec<&str>> {
     sections
 }
 
+/// A place as a look prints it.
+fn place(node: &Node<'_>) -> String {
+    let path: Vec<_> = node.path().iter().map(usize::to_string).collect();
+    if path.is_empty() {
+        "-".to_string()
+    } else {
+        path.join(".")
+    }
+}
+
+/// The places of the nodes that an accessor answers, by their indices.
+fn places(node: &Node<'_>, accessor: Accessor) -> Result<Vec<String>, Error> {
+    let mut found = Vec::new();
+    while let Some(answered) = node.view_node(accessor, found.len())? {
+        assert_eq!(
+            node.view_at(accessor, found.len())?,
+            Some(Answer::Node(answered.span()))
+        );
+        found.push(place(&answered));
+    }
+    assert_eq!(node.view_at(accessor, found.len())?, None);
+    Ok(found)
+}
+
+/// The places in an answer of a look. It tells the variant of some answers, and more of the items of an import and of the
+/// arguments in math.
+fn wanted_places(accessor: Accessor, answer: &str) -> Vec<String> {
+    let is_place = |word: &&str| word.starts_with(|character: char| character.is_ascii_digit());
+    match accessor {
+        Accessor::ImportItemsIter => {
+            let items = answer.split('(').skip(1).filter_map(|item| item.split_once(')'));
+            items.map(|(place, _)| place.to_string()).collect()
+        }
+        _ => {
+            let words = answer.split(|character: char| !character.is_ascii_digit() && character != '.');
+            words.filter(is_place).map(str::to_string).collect()
+        }
+    }
+}
+
+/// Compares the nodes that an accessor answers with the answer of a look.
+fn compare_nodes(node: &Node<'_>, accessor: Accessor, wanted: &str, called: &str) -> Result<(), Error> {
+    if wanted == "Wildcard" {
+        let star = node.view_node(accessor, 0)?.expect("the star of an import");
+        assert_eq!(star.kind(), SyntaxKind::Star);
+        assert_eq!(star.parent().map(|node| node.span()), Some(node.span()));
+    } else {
+        assert_eq!(
+            places(node, accessor)?,
+            wanted_places(accessor, wanted),
+            "{} {called}",
+            place(node)
+        );
+    }
+    Ok(())
+}
+
 /// Compares the answers about a tree with the lines that are wanted, and returns how many were compared.
 fn compare(tree: &Tree, wanted: &[&str]) -> Result<usize, Error> {
     let wanted: HashMap<_, _> = wanted
@@ -199,12 +363,7 @@ fn compare(tree: &Tree, wanted: &[&str]) -> Result<usize, Error> {
         .collect();
     let mut compared = 0;
     for node in tree.root().preorder() {
-        let path: Vec<_> = node.path().iter().map(usize::to_string).collect();
-        let place = if path.is_empty() {
-            "-".to_string()
-        } else {
-            path.join(".")
-        };
+        let place = place(&node);
         for (name, accessor) in accessors(node.kind()) {
             let called = format!("{:?}.{name}", node.kind());
             let says = printed(&node, *accessor)?;
@@ -213,6 +372,12 @@ fn compare(tree: &Tree, wanted: &[&str]) -> Result<usize, Error> {
                 Some(&says.as_str()),
                 "{place} {called}"
             );
+            compared += 1;
+        }
+        for (name, accessor) in node_accessors(node.kind()) {
+            let called = format!("{:?}.{name}", node.kind());
+            let answer = wanted.get(&(place.as_str(), called.as_str()));
+            compare_nodes(&node, *accessor, answer.expect("the look has an answer"), &called)?;
             compared += 1;
         }
     }
@@ -238,7 +403,7 @@ fn accessors_answer_what_the_rust_crate_answers() -> Result<(), Error> {
             compared += compare(&tree, wanted)?;
         }
     }
-    // The look has 2,006 answers of these accessors. The other ones are of trees that are edited, or that are built twice.
-    assert!(compared > 1_600, "{compared} answers are compared");
+    // The look has 6,960 answers of these accessors. The other ones are of trees that are edited, or that are built twice.
+    assert!(compared > 6_900, "{compared} answers are compared");
     Ok(())
 }

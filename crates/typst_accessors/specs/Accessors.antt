@@ -2,7 +2,7 @@
 -- The numbers of accessors, and the kinds of the nodes that have them.
 use Rattle.std.specs.Prelude.{ℕ}
 use Rattle.typst_accessors.specs.declared.accessor.Accessor.{Accessor}
-use Rattle.typst_accessors.specs.declared.accessor.Accessor.TheVariants.{Flag, Natural, Integer, Character, Text, String}
+use Rattle.typst_accessors.specs.declared.accessor.Accessor.TheVariants.{Flag, Natural, Integer, Character, Text, String, Node, Nodes}
 use Rattle.typst_accessors.specs.declared.accessor.FlagAccessor.{FlagAccessor}
 use Rattle.typst_accessors.specs.declared.accessor.FlagAccessor.TheVariants.{SmartQuoteDouble, MathTextIsNumber, BoolGet, MathWasDeparenthesized, EquationBlock, BinaryIsRight, ArgsTrailingComma}
 use Rattle.typst_accessors.specs.declared.accessor.NaturalAccessor.{NaturalAccessor}
@@ -15,6 +15,7 @@ use Rattle.typst_accessors.specs.declared.accessor.TextAccessor.{TextAccessor}
 use Rattle.typst_accessors.specs.declared.accessor.TextAccessor.TheVariants.{LineCommentText, BlockCommentText, TextGet, RawLangGet, LinkGet, IdentGet, MathIdentGet, LabelGet, MathTextGet, FloatGet, NumericNumber, NumericUnit, RefTarget, UnaryOp, BinaryOp}
 use Rattle.typst_accessors.specs.declared.accessor.StringAccessor.{StringAccessor}
 use Rattle.typst_accessors.specs.declared.accessor.StringAccessor.TheVariants.{StrGet}
+use Rattle.typst_accessors.specs.NodeAccessors.{node_number, node_view, nodes_number, nodes_view}
 use Rattle.typst_base.specs.declared.kind.SyntaxKind.{SyntaxKind}
 use Rattle.typst_base.specs.declared.kind.SyntaxKind.TheVariants as kinds
 
@@ -117,6 +118,8 @@ accessor_number (Integer accessor) = integer_number accessor
 accessor_number (Character accessor) = character_number accessor
 accessor_number (Text accessor) = text_number accessor
 accessor_number (String accessor) = string_number accessor
+accessor_number (Node accessor) = node_number accessor
+accessor_number (Nodes accessor) = nodes_number accessor
 
 -- the kind of the nodes that have an accessor
 abbrev pub accessor_view : Accessor → SyntaxKind
@@ -126,3 +129,5 @@ accessor_view (Integer accessor) = integer_view accessor
 accessor_view (Character accessor) = character_view accessor
 accessor_view (Text accessor) = text_view accessor
 accessor_view (String accessor) = string_view accessor
+accessor_view (Node accessor) = node_view accessor
+accessor_view (Nodes accessor) = nodes_view accessor

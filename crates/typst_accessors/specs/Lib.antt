@@ -1,7 +1,15 @@
 pub mod Numbered
+pub mod NodeAccessors
 pub mod Accessors
 pub mod Flags
 pub mod Naturals
 pub mod Characters
 pub mod Texts
+pub mod Markup
+pub mod Math
+pub mod Code
+pub mod Control
+pub mod Modules
+pub mod Nodes
+pub mod Lists
 pub mod Answers

@@ -4,23 +4,29 @@ ghost use Rattle.std.specs.Prelude.{◌≡◌};
 ghost use Rattle.typst_accessors.specs.Accessors.{accessor_number, accessor_view, flag_number, flag_view, natural_number, natural_view, integer_number, integer_view, character_number, character_view, text_number, text_view, string_number, string_view};
 ghost use Rattle.typst_accessors.specs.Numbered.{IsNumbered};
 
+use crate::node_accessor::NodeAccessor;
+use crate::nodes_accessor::NodesAccessor;
 use typst_base::SyntaxKind;
 
 /// An accessor of a view, by the form of what it answers.
 #[derive(Clone, Copy, Debug, PartialEq, Eq)]
 pub enum Accessor {
-    /// It answers a boolean.
+    /// An accessor that answers a boolean.
     Flag(FlagAccessor),
-    /// It answers a natural number, or none.
+    /// An accessor that answers a natural number, or none.
     Natural(NaturalAccessor),
-    /// It answers an integer with a sign.
+    /// An accessor that answers an integer with a sign.
     Integer(IntegerAccessor),
-    /// It answers a character.
+    /// An accessor that answers a character.
     Character(CharacterAccessor),
-    /// It answers a text of the tree.
+    /// An accessor that answers a text of the tree.
     Text(TextAccessor),
-    /// It answers a text that the call makes.
+    /// An accessor that answers a text that the call makes.
     String(StringAccessor),
+    /// An accessor that answers another node, or none.
+    Node(NodeAccessor),
+    /// An accessor that answers other nodes, by an index.
+    Nodes(NodesAccessor),
 }
 
 impl Accessor {
@@ -46,6 +52,12 @@ impl Accessor {
         if let Some(accessor) = StringAccessor::of_number(number) {
             return Some(Accessor::String(accessor));
         }
+        if let Some(accessor) = NodeAccessor::of_number(number) {
+            return Some(Accessor::Node(accessor));
+        }
+        if let Some(accessor) = NodesAccessor::of_number(number) {
+            return Some(Accessor::Nodes(accessor));
+        }
         None
     }
 
@@ -60,6 +72,8 @@ impl Accessor {
             Accessor::Character(accessor) => accessor.view(),
             Accessor::Text(accessor) => accessor.view(),
             Accessor::String(accessor) => accessor.view(),
+            Accessor::Node(accessor) => accessor.view(),
+            Accessor::Nodes(accessor) => accessor.view(),
         }
     }
 }

@@ -3,3 +3,7 @@
 
 #[cfg(test)]
 mod accessors;
+#[cfg(test)]
+mod nodes;
+#[cfg(test)]
+mod shown;

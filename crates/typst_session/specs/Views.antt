@@ -4,7 +4,8 @@ use Rattle.typst_accessors.specs.Accessors.{accessor_number}
 use Rattle.typst_accessors.specs.Answers.{Answers}
 use Rattle.typst_accessors.specs.declared.accessor.Accessor.{Accessor as AnAccessor}
 use Rattle.typst_accessors.specs.declared.answer.Answer.{Answer}
-use Rattle.typst_accessors.specs.declared.answer.Answer.TheVariants.{Nothing, Flag, Natural, Integer, Character, Text, Owned}
+use Rattle.typst_accessors.specs.declared.answer.Answer.TheVariants.{Nothing, Flag, Natural, Integer, Character, Text, Owned, Node}
+use Rattle.typst_node.specs.Labels.{number as number_in}
 use Rattle.typst_node.specs.Tree.{Tree}
 use Rattle.typst_session.specs.Reading.{IsNoNode, OfNode}
 use Rattle.typst_session.specs.Texts.{IsWritten, IsTooShort}
@@ -29,12 +30,15 @@ form_of (Integer value) = 3
 form_of (Character c) = 4
 form_of (Text said) = 5
 form_of (Owned value) = 5
+form_of (Node node) = 6
 
--- the number of an answer: 1 for true, a natural number, or the code of a character, and 0 for any other answer
+-- the number of an answer: 1 for true, a natural number, the code of a character, or the number of a node, and 0 for any
+-- other answer
 abbrev pub number_of : Answer → ℕ
 number_of (Flag flag) = cond flag 1 0
 number_of (Natural number) = number
 number_of (Character c) = c
+number_of (Node node) = number_in node.now.label
 number_of _ = 0
 
 -- the integer of an answer, and 0 for any other answer

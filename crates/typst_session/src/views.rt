@@ -13,14 +13,14 @@ use typst_accessors::{Accessor, Answer};
 #[repr(C)]
 #[derive(Clone, Copy, Drop)]
 pub struct ViewAnswer {
-    /// The natural number, 1 for true and 0 for false, or the code of a character.
+    /// The natural number, 1 for true and 0 for false, the code of a character, or the number of a node.
     pub number: u64,
     /// The integer with a sign.
     pub integer: i64,
     /// The length of the text in bytes.
     pub len: usize,
-    /// 0 for nothing, 1 for a boolean, 2 for a natural number, 3 for an integer with a sign, 4 for a character, and 5 for
-    /// a text.
+    /// 0 for nothing, 1 for a boolean, 2 for a natural number, 3 for an integer with a sign, 4 for a character, 5 for a
+    /// text, and 6 for a node.
     pub form: u32,
 }
 
@@ -45,6 +45,7 @@ fn form_of(answer: &Answer) -> u32
         Answer::Character(_) => 4,
         Answer::Text(_) => 5,
         Answer::Owned(_) => 5,
+        Answer::Node(_) => 6,
     }
 }
 
@@ -56,6 +57,7 @@ fn number_of(answer: &Answer) -> u64
         Answer::Flag(true) => 1,
         Answer::Natural(number) => *number,
         Answer::Character(character) => *character as u64,
+        Answer::Node(node) => node.span().number(),
         _ => 0,
     }
 }
