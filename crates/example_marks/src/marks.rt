@@ -78,36 +78,18 @@ fn first_byte(bytes: &Range<usize>, edit: &TextEdit) -> Option<usize> {
     }
 }
 
-/// The outermost node of a kind with exactly these bytes, as a mark.
+/// The outermost node of a kind that begins at a byte, and ends at another if one is given, as a mark.
 fn mark_at(
     alloc: Global,
     root: &LinkedNode,
     kind: SyntaxKind,
-    range: &Range<usize>,
-) -> Result<Option<Mark>, AllocError> {
-    let Some(outermost) = root.find_range(alloc, range.start, range.end)? else {
-        return Ok(None);
-    };
-    for node in outermost.preorder(alloc)? {
-        let node = node?;
-        if node.get().kind() == kind && node.range() == (range.start..range.end) {
-            return Ok(Some(Mark::of(&node)));
-        }
-    }
-    Ok(None)
-}
-
-/// The outermost node of a kind that begins at a byte, as a mark.
-fn mark_from(
-    alloc: Global,
-    root: &LinkedNode,
-    kind: SyntaxKind,
     start: usize,
+    end: Option<usize>,
 ) -> Result<Option<Mark>, AllocError> {
     let leaf = root.leaf_at(alloc, start, Side::After)?;
     let (mut node, mut found) = (leaf.as_ref(), None);
     while let Some(at) = node.filter(|at| at.range().start == start) {
-        if at.get().kind() == kind {
+        if at.get().kind() == kind && end.is_none_or(|end| at.range().end == end) {
             found = Some(Mark::of(at));
         }
         node = at.parent();
@@ -133,14 +115,14 @@ pub(crate) fn follow(
     let root = LinkedNode::new(source.root());
     let places = moved(alloc, &mark.range, edit)?;
     for range in &places {
-        if let Some(found) = mark_at(alloc, &root, mark.kind, range)? {
+        if let Some(found) = mark_at(alloc, &root, mark.kind, range.start, Some(range.end))? {
             return Ok(Some(found));
         }
     }
     let Some(start) = first_byte(&mark.range, edit) else {
         return Ok(None);
     };
-    if let Some(found) = mark_from(alloc, &root, mark.kind, start)? {
+    if let Some(found) = mark_at(alloc, &root, mark.kind, start, None)? {
         return Ok(Some(found));
     }
     Ok(Some(Mark {
