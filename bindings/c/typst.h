@@ -117,6 +117,9 @@ typedef struct typst_node_info {
     uint8_t warnings;
 } typst_node_info;
 
+/** The most child indices in a path of a document. */
+#define TYPST_DOCUMENT_DEPTH 132
+
 /** Where a node was found. */
 typedef struct typst_place {
     /** The number of child indices in its path. */
