@@ -307,8 +307,11 @@ def rust(found):
 
 def page(found):
     lines = [f"<!-- {WRITTEN} -->", "# The accessors of typed views, by numbers", ""]
-    lines += ["A program in C or Rust reads a node by the number of an accessor (`docs/C.md`, `docs/RUST.md`). Each accessor belongs to the"]
-    lines += ["nodes of one kind, its view. Of any other node it answers nothing.", ""]
+    lines += ["A program in C or Rust reads a node by the number of an accessor (`docs/C.md`, `docs/RUST.md`). `Heading.depth` is"]
+    lines += ["`TYPST_VIEW_HEADING_DEPTH` in C and `Accessor::HeadingDepth` in Rust, and so on. Each accessor belongs to the nodes of one"]
+    lines += ["kind, its view. Of any other node it answers nothing.", ""]
+    lines += ["A `flag` is true or false, a `natural` is a natural number or none, and a `string` is a text that the call makes. A program in"]
+    lines += ["C gets a `string` as `TYPST_ANSWER_TEXT`, like a `text` of the tree.", ""]
     lines += ["An accessor of the form `node` answers the number of a node of the tree, or nothing if the tree lacks it. One of the form"]
     lines += ["`nodes` has several answers, which are asked by an index: the number of the node with the index, counted from 0, or nothing"]
     lines += ["after the last one. Each other accessor has one answer, with the index 0.", ""]

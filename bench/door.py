@@ -208,11 +208,12 @@ def compare_printed(name, printed, wanted):
 
 def programs_in_c(folder, archive, calls):
     heap, model = C / "heap.c", C / "tests/model.c"
-    sources = {"editor": [C / "examples/editor.c", heap], "random": [C / "tests/random.c", model, heap],
-               "refuse": [C / "tests/refuse.c"]}
+    sources = {"editor": [C / "examples/editor.c", heap], "marks": [C / "examples/marks.c", heap],
+               "random": [C / "tests/random.c", model, heap], "refuse": [C / "tests/refuse.c"]}
     for name, files in sources.items():
         run(["gcc", *STRICT, *SANITIZED, *files, archive, "-o", folder / name])
-    compare_printed("editor.c", run([folder / "editor"]), C / "examples/editor.stdout")
+    for name in ["editor", "marks"]:
+        compare_printed(f"{name}.c", run([folder / name]), C / f"examples/{name}.stdout")
     print(run([folder / "refuse"]), end="")
     print(run([folder / "random", calls]), end="")
     header = folder / "header.cc"

@@ -184,13 +184,13 @@ typedef struct typst_diagnostic_sizes {
     size_t len;
 } typst_diagnostic_sizes;
 
-/** The range of children that an edit numbered anew. */
+/** The range of children that an edit numbered anew. It is empty if no child was. */
 typedef struct typst_window {
     /** The index of the first child. */
     size_t start;
     /** The index after the last child. */
     size_t end;
-    /** How many windows were tried. */
+    /** How many windows were tried: 1 if the first one had room for the new numbers. */
     size_t tried;
 } typst_window;
 
@@ -537,9 +537,9 @@ typst_status typst_spanless_eq(typst_session *session, const size_t *path, size_
 /** @{ */
 
 /**
- * Finds the node with a number. It reads few other nodes. After an edit of a document a number in the window of the edit may belong to
- * another node, or to none; all other nodes keep their numbers.
- * @param path receives the path, if it has room. A path in the tree of a document has at most 132 indices.
+ * Finds the node with a number. It reads few other nodes. After an edit of a document, the number of a node may belong to another node,
+ * or to none, if the node was parsed anew or is in the window of the edit. Each other node keeps its number.
+ * @param path receives the path, if it has room. A path of a document has at most TYPST_DOCUMENT_DEPTH indices.
  * @param place receives the length of the path and where the node's text begins, even if the buffer is too short.
  * @return TYPST_DONE, TYPST_NOT_MADE, TYPST_NO_TREE, TYPST_NOT_FOUND, TYPST_SHORT_BUFFER or TYPST_NO_MEMORY.
  */
@@ -579,15 +579,16 @@ typst_status typst_neighbor(typst_session *session, const size_t *path, size_t d
 /**
  * Parses a text of markup, numbers its tree for a file, and holds both. It frees the tree or document that was held before. The
  * stack stays as it is.
- * @param file the number of a file, not 0.
+ * @param file the number of a file: any but 0. No call tells it.
  * @return TYPST_DONE, TYPST_NOT_MADE, TYPST_BAD_FILE, TYPST_BAD_TEXT, TYPST_TOO_LARGE, TYPST_UNNUMBERABLE or TYPST_NO_MEMORY.
  */
 typst_status typst_open(typst_session *session, uint16_t file, const char *text, size_t text_len);
 
 /**
- * Replaces the bytes `from .. to` of the document's text by a text, and parses anew only the blocks that this can touch.
- * @param edited receives which bytes were parsed and which children of the root were numbered anew, with all nodes below them. All other
- *     nodes keep their numbers. Of nodes that were parsed anew those keep them that come out as before, counted from either end.
+ * Replaces the bytes `from .. to` of the document's text by a text, and parses anew only the blocks that this can touch. The block before
+ * them is one of these if the parser had looked at the bytes that go or at the place where others come.
+ * @param edited receives which bytes were parsed and which children of the root were numbered anew, with all nodes below them. A node
+ *     outside both keeps its number. Nodes that were parsed anew and come out as before, counted from either end, take the old numbers.
  * @return TYPST_DONE, TYPST_NOT_MADE, TYPST_NO_DOCUMENT, TYPST_BAD_TEXT, TYPST_BAD_RANGE, TYPST_TOO_LARGE, TYPST_UNNUMBERABLE or
  *     TYPST_NO_MEMORY.
  */
@@ -625,7 +626,8 @@ typst_status typst_line_column_to_byte(typst_session *session, size_t line, size
 /** @{ */
 
 /**
- * Writes the name of a kind, as messages to a user write it. No zero byte follows the name.
+ * Writes the name of a kind, as messages to a user write it: `heading`, or `syntax error` for TYPST_KIND_ERROR. It isn't the name of the
+ * constant. No zero byte follows it.
  * @param length receives the length of the name, even if the buffer is too short.
  * @return TYPST_DONE, TYPST_BAD_KIND or TYPST_SHORT_BUFFER.
  */

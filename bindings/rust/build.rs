@@ -13,6 +13,9 @@ fn main() {
         );
         return;
     };
+    if Path::new(&folder).is_relative() {
+        println!("cargo:warning=TYPST_C_DIR is {folder}, but it must be an absolute path");
+    }
     println!("cargo:rustc-link-search=native={folder}");
     for library in ["typst_c", "typst_heap"] {
         println!("cargo:rustc-link-lib=static={library}");

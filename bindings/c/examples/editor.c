@@ -6,10 +6,6 @@
 #include <stdlib.h>
 #include <string.h>
 
-/* Room for the path of a node of a document, and for what is wrong in the document. Trees of documents are at most 133
- * nodes deep. */
-enum { DEPTH = 133, MOST = 16, TEXTS = 1024 };
-
 /* Ends the program if a call wasn't done. */
 static void need(const char *what, typst_status status)
 {
@@ -18,29 +14,39 @@ static void need(const char *what, typst_status status)
     exit(1);
 }
 
-/* Prints the leaf before the cursor, and whether it is an error. */
+/* Prints the leaf before the cursor, with the name of its kind. */
 static void show_leaf(typst_session *session, size_t cursor)
 {
-    size_t path[DEPTH];
+    size_t path[TYPST_DOCUMENT_DEPTH];
     typst_place place;
     typst_node_info info;
+    typst_length length;
+    char kind[64];
 
-    need("the leaf at the cursor", typst_try_leaf_at(session, cursor, TYPST_BEFORE, path, DEPTH, &place));
+    need("the leaf at the cursor", typst_try_leaf_at(session, cursor, TYPST_BEFORE, path, TYPST_DOCUMENT_DEPTH, &place));
     need("a node", typst_try_node(session, path, place.depth, &info));
-    printf("  the leaf before byte %zu has the bytes %zu..%zu and the kind %u%s\n", cursor, place.offset, place.offset + info.len,
-           (unsigned)info.kind, info.kind == TYPST_KIND_ERROR ? ", an error" : "");
+    need("the name of a kind", typst_try_kind_name(info.kind, kind, sizeof kind, &length));
+    printf("  the leaf before byte %zu has the bytes %zu..%zu: %.*s\n", cursor, place.offset, place.offset + info.len, (int)length.len,
+           kind);
 }
 
 /* Prints what is wrong, and at which line and column. Both count from 1 here, as readers count. */
 static void show_errors(typst_session *session)
 {
-    typst_diagnostic told[MOST];
     typst_diagnostic_sizes sizes;
     typst_line_column place;
-    char texts[TEXTS];
-    const char *text = texts;
 
-    need("diagnostics", typst_try_diagnostics(session, told, MOST, texts, TEXTS, &sizes));
+    /* A call without room asks how much room is needed. */
+    typst_status status = typst_try_diagnostics(session, NULL, 0, NULL, 0, &sizes);
+    if (status != TYPST_SHORT_BUFFER) {
+        need("diagnostics", status);
+        return;
+    }
+    typst_diagnostic *told = calloc(sizes.count, sizeof *told);
+    char *texts = malloc(sizes.len + 1);
+    if (!told || !texts) need("diagnostics", TYPST_NO_MEMORY);
+    need("diagnostics", typst_try_diagnostics(session, told, sizes.count, texts, sizes.len, &sizes));
+    const char *text = texts;
     for (size_t i = 0; i < sizes.count; text += told[i++].len) {
         if (told[i].severity == TYPST_HINT) {
             printf("  hint: %.*s\n", (int)told[i].len, text);
@@ -49,6 +55,8 @@ static void show_errors(typst_session *session)
         need("a place", typst_try_byte_to_line_column(session, told[i].start, TYPST_CHARACTERS, &place));
         printf("  line %zu, column %zu: %.*s\n", place.line + 1, place.column + 1, (int)told[i].len, text);
     }
+    free(texts);
+    free(told);
 }
 
 /* Types a text at a place, and prints how much of the document was parsed anew. */

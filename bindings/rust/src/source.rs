@@ -47,8 +47,8 @@ impl Source {
         node::at(&self.handle, path.to_vec())
     }
 
-    /// The node with a span. After an edit, a span in the window of the edit may belong to another node, or to none. This
-    /// fails only if memory is refused.
+    /// The node with a span. After an edit, the span of a node may belong to another node, or to none, if the node was
+    /// parsed anew or is in the window of the edit. This fails only if memory is refused.
     pub fn find(&self, span: Span) -> Result<Option<Node<'_>>, Error> {
         node::find(&self.handle, span)
     }
