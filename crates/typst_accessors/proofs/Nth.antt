@@ -23,6 +23,7 @@ module _ {V X : Type 0} (view : V → Told) (tell : X → Told) (node : X → Tr
   picked (Some v) None e = absurd (none-some (view v) (sym e))
   picked (Some v) (Some x) e = ap (λ p. p.0) (same_Some (view v) (tell x) e) ∙ is_node x
 
+  -- the view with an index has the node of the element with the index, and there are as many views as elements
   pub nth_told : {S : Type 0} (left : S → List X) (s u : S) (n : ℕ) (r : Option V)
       → SkipsThenYields (YieldsFirstBy view (λ t. map tell (left t))) s n r u
       → MatchOption r (slice_get (map node (left s)) n ≡ None) (λ v. (view v).0 ≡ slice_get (map node (left s)) n)
@@ -32,6 +33,7 @@ module _ {V X : Type 0} (view : V → Told) (tell : X → Told) (node : X → Tr
       ∙ slice_get-map tell (left s) n in
       subst (λ o. MatchOption r (o ≡ None) (λ v. (view v).0 ≡ o)) (sym (slice_get-map node (left s) n)) (picked r (slice_get (left s) n) at)
 
+-- the same where the elements are the nodes
 pub nth_view : {V S : Type 0} {view : V → Told} (left : S → List Tree) (s u : S) (n : ℕ) (r : Option V)
     → SkipsThenYields (YieldsFirstBy view (λ t. map told_of (left t))) s n r u
     → MatchOption r (slice_get (left s) n ≡ None) (λ v. (view v).0 ≡ slice_get (left s) n)

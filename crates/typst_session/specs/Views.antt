@@ -6,7 +6,6 @@ use Rattle.typst_accessors.specs.declared.accessor.Accessor.{Accessor as AnAcces
 use Rattle.typst_accessors.specs.declared.answer.Answer.{Answer}
 use Rattle.typst_accessors.specs.declared.answer.Answer.TheVariants.{Nothing, Flag, Natural, Integer, Character, Text, Owned, Node}
 use Rattle.typst_node.specs.Labels.{number as number_in}
-use Rattle.typst_node.specs.Tree.{Tree}
 use Rattle.typst_session.specs.Reading.{IsNoNode, OfNode}
 use Rattle.typst_session.specs.Texts.{IsWritten, IsTooShort}
 use Rattle.typst_session.specs.declared.refusal.Refusal.{Refusal}
