@@ -60,13 +60,9 @@ fn capped_value(bytes: &[u8]) -> u32
     ensures { result ≡ capped_value 0 bytes.now }
 {
     let mut code: u32 = 0;
-    let mut rest = bytes;
-    while let [first, more @ ..] = rest {
-        match (*first as char).to_digit(16) {
-            Some(digit) => {
-                code = (code * 16 + digit).min(0x11_0000);
-                rest = more;
-            }
+    for byte in bytes {
+        match (*byte as char).to_digit(16) {
+            Some(digit) => code = (code * 16 + digit).min(0x11_0000),
             None => break,
         }
     }
