@@ -2,6 +2,7 @@
 use Rattle.std.proofs.Common.{◌≡◌, ℕ, suc, zero, ◌<◌, ◌≤◌, ◌⊎◌, inl, inr, List, [], ◌∷◌, length, map, reverse, get_or, Bool, true, false, cond, ◌||◌, Option, None, Some, refl, sym, ◌∙◌, ap, subst, arith}
 use Rattle.std.specs.List.{find, list_any, AllByRecursion}
 use Rattle.std.specs.Option.{option_or}
+use Rattle.std.proofs.lemmas.Simd.{map-map}
 use Rattle.std.proofs.lemmas.List.{reverse-append}
 use Rattle.std.proofs.lemmas.List.Folds.{find-append, list_any-from_Any}
 use Rattle.typst_node.specs.Tree.{Tree}
@@ -121,10 +122,6 @@ rise_last f p (x ∷ xs) rise (suc k) d l e h y last = elim (option_cases (find 
 
 -- ---- paths
 
-map_map : {A B C : Type 0} (f : B → C) (g : A → B) (xs : List A) → map f (map g xs) ≡ map (λ x. f (g x)) xs
-map_map f g [] = refl
-map_map f g (x ∷ xs) = ap (λ ys. f (g x) ∷ ys) (map_map f g xs)
-
 abbrev number_there : Option Tree → ℕ
 number_there None = 0
 number_there (Some t) = number t.label
@@ -132,8 +129,8 @@ number_there (Some t) = number t.label
 -- the numbers along the paths
 numbers-paths : (t : Tree) → map (λ p. number_there (at p t)) (paths t) ≡ map number (nodes t)
 numbers-paths t =
-    sym (map_map number_there (λ p. at p t) (paths t)) ∙ ap (map number_there) (at-paths t) ∙ map_map number_there Some (subtrees t)
-    ∙ sym (map_map number (λ (s : Tree). s.label) (subtrees t)) ∙ ap (map number) (labels-subtrees t)
+    sym (map-map number_there (λ p. at p t) (paths t)) ∙ ap (map number_there) (at-paths t) ∙ map-map number_there Some (subtrees t)
+    ∙ sym (map-map number (λ (s : Tree). s.label) (subtrees t)) ∙ ap (map number) (labels-subtrees t)
 
 -- a node that passes a test is there
 pub is_there_value : (test : Tree → Bool) (o : Option Tree) → is_there test o ≡ true → (m : Tree) × (o ≡ Some m) × (test m ≡ true)

@@ -3,6 +3,7 @@ use Rattle.std.proofs.Common.{◌≡◌, ℕ, suc, zero, ◌+◌, ◌<◌, ◌�
 use Rattle.std.specs.Prelude.{Result, Ok, Err, IfOk, MatchOption}
 use Rattle.std.specs.declared.alloc.AllocError.{AllocError}
 use Rattle.std.proofs.Math.Seq.{take-append_seam}
+use Rattle.std.proofs.lemmas.Simd.{map-map}
 use Rattle.std.proofs.lemmas.List.{map-append, length-map}
 use Rattle.std.proofs.lemmas.Option.{slice_get_within, slice_get-get_or, get_or_from_slice_get}
 use Rattle.typst_node.specs.Tree.{Forest, none, tree, Tree, trees, forest}
@@ -15,10 +16,6 @@ use Rattle.typst_linked.specs.Place.{Place, subtree, below, child_place}
 use Rattle.typst_linked.specs.Preorder.{listed_of, places_below}
 use Rattle.typst_linked.specs.Onwards.{paths_behind, places_behind, places_from}
 use Rattle.typst_node.proofs.PathSteps.{if_some_value, at-push}
-
-map_map : {A B C : Type 0} (f : B → C) (g : A → B) (xs : List A) → map f (map g xs) ≡ map (λ x. f (g x)) xs
-map_map f g [] = refl
-map_map f g (x ∷ xs) = ap (λ ys. f (g x) ∷ ys) (map_map f g xs)
 
 map_same : {A B : Type 0} (f g : A → B) → ((x : A) → f x ≡ g x) → (xs : List A) → map f xs ≡ map g xs
 map_same f g same [] = refl
@@ -55,7 +52,7 @@ behind-push (j ∷ p) i t m h =
     ∙ (ap (λ ps. map (λ q. j ∷ q) ps ++ later j t) (behind-push p i x.0 m x.2)
     ∙ (ap (λ ps. ps ++ later j t) (map-append (λ q. j ∷ q) (map (λ q. p ++ q) (later i m)) (paths_behind p x.0))
     ∙ (append_assoc (map (λ q. j ∷ q) (map (λ q. p ++ q) (later i m))) (map (λ q. j ∷ q) (paths_behind p x.0)) (later j t)
-    ∙ (ap (λ ps. ps ++ (map (λ q. j ∷ q) (paths_behind p x.0) ++ later j t)) (map_map (λ q. j ∷ q) (λ q. p ++ q) (later i m))
+    ∙ (ap (λ ps. ps ++ (map (λ q. j ∷ q) (paths_behind p x.0) ++ later j t)) (map-map (λ q. j ∷ q) (λ q. p ++ q) (later i m))
     ∙ ap (λ o. map (λ q. j ∷ (p ++ q)) (later i m) ++ (map (λ q. j ∷ q) (listed_of (paths_behind p) o) ++ later j t)) (sym x.1)))))
 
 -- the same of places
@@ -64,7 +61,7 @@ behind_child parent m i h =
     let there : List ℕ → Place = λ path. record { root = parent.root; path = path } in
     ap (map there) (behind-push parent.path i parent.root m h)
     ∙ (map-append there (map (λ q. parent.path ++ q) (later i m)) (paths_behind parent.path parent.root)
-    ∙ ap (λ ps. ps ++ places_behind parent) (map_map there (λ q. parent.path ++ q) (later i m)))
+    ∙ ap (λ ps. ps ++ places_behind parent) (map-map there (λ q. parent.path ++ q) (later i m)))
 
 -- a list of a child's paths and those of its later siblings is followed by what is after the parent
 from_child : (parent : Place) (m e : Tree) (i : ℕ) (here : List (List ℕ)) → subtree parent ≡ Some m → slice_get (trees m.children) i ≡ Some e → here ≡ map (λ p. i ∷ p) (paths e) ++ later i m →
@@ -74,7 +71,7 @@ from_child parent m e i here hm he split =
     let child = child_place parent i in
     let same : (p : List ℕ) → below parent (i ∷ p) ≡ below child p = λ p k. record { root = parent.root; path = sym (append_assoc parent.path (i ∷ []) p) k } in
     let first : map (below parent) own ≡ places_below child =
-    map_map (below parent) (λ p. i ∷ p) (paths e) ∙ (map_same (λ p. below parent (i ∷ p)) (below child) same (paths e)
+    map-map (below parent) (λ p. i ∷ p) (paths e) ∙ (map_same (λ p. below parent (i ∷ p)) (below child) same (paths e)
     ∙ ap (listed_of (λ t. map (below child) (paths t))) (sym (at-push parent.path i parent.root m e hm he))) in
     ap (λ ps. map (below parent) ps ++ places_behind parent) split
     ∙ (ap (λ ps. ps ++ places_behind parent) (map-append (below parent) own (later i m))
