@@ -13,9 +13,10 @@
    archive. Each export needs a function `typst_try_` in the header. The text of a status in C must be that of its refusal in
    crates/typst_session, and its error in Rust must have the same name.
 3. `rt lib` builds the archive, and proves what isn't kept.
-4. gcc compiles the example and the tests in C with all warnings. They run under the sanitizers of addresses and of undefined
+4. gcc compiles the examples and the tests in C with all warnings. They run under the sanitizers of addresses and of undefined
    behavior. One test makes calls that are drawn at random: a million, or as many as --calls says. Another refuses each request for
-   memory in turn. The example must print what the file `.stdout` next to it says.
+   memory in turn. Each example must print what the file `.stdout` next to it says. clang, if it is there, reads the comments of the
+   headers.
 5. cargo, offline, runs the tests, the lints and the documentation of the Rust crate. Its examples must print what the files
    `.stdout` next to them say. One of them carries out scripts: the vectors of scripts and the scripts in examples/.
 
@@ -208,17 +209,28 @@ def compare_printed(name, printed, wanted):
 
 def programs_in_c(folder, archive, calls):
     heap, model = C / "heap.c", C / "tests/model.c"
-    sources = {"editor": [C / "examples/editor.c", heap], "marks": [C / "examples/marks.c", heap],
+    examples = [it.stem for it in sorted((C / "examples").glob("*.c"))]
+    sources = {**{name: [C / f"examples/{name}.c", heap] for name in examples},
                "random": [C / "tests/random.c", model, heap], "refuse": [C / "tests/refuse.c"]}
     for name, files in sources.items():
         run(["gcc", *STRICT, *SANITIZED, *files, archive, "-o", folder / name])
-    for name in ["editor", "marks"]:
+    for name in examples:
         compare_printed(f"{name}.c", run([folder / name]), C / f"examples/{name}.stdout")
     print(run([folder / "refuse"]), end="")
     print(run([folder / "random", calls]), end="")
     header = folder / "header.cc"
     header.write_text('#include "typst.h"\n')
     run(["g++", "-std=c++11", "-Wall", "-Wextra", "-Werror", f"-I{C}", "-fsyntax-only", header])
+    check_comments()
+
+
+def check_comments():
+    """Whether clang can read the comments of the headers: each command in them is one that it knows."""
+    if not shutil.which("clang"):
+        print("there is no clang here, so it didn't read the comments of the headers")
+        return
+    for language in ["c", "c++"]:
+        run(["clang", "-Wdocumentation", "-Wdocumentation-pedantic", "-Werror", "-fsyntax-only", "-x", language, HEADER])
 
 
 def time_calls(folder, archive, turns):
