@@ -11,7 +11,8 @@
 2. The exports of crates/typst_c, the functions of bindings/c/typst.h and those of bindings/rust/src/raw.rs must be the same, with
    the same names, numbers and widths of arguments. So must the fields of the structs that are passed, and the functions of the
    archive. Each export needs a function `typst_try_` in the header. The text of a status in C must be that of its refusal in
-   crates/typst_session, and its error in Rust must have the same name.
+   crates/typst_session, and its error in Rust must have the same name. A refusal is no error in Rust only if no call there can get
+   it, or if the crate then calls again.
 3. `rt lib` builds the archive, and proves what isn't kept.
 4. gcc compiles the examples and the tests in C with all warnings. They run under the sanitizers of addresses and of undefined
    behavior. One test makes calls that are drawn at random: a million, or as many as --calls says. Another refuses each request for
@@ -45,6 +46,10 @@ SANITIZED = ["-fsanitize=address,undefined", "-fno-sanitize-recover=all", "-fno-
 REFUSALS = TOP / "crates/typst_session/src/refusal.rt"
 # The statuses that are no refusals: the call was done, and the session holds nothing.
 OWN_STATUSES = {"0", "1"}
+# The refusals that no call of the Rust crate can get: its types rule them out.
+RULED_OUT = {"Text", "NoTree", "IsDocument", "NoDocument", "File", "Set", "Accessor"}
+# The refusal after which the Rust crate calls again with a longer buffer.
+RETRIED = "Buffer"
 POINTER = "pointer"
 # The widths of types: in bits, or a pointer.
 WIDTHS = {"u8": 8, "u16": 16, "u32": 32, "u64": 64, "i64": 64, "usize": 64, "uint8_t": 8, "uint16_t": 16, "uint32_t": 32, "uint64_t": 64,
@@ -157,8 +162,11 @@ def status_differences(header):
     texts = {number_of[name]: text for name, text in re.findall(r'case (\w+): return "(.*)";', header)}
     told = {number: text for number, text in texts.items() if number not in OWN_STATUSES | {number_of["TYPST_NULL"]}}
     errors = re.findall(r"(\d+) => Error::(\w+)", (RUST / "src/error.rs").read_text())
-    return ([f"the statuses of C say {told}, but the refusals say {said}"] if told != said else []) + [
-        f"status {number} is {name} in Rust" for number, name in errors if code_of.get(name) != number]
+    errors += [(number, RETRIED) for number in re.findall(r"const SHORT_BUFFER: u32 = (\d+);", (RUST / "src/handle.rs").read_text())]
+    differ = [f"the statuses of C say {told}, but the refusals say {said}"] if told != said else []
+    differ += [f"status {number} is {name} in Rust" for number, name in errors if code_of.get(name) != number]
+    told_apart = set(code_of) ^ RULED_OUT ^ {name for _, name in errors}
+    return differ + [f"the refusal {name} must be an error in Rust or in RULED_OUT, and not both" for name in sorted(told_apart)]
 
 
 def compare_declarations():
