@@ -28,12 +28,23 @@ def constant(variant):
     return re.sub(r"(?<=[a-z])(?=[A-Z])", "_", variant).upper()
 
 
+def in_c(comment):
+    """A comment as C has it. A sign by which Doxygen and clang tell a command, `\\` or `@`, is escaped, which takes effect in
+    `<code>` and not in backticks."""
+
+    def escaped(code):
+        marked = re.sub(r'[\\@&<>]', r"\\\g<0>", code[1])
+        return f"<code>{marked}</code>" if re.search(r"[\\@]", code[1]) else code[0]
+
+    # A comment in C ends at the first `*/`.
+    return re.sub(r"`([^`]*)`", escaped, comment).replace("/*", "/ *").replace("*/", "* /")
+
+
 def header(kinds):
     lines = [f"/* The kinds of nodes, by number. {WRITTEN} */"]
     lines += ["#ifndef TYPST_KINDS_H", "#define TYPST_KINDS_H", "", "enum {"]
     for number, (variant, _, comment) in enumerate(kinds):
-        # A comment in C ends at the first such mark.
-        lines += [f"    /** {comment.replace('/*', '/ *').replace('*/', '* /')} */"]
+        lines += [f"    /** {in_c(comment)} */"]
         lines += [f"    TYPST_KIND_{constant(variant)} = {number},"]
     lines += ["    /** The number of kinds. */", f"    TYPST_KINDS = {len(kinds)}", "};", "", "#endif", ""]
     return "\n".join(lines)

@@ -11,11 +11,13 @@
 2. The exports of crates/typst_c, the functions of bindings/c/typst.h and those of bindings/rust/src/raw.rs must be the same, with
    the same names, numbers and widths of arguments. So must the fields of the structs that are passed, and the functions of the
    archive. Each export needs a function `typst_try_` in the header. The text of a status in C must be that of its refusal in
-   crates/typst_session, and its error in Rust must have the same name.
+   crates/typst_session, and its error in Rust must have the same name. A refusal is no error in Rust only if no call there can get
+   it, or if the crate then calls again.
 3. `rt lib` builds the archive, and proves what isn't kept.
-4. gcc compiles the example and the tests in C with all warnings. They run under the sanitizers of addresses and of undefined
+4. gcc compiles the examples and the tests in C with all warnings. They run under the sanitizers of addresses and of undefined
    behavior. One test makes calls that are drawn at random: a million, or as many as --calls says. Another refuses each request for
-   memory in turn. The example must print what the file `.stdout` next to it says.
+   memory in turn. Each example must print what the file `.stdout` next to it says. clang, if it is there, reads the comments of the
+   headers.
 5. cargo, offline, runs the tests, the lints and the documentation of the Rust crate. Its examples must print what the files
    `.stdout` next to them say. One of them carries out scripts: the vectors of scripts and the scripts in examples/.
 
@@ -44,6 +46,10 @@ SANITIZED = ["-fsanitize=address,undefined", "-fno-sanitize-recover=all", "-fno-
 REFUSALS = TOP / "crates/typst_session/src/refusal.rt"
 # The statuses that are no refusals: the call was done, and the session holds nothing.
 OWN_STATUSES = {"0", "1"}
+# The refusals that no call of the Rust crate can get: its types rule them out.
+RULED_OUT = {"Text", "NoTree", "IsDocument", "NoDocument", "File", "Set", "Accessor"}
+# The refusal after which the Rust crate calls again with a longer buffer.
+RETRIED = "Buffer"
 POINTER = "pointer"
 # The widths of types: in bits, or a pointer.
 WIDTHS = {"u8": 8, "u16": 16, "u32": 32, "u64": 64, "i64": 64, "usize": 64, "uint8_t": 8, "uint16_t": 16, "uint32_t": 32, "uint64_t": 64,
@@ -156,8 +162,11 @@ def status_differences(header):
     texts = {number_of[name]: text for name, text in re.findall(r'case (\w+): return "(.*)";', header)}
     told = {number: text for number, text in texts.items() if number not in OWN_STATUSES | {number_of["TYPST_NULL"]}}
     errors = re.findall(r"(\d+) => Error::(\w+)", (RUST / "src/error.rs").read_text())
-    return ([f"the statuses of C say {told}, but the refusals say {said}"] if told != said else []) + [
-        f"status {number} is {name} in Rust" for number, name in errors if code_of.get(name) != number]
+    errors += [(number, RETRIED) for number in re.findall(r"const SHORT_BUFFER: u32 = (\d+);", (RUST / "src/handle.rs").read_text())]
+    differ = [f"the statuses of C say {told}, but the refusals say {said}"] if told != said else []
+    differ += [f"status {number} is {name} in Rust" for number, name in errors if code_of.get(name) != number]
+    told_apart = set(code_of) ^ RULED_OUT ^ {name for _, name in errors}
+    return differ + [f"the refusal {name} must be an error in Rust or in RULED_OUT, and not both" for name in sorted(told_apart)]
 
 
 def compare_declarations():
@@ -208,17 +217,28 @@ def compare_printed(name, printed, wanted):
 
 def programs_in_c(folder, archive, calls):
     heap, model = C / "heap.c", C / "tests/model.c"
-    sources = {"editor": [C / "examples/editor.c", heap], "marks": [C / "examples/marks.c", heap],
+    examples = [it.stem for it in sorted((C / "examples").glob("*.c"))]
+    sources = {**{name: [C / f"examples/{name}.c", heap] for name in examples},
                "random": [C / "tests/random.c", model, heap], "refuse": [C / "tests/refuse.c"]}
     for name, files in sources.items():
         run(["gcc", *STRICT, *SANITIZED, *files, archive, "-o", folder / name])
-    for name in ["editor", "marks"]:
+    for name in examples:
         compare_printed(f"{name}.c", run([folder / name]), C / f"examples/{name}.stdout")
     print(run([folder / "refuse"]), end="")
     print(run([folder / "random", calls]), end="")
     header = folder / "header.cc"
     header.write_text('#include "typst.h"\n')
     run(["g++", "-std=c++11", "-Wall", "-Wextra", "-Werror", f"-I{C}", "-fsyntax-only", header])
+    check_comments()
+
+
+def check_comments():
+    """Whether clang can read the comments of the headers: each command in them is one that it knows."""
+    if not shutil.which("clang"):
+        print("there is no clang here, so it didn't read the comments of the headers")
+        return
+    for language in ["c", "c++"]:
+        run(["clang", "-Wdocumentation", "-Wdocumentation-pedantic", "-Werror", "-fsyntax-only", "-x", language, HEADER])
 
 
 def time_calls(folder, archive, turns):

@@ -9,7 +9,7 @@ these:
 
 - code: its lines follow one another in a test of `crates/*_tests`, in `crates/example_*` or in another program, however
   far they are indented there. A line `..` means lines that are left out. The pieces between the fences of a page come
-  only from the guide's tests or an example program.
+  only from the guide's tests or an example program. That may be one of `bindings/`, which `bench/door.py` runs.
 - imports, in a page: each name is imported in one of these sources too.
 - a script, a look or an answer: its lines follow one another in `examples/NAME.script`, `NAME.look` or `NAME.stdout`,
   which `bench/through_main.py` compares. All those of one document of a crate come from one such NAME.
@@ -23,7 +23,7 @@ from pathlib import Path
 
 TOP = Path(__file__).resolve().parent.parent
 PAGES = ("README.md", "docs/GUIDE.md", "examples/README.md")
-GUIDE = ("crates/typst_tree_tests/src/guide/*.rt", "crates/example_*/src/*.rt")
+GUIDE = ("crates/typst_tree_tests/src/guide/*.rt", "crates/example_*/src/*.rt", "bindings/*/examples/*.c", "bindings/*/examples/*.rs")
 FENCED = re.compile(r"^```\w*\n(.*?)^```$", re.M | re.S)
 INDENTED = re.compile(r"(?:(?<=\n\n)|\A)((?: {4,}.*\n|\n(?= {4}))+)")
 DOCUMENT = re.compile(r"(?:^[ \t]*//[/!].*\n)+", re.M)

@@ -19,11 +19,11 @@ enum {
     TYPST_KIND_TEXT = 6,
     /** White space. In markup it has at most one line break. */
     TYPST_KIND_SPACE = 7,
-    /** A line break within a paragraph: `one \ two`. */
+    /** A line break within a paragraph: <code>one \\ two</code>. */
     TYPST_KIND_LINEBREAK = 8,
     /** White space with an empty line, which ends a paragraph. */
     TYPST_KIND_PARBREAK = 9,
-    /** A character that stands for itself, or that is given by its number: `\*`, `\u{2603}`. */
+    /** A character that stands for itself, or that is given by its number: <code>\\*</code>, <code>\\u{2603}</code>. */
     TYPST_KIND_ESCAPE = 10,
     /** Signs in markup that stand for one character: `--`, `~`. */
     TYPST_KIND_SHORTHAND = 11,
@@ -45,9 +45,9 @@ enum {
     TYPST_KIND_LINK = 19,
     /** A name by which references find what comes before it: `<intro>`. */
     TYPST_KIND_LABEL = 20,
-    /** A reference to a label: `@intro`, `@intro[Chapter]`. */
+    /** A reference to a label: <code>\@intro</code>, <code>\@intro[Chapter]</code>. */
     TYPST_KIND_REF = 21,
-    /** The sign and the label of a reference: the `@intro` of `@intro[Chapter]`. */
+    /** The sign and the label of a reference: the <code>\@intro</code> of <code>\@intro[Chapter]</code>. */
     TYPST_KIND_REF_MARKER = 22,
     /** A heading: `= Introduction`. */
     TYPST_KIND_HEADING = 23,
@@ -211,7 +211,7 @@ enum {
     TYPST_KIND_FLOAT = 102,
     /** A number with a unit: `2cm`, `30%`. */
     TYPST_KIND_NUMERIC = 103,
-    /** A text between quotes: `"two\nlines"`. */
+    /** A text between quotes: <code>"two\\nlines"</code>. */
     TYPST_KIND_STR = 104,
     /** Code between braces: `{ let a = 1; a }`. */
     TYPST_KIND_CODE_BLOCK = 105,

@@ -1,18 +1,19 @@
-//! The first program: a tree, an edit, and a node that is found again after the edit.
-use typst_tree::{Builder, Error, FileId, Span, SyntaxKind};
+//! The first program: it opens a text, edits it, and finds a heading again by its number.
+use typst_tree::{ColumnUnit, Error, FileId, NodeClass, Source, SyntaxKind};
 
 fn main() -> Result<(), Error> {
-    let mut builder = Builder::new()?;
-    builder.leaf(SyntaxKind::Text, "Hello")?;
-    builder.leaf(SyntaxKind::Text, "world")?;
-    builder.wrap(SyntaxKind::Markup, 2)?;
-    let mut tree = builder.number(FileId::MIN, Span::FULL)?;
-    let world = tree.root().children().next_back().map(|node| node.span());
+    let mut source = Source::new(FileId::MIN, "First words.\n\n= Trees\n\nLast words.\n")?;
+    let heading = source.root().child_of(NodeClass::Of(SyntaxKind::Heading), 0);
+    let heading = heading.ok_or(Error::NotFound)?.span();
 
-    tree.replace(&[], 1..1, |nodes| nodes.leaf(SyntaxKind::Space, " ").map(drop))?;
-    println!("{}", tree.root().text()?);
-    if let Some(node) = world.map(|span| tree.find(span)).transpose()?.flatten() {
-        println!("the second word begins at byte {}", node.offset()?);
-    }
+    // Somebody writes a paragraph before the heading.
+    let done = source.edit(0..0, "A word before.\n\n")?;
+    println!("bytes {:?} were parsed anew", done.reparsed);
+
+    // The number leads to the heading, wherever it is now.
+    let bytes = source.find(heading)?.ok_or(Error::NotFound)?.range()?;
+    let at = source.byte_to_line_column(bytes.start, ColumnUnit::Character);
+    let line = at.ok_or(Error::NoPlace)?.line + 1;
+    println!("the heading is in line {line}, bytes {bytes:?}");
     Ok(())
 }

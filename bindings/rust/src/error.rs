@@ -26,8 +26,6 @@ pub enum Error {
     Range,
     /// There is no such node.
     NotFound,
-    /// The buffer is too short. No call of this crate returns this.
-    Buffer,
     /// The node takes no hints: it isn't an error, and has no warning.
     NoHints,
     /// The text has no such place: the byte is past its end or within a character, or no byte has that line and column.
@@ -35,7 +33,9 @@ pub enum Error {
 }
 
 impl Error {
-    /// The error for a status of `typst.h`, if a call of this crate can get that status.
+    /// The error for a status of `typst.h`, if a call of this crate can end with it. After `TYPST_SHORT_BUFFER` the
+    /// crate calls again with a longer buffer. The other statuses that are not here can't come: each handle is made and
+    /// holds what its type says, texts are UTF-8, and files, sets and accessors have numbers.
     pub(crate) fn of(status: u32) -> Option<Error> {
         Some(match status {
             2 => Error::Memory,
@@ -48,7 +48,6 @@ impl Error {
             14 => Error::Leaf,
             15 => Error::Range,
             16 => Error::NotFound,
-            17 => Error::Buffer,
             18 => Error::NoHints,
             20 => Error::NoPlace,
             _ => return None,
@@ -69,7 +68,6 @@ impl fmt::Display for Error {
             Error::Leaf => "the path leads to a leaf",
             Error::Range => "the range doesn't fit the children or the text",
             Error::NotFound => "there is no such node",
-            Error::Buffer => "the buffer is too short",
             Error::NoHints => "the node takes no hints",
             Error::NoPlace => "the text has no such place",
         })

@@ -15,6 +15,9 @@ use std::cell::UnsafeCell;
 use std::ops::Range;
 use std::ptr;
 
+/// The status of a call whose buffer is too short. The call has written the length that it needs.
+const SHORT_BUFFER: u32 = 17;
+
 /// A session of the library.
 pub(crate) struct Handle(UnsafeCell<raw::Session>);
 
@@ -25,6 +28,27 @@ fn outcome(status: u32) -> Result<(), Error> {
         (_, Some(error)) => Err(error),
         (_, None) => unreachable!("the library answers status {status} to a call that this crate makes"),
     }
+}
+
+/// Whether the buffers of a call were long enough.
+fn is_filled(status: u32) -> Result<bool, Error> {
+    match status {
+        SHORT_BUFFER => Ok(false),
+        _ => outcome(status).map(|()| true),
+    }
+}
+
+/// The elements that a call writes to a buffer, which is made longer if there are more than `many`.
+fn filled<T: Clone + Default>(
+    many: usize,
+    mut call: impl FnMut(&mut [T], &mut Length) -> u32,
+) -> Result<Vec<T>, Error> {
+    let (mut out, mut length) = (vec![T::default(); many], Length::default());
+    while !is_filled(call(&mut out, &mut length))? {
+        out.resize(length.len, T::default());
+    }
+    out.truncate(length.len);
+    Ok(out)
 }
 
 impl Handle {
@@ -109,72 +133,38 @@ impl Handle {
 
     /// What is read of each child. There are `many` children.
     pub(crate) fn children(&self, path: &[usize], many: usize) -> Result<Vec<NodeInfo>, Error> {
-        let mut length = Length::default();
-        let mut out = vec![NodeInfo::default(); many];
-        // SAFETY: what the head of this module says.
-        outcome(unsafe {
-            raw::typst_children(
-                self.at(),
-                path.as_ptr(),
-                path.len(),
-                out.as_mut_ptr(),
-                out.len(),
-                &mut length,
-            )
-        })?;
-        Ok(out)
+        filled(many, |out: &mut [NodeInfo], length| {
+            let (path, depth) = (path.as_ptr(), path.len());
+            // SAFETY: what the head of this module says.
+            unsafe { raw::typst_children(self.at(), path, depth, out.as_mut_ptr(), out.len(), length) }
+        })
     }
 
     /// What is read of each node of a subtree, in preorder. There are `many` nodes.
     pub(crate) fn preorder(&self, path: &[usize], many: usize) -> Result<Vec<NodeInfo>, Error> {
-        let mut length = Length::default();
-        let mut out = vec![NodeInfo::default(); many];
-        // SAFETY: what the head of this module says.
-        outcome(unsafe {
-            raw::typst_preorder(
-                self.at(),
-                path.as_ptr(),
-                path.len(),
-                out.as_mut_ptr(),
-                out.len(),
-                &mut length,
-            )
-        })?;
-        Ok(out)
+        filled(many, |out: &mut [NodeInfo], length| {
+            let (path, depth) = (path.as_ptr(), path.len());
+            // SAFETY: what the head of this module says.
+            unsafe { raw::typst_preorder(self.at(), path, depth, out.as_mut_ptr(), out.len(), length) }
+        })
     }
 
     pub(crate) fn leaf_text(&self, path: &[usize], len: usize) -> Result<String, Error> {
-        let mut length = Length::default();
-        let mut out = vec![0; len];
-        // SAFETY: what the head of this module says.
-        outcome(unsafe {
-            raw::typst_leaf_text(
-                self.at(),
-                path.as_ptr(),
-                path.len(),
-                out.as_mut_ptr(),
-                out.len(),
-                &mut length,
-            )
+        let out = filled(len, |out: &mut [u8], length| {
+            let (path, depth) = (path.as_ptr(), path.len());
+            // SAFETY: what the head of this module says.
+            unsafe { raw::typst_leaf_text(self.at(), path, depth, out.as_mut_ptr(), out.len(), length) }
         })?;
-        Ok(text(out, length))
+        Ok(text(out))
     }
 
     pub(crate) fn full_text(&self, path: &[usize], len: usize) -> Result<String, Error> {
-        let mut length = Length::default();
-        let mut out = vec![0; len];
-        // SAFETY: what the head of this module says.
-        outcome(unsafe {
-            raw::typst_full_text(
-                self.at(),
-                path.as_ptr(),
-                path.len(),
-                out.as_mut_ptr(),
-                out.len(),
-                &mut length,
-            )
+        let out = filled(len, |out: &mut [u8], length| {
+            let (path, depth) = (path.as_ptr(), path.len());
+            // SAFETY: what the head of this module says.
+            unsafe { raw::typst_full_text(self.at(), path, depth, out.as_mut_ptr(), out.len(), length) }
         })?;
-        Ok(text(out, length))
+        Ok(text(out))
     }
 
     /// The index of a child of a class.
@@ -195,41 +185,16 @@ impl Handle {
 
     /// What an accessor answers, and its text.
     pub(crate) fn view(&self, path: &[usize], accessor: u32, index: usize) -> Result<(ViewAnswer, String), Error> {
-        let mut few = [0; 64];
         let mut answer = ViewAnswer::default();
-        match self.view_into(path, accessor, index, &mut few, &mut answer) {
-            Ok(()) => Ok((answer, text(few[..answer.len].to_vec(), Length { len: answer.len }))),
-            Err(Error::Buffer) => {
-                let mut out = vec![0; answer.len];
-                self.view_into(path, accessor, index, &mut out, &mut answer)?;
-                Ok((answer, text(out, Length { len: answer.len })))
-            }
-            Err(error) => Err(error),
-        }
-    }
-
-    fn view_into(
-        &self,
-        path: &[usize],
-        accessor: u32,
-        index: usize,
-        out: &mut [u8],
-        answer: &mut ViewAnswer,
-    ) -> Result<(), Error> {
-        let (depth, room) = (path.len(), out.len());
-        // SAFETY: what the head of this module says.
-        outcome(unsafe {
-            raw::typst_view(
-                self.at(),
-                path.as_ptr(),
-                depth,
-                accessor,
-                index,
-                out.as_mut_ptr(),
-                room,
-                answer,
-            )
-        })
+        let out = filled(64, |out: &mut [u8], length| {
+            let (path, depth, to) = (path.as_ptr(), path.len(), out.as_mut_ptr());
+            // SAFETY: what the head of this module says.
+            let status =
+                unsafe { raw::typst_view(self.at(), path, depth, accessor, index, to, out.len(), &mut answer) };
+            length.len = answer.len;
+            status
+        })?;
+        Ok((answer, text(out)))
     }
 
     /// The errors, warnings and hints, and their texts one after the other.
@@ -239,7 +204,7 @@ impl Handle {
             let mut out = vec![Diagnostic::default(); sizes.count];
             let mut texts = vec![0; sizes.len];
             // SAFETY: what the head of this module says.
-            let told = outcome(unsafe {
+            let status = unsafe {
                 raw::typst_diagnostics(
                     self.at(),
                     out.as_mut_ptr(),
@@ -248,14 +213,11 @@ impl Handle {
                     texts.len(),
                     &mut sizes,
                 )
-            });
-            match told {
-                Ok(()) => {
-                    out.truncate(sizes.count);
-                    return Ok((out, text(texts, Length { len: sizes.len })));
-                }
-                Err(Error::Buffer) => {}
-                Err(error) => return Err(error),
+            };
+            if is_filled(status)? {
+                out.truncate(sizes.count);
+                texts.truncate(sizes.len);
+                return Ok((out, text(texts)));
             }
         }
     }
@@ -353,11 +315,11 @@ impl Handle {
 /// names, which a test compares with these.
 #[cfg(test)]
 pub(crate) fn kind_name(kind: u8, most: usize) -> Result<String, Error> {
-    let mut length = Length::default();
-    let mut out = vec![0; most];
-    // SAFETY: what the head of this module says.
-    outcome(unsafe { raw::typst_kind_name(kind.into(), out.as_mut_ptr(), out.len(), &mut length) })?;
-    Ok(text(out, length))
+    let out = filled(most, |out: &mut [u8], length| {
+        // SAFETY: what the head of this module says.
+        unsafe { raw::typst_kind_name(kind.into(), out.as_mut_ptr(), out.len(), length) }
+    })?;
+    Ok(text(out))
 }
 
 /// The number of the kind with a name.
@@ -384,26 +346,19 @@ pub(crate) fn kind_in_set(kind: u8, set: u32) -> Result<bool, Error> {
     Ok(held == 1)
 }
 
-/// The text of a length at the beginning of a buffer.
-fn text(mut out: Vec<u8>, length: Length) -> String {
-    out.truncate(length.len);
-    String::from_utf8(out).expect("texts of nodes are UTF-8")
+/// The text with these bytes.
+fn text(bytes: Vec<u8>) -> String {
+    String::from_utf8(bytes).expect("texts of nodes are UTF-8")
 }
 
-/// Makes a search with a buffer for its path, and once more with a longer buffer if the first one was too short.
+/// The path that a search answers.
 fn found(mut search: impl FnMut(&mut [usize], &mut Place) -> u32) -> Result<Vec<usize>, Error> {
-    let mut place = Place::default();
-    let mut path = vec![0; 16];
-    loop {
-        match outcome(search(&mut path, &mut place)) {
-            Ok(()) => {
-                path.truncate(place.depth);
-                return Ok(path);
-            }
-            Err(Error::Buffer) => path.resize(place.depth, 0),
-            Err(error) => return Err(error),
-        }
-    }
+    filled(16, |path: &mut [usize], length| {
+        let mut place = Place::default();
+        let status = search(path, &mut place);
+        length.len = place.depth;
+        status
+    })
 }
 
 impl Drop for Handle {

@@ -1,8 +1,25 @@
 //! The syntax tree layer under Typst, from Rust: safe calls of a proved library.
 //!
-//! A [`Builder`] is a stack of nodes. [`Builder::number`] makes a [`Tree`] from its last node. A [`Source`] is a text
-//! with its tree. After an edit, only the part that changes is parsed anew. A [`Node`] knows its place, and one call
+//! A [`Source`] is a text with its tree. After an edit, only the part that changes is parsed anew. A [`Builder`] is a
+//! stack of nodes, and [`Builder::number`] makes a [`Tree`] from its last node. A [`Node`] knows its place, and one call
 //! reads it. The [`Span`] of a node identifies it while other nodes are edited.
+//!
+//! A text is edited, and a heading is found again:
+//!
+//! ```
+//! use typst_tree::{Error, FileId, NodeClass, Source, SyntaxKind};
+//!
+//! # fn main() -> Result<(), Error> {
+//! let mut source = Source::new(FileId::MIN, "First words.\n\n= Trees\n")?;
+//! let heading = source.root().child_of(NodeClass::Of(SyntaxKind::Heading), 0).map(|node| node.span());
+//! source.edit(0..0, "A word before.\n\n")?;
+//! let node = source.find(heading.unwrap())?.unwrap();
+//! assert_eq!((node.text()?.as_str(), node.range()?), ("= Trees", 30..37));
+//! # Ok(())
+//! # }
+//! ```
+//!
+//! A tree is built by hand:
 //!
 //! ```
 //! use typst_tree::{Builder, Error, FileId, Span, SyntaxKind};

@@ -1,27 +1,43 @@
-//! Builds a tree, edits it, and finds a node again by its number.
+//! Opens a text, edits it, and finds a heading again by its number.
 #![tactic(auto)]
 
-use anyhow::{Context, Result};
-use typst_tree::session::Reply;
-use typst_tree::{FileId, NumberedTree, Span, SyntaxKind, SyntaxNode};
+use anyhow::{Context, Result, ensure};
+use std::ops::Range;
+use typst_lines::ColumnUnit;
+use typst_session::Document;
+use typst_tree::{FileId, SyntaxKind};
 
 fn main(rt: HostRuntime) -> Result<()> {
     let alloc = rt.alloc();
-    let texts = vec![in alloc;
-        SyntaxNode::leaf(alloc, SyntaxKind::Text, "Hello")?,
-        SyntaxNode::leaf(alloc, SyntaxKind::Text, "world")?,
-    ]?;
-    let root = SyntaxNode::inner(alloc, SyntaxKind::Markup, texts)?;
-    let mut tree = NumberedTree::number(root, FileId::FIRST, Span::FULL)?;
-    let world = tree.root().children().last().context("no child")?.span();
+    let text = "First words.\n\n= Trees\n\nLast words.\n";
+    let mut document = Document::new(alloc, FileId::FIRST, text)?;
+    // A span holds the number of its node.
+    let heading = document
+        .root()
+        .children()
+        .find(|node| node.kind() == SyntaxKind::Heading)
+        .context("no heading")?
+        .span();
 
-    // A space between the two.
-    let space = SyntaxNode::leaf(alloc, SyntaxKind::Space, " ")?;
-    tree.insert(alloc, &[], 1, vec![in alloc; space]?)?;
-    println!(rt; "{}", tree.root().full_text(alloc)?)?;
-    // The number of the second word leads back to it.
-    if let Reply::Found { offset, .. } = tree.find(alloc, world) {
-        println!(rt; "the second word begins at byte {offset}")?;
-    }
+    // Somebody writes a paragraph before the heading.
+    let range = 0..0;
+    ensure!(document.fits(&range), "the text has no such range");
+    let done = document.edit(alloc, range, "A word before.\n\n")?;
+    let Range { start, end } = done.reparsed;
+    println!(rt; "bytes {start}..{end} were parsed anew")?;
+
+    // The number leads to the heading, wherever it is now.
+    let bytes = document
+        .source()
+        .range(alloc, heading)?
+        .context("it is gone")?;
+    let at = document
+        .byte_to_line_column(bytes.start, ColumnUnit::Character)
+        .context("no place")?;
+    let Range { start, end } = bytes;
+    println!(rt;
+        "the heading is in line {}, bytes {start}..{end}",
+        at.line.saturating_add(1)
+    )?;
     Ok(())
 }

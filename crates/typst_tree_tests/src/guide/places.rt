@@ -22,6 +22,17 @@ fn a_cursor_leads_to_a_leaf_and_its_view(rt: HostRuntime) -> Result<(), Fail> {
 }
 
 #[test]
+fn bytes_lead_to_their_node(rt: HostRuntime) -> Result<(), Fail> {
+    let alloc = rt.alloc();
+    let tree = numbered(alloc, Span::FULL)?;
+    let root = LinkedNode::new(tree.root());
+    // `*this*` begins at byte 13 and ends before byte 19.
+    let strong = root.find_range(alloc, 13, 19)?.ok_or("no node")?;
+    assert_eq!(rt; strong.get().kind(), SyntaxKind::Strong);
+    Ok(())
+}
+
+#[test]
 fn a_view_leads_to_its_place(rt: HostRuntime) -> Result<(), Fail> {
     let alloc = rt.alloc();
     let tree = numbered(alloc, Span::FULL)?;
