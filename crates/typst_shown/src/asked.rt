@@ -1,23 +1,22 @@
 //! What the words of the command line ask for.
 
-use crate::language::Language;
 use crate::problem::Problem;
+use crate::program::Program;
 use clap::{Arg, ArgAction, Command};
 use std::alloc::{AllocError, Global};
 
 /// What the words of the command line ask for.
 #[derive(Debug, Drop)]
-pub(crate) struct Asked<'a> {
+pub struct Asked<'a> {
     /// The file with the text or the script; `-` for a text on standard input.
-    pub(crate) file: &'a str,
-    pub(crate) language: Language,
+    pub file: &'a str,
     /// The file with the edits; `-` for standard input.
-    pub(crate) edits: Option<&'a str>,
+    pub edits: Option<&'a str>,
     /// The file that the page is written to; `-` for standard output.
-    pub(crate) page: Option<&'a str>,
-    pub(crate) is_plain: bool,
+    pub page: Option<&'a str>,
+    pub is_plain: bool,
     /// Whether the answers of views are shown in the terminal.
-    pub(crate) has_views: bool,
+    pub has_views: bool,
 }
 
 /// What `--help` prints below the words.
@@ -29,13 +28,15 @@ The status is 0 if all is shown, 1 if a file or memory failed, and 2 if the word
 ";
 
 impl<'a> Asked<'a> {
-    /// Reads the words, the first of which is the name of the program.
-    pub(crate) fn parse(alloc: Global, words: &'a [String]) -> Result<Asked<'a>, Problem<'a>> {
+    /// Reads the words, the first of which is the name of the program. Words that another program does are refused.
+    pub fn parse(
+        alloc: Global,
+        words: &'a [String],
+        program: Program,
+    ) -> Result<Asked<'a>, Problem<'a>> {
         let matches = command(alloc)?.try_get_matches_from(words)?;
-        let file = matches.get_str("file").unwrap_or("-");
         let asked = Asked {
-            file,
-            language: Language::of(file),
+            file: matches.get_str("file").unwrap_or("-"),
             edits: matches.get_str("edits"),
             page: matches.get_str("page"),
             is_plain: matches.get_flag("plain"),
@@ -44,10 +45,16 @@ impl<'a> Asked<'a> {
         if asked.file == "-" && asked.edits == Some("-") {
             return Err(Problem::TwoInputs);
         }
-        if asked.language != Language::Markup && asked.edits.is_some() {
-            return Err(Problem::NoText { file });
+        let other = asked.program();
+        if other != program {
+            return Err(Problem::OtherProgram { program, other });
         }
         Ok(asked)
+    }
+
+    /// The program that does what is asked for. A page has what views answer.
+    fn program(&self) -> Program {
+        Program::of(self.file, self.page.is_some() || self.has_views)
     }
 }
 

@@ -8,7 +8,7 @@ use typst_base::SyntaxKind;
 use typst_rows::rows;
 
 /// Writes one node per line: a leaf with its text, an error with its text and message.
-pub(crate) fn write_plain<W: Write>(
+pub fn write_plain<W: Write>(
     alloc: Global,
     out: &mut W,
     shown: &Shown<'_>,

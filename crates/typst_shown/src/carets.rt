@@ -31,7 +31,7 @@ struct Excerpt<'a> {
 }
 
 /// Writes the errors and then the warnings of a tree, each with a blank line before it.
-pub(crate) fn write_reports<W: Write>(
+pub fn write_reports<W: Write>(
     alloc: Global,
     out: &mut W,
     shown: &Shown<'_>,
