@@ -332,8 +332,8 @@ def escaped(programs):
     return wrong
 
 
-# The trees of examples/letter.typ before its edit and after it, and of the program's own run. They were worked out by hand, by the rules
-# of docs/MARKUP.md.
+# The trees of examples/letter.typ before its edit and after it, and of the programs' own runs. They were worked out by hand, by the
+# rules of docs/MARKUP.md.
 BEFORE = """\
 Markup
   Heading
@@ -370,6 +370,24 @@ Markup
       Space " "
       Error "`raw\\n": unclosed raw text
 """
+HEADED = """\
+Markup
+  Heading
+    HeadingMarker "="
+    Space " "
+    Markup
+      Text "A"
+  Space "\\n"
+"""
+# What the views of its nodes answer, in the lines of a look (docs/LOOK.md). A space has no view.
+HEADED_ANSWERS = [
+    "- Markup.exprs [0, 1]",
+    *(f"{at}.{what}" for at in ("0 Heading", "0.2.0 Text") for what in ("hash false", "is_literal false", "bindings []")),
+    "0 Heading.body 0.2",
+    "0 Heading.depth 1",
+    "0.2 Markup.exprs [0.2.0]",
+    '0.2.0 Text.get "A"',
+]
 # The block that the edit of the letter is in, after the paragraph break.
 PARSED = range(9, 26)
 # Remarks, and what is printed of them below the tree.
@@ -400,10 +418,12 @@ def letter_of(edit):
 
 
 def examples(programs):
-    """What differs in the example, in the example with its edit written in bytes, in the program's own run, and in remarks."""
+    """What differs in the example, in the example with its edit written in bytes, in remarks, and in the programs' own runs."""
     by_column, in_bytes = letter_of('3:15..3:15 "*"'), letter_of('23..23 "*"')
     own = shown.printed(shown.numbered(shown.tree_of(OWN)), "-")
-    remarked = shown.numbered(shown.built(REMARKS.split("\n"), shown.kinds()))
+    headed = shown.numbered(shown.tree_of(HEADED))
+    answered = "\n".join(shown.drawn(headed, shown.answers_of(headed, HEADED_ANSWERS, shown.forms()))) + "\n"
+    remarked = "\n".join(shown.drawn(shown.numbered(shown.built(REMARKS.split("\n"), shown.kinds())))) + "\n" + REMARKED
     with tempfile.TemporaryDirectory() as room:
         fill(room, {"a.look": REMARKS})
         look = run(programs, ["a.look"], room).stdout.decode()
@@ -412,8 +432,8 @@ def examples(programs):
         ("examples/letter.stdout", (TOP / "examples/letter.stdout").read_text(), by_column),
         ("examples/letter.typ", run(programs, [*letter, "examples/letter.edits"], TOP).stdout.decode(), by_column),
         ("an edit in bytes", run(programs, [*letter, "-"], TOP, b'23..23 "\\u{2a}"\n').stdout.decode(), in_bytes),
-        ("crates/typst_show/stdout", (TOP / "crates/typst_show/stdout").read_text(), own),
-        ("a look with remarks", look, "\n".join(shown.drawn(remarked)) + "\n" + REMARKED),
+        ("a look with remarks", look, remarked),
+        *((f"crates/{name}/stdout", (TOP / f"crates/{name}/stdout").read_text(), it) for name, it in zip(PROGRAMS, (own, answered, remarked))),
     ]
     return [f"{name}: {first_other(got.split(NEW_LINE), wanted.split(NEW_LINE))}" for name, got, wanted in compared if got != wanted]
 
