@@ -32,7 +32,7 @@ fn main(rt: HostRuntime) -> ExitCode {
 /// Shows what the words ask for.
 fn answer<'a>(rt: &HostRuntime, words: &'a [String]) -> Result<(), Problem<'a>> {
     let alloc = rt.alloc();
-    let asked = Asked::parse(alloc, words, Program::Text)?;
+    let asked = Asked::parse(words, Program::Text)?;
     let (mut text, edits) = Text::read(rt, &asked)?;
     let mut out = BufWriter::new(alloc, io::writer(rt))?;
     let done = show(alloc, &mut out, asked.is_plain, &mut text, &edits);

@@ -46,7 +46,7 @@ fn main(rt: HostRuntime) -> ExitCode {
 /// Shows what the words ask for.
 fn answer<'a>(rt: &HostRuntime, words: &'a [String]) -> Result<(), ScriptProblem<'a>> {
     let alloc = rt.alloc();
-    let asked = Asked::parse(alloc, words, Program::Script)?;
+    let asked = Asked::parse(words, Program::Script)?;
     let file = asked.file;
     if asked.edits.is_some() {
         return Err(ScriptProblem::NoText { file });

@@ -31,7 +31,7 @@ fn main(rt: HostRuntime) -> ExitCode {
 /// Shows what the words ask for.
 fn answer<'a>(rt: &HostRuntime, words: &'a [String]) -> Result<(), Problem<'a>> {
     let alloc = rt.alloc();
-    let asked = Asked::parse(alloc, words, Program::Views)?;
+    let asked = Asked::parse(words, Program::Views)?;
     let (mut text, edits) = Text::read(rt, &asked)?;
     if let Some(page) = asked.page {
         // The page is made whole before any of it is written.

@@ -2,11 +2,9 @@
 
 use crate::problem::Problem;
 use crate::program::Program;
-use clap::{Arg, ArgAction, Command};
-use std::alloc::{AllocError, Global};
 
 /// What the words of the command line ask for.
-#[derive(Debug, Drop)]
+#[derive(Clone, Copy, Debug, PartialEq, Eq)]
 pub struct Asked<'a> {
     /// The file with the text or the script; `-` for a text on standard input.
     pub file: &'a str,
@@ -19,28 +17,18 @@ pub struct Asked<'a> {
     pub has_views: bool,
 }
 
-/// What `--help` prints below the words.
-const AFTER_HELP: &str = "\
-FILE is a text of markup. If its name ends in .script or .look, it is a script or a look, which builds a tree.
-Each line of EDITS is an edit: 7..12 \"text\" in bytes, or 2:5..2:9 \"text\" in lines and columns, which count from 1.
-In the quotes the escapes are those of Rust. docs/SHOW.md explains what is shown.
-The status is 0 if all is shown, 1 if a file or memory failed, and 2 if the words, an edit or a script are wrong.
-";
-
 impl<'a> Asked<'a> {
-    /// Reads the words, the first of which is the name of the program. Words that another program does are refused.
-    pub fn parse(
-        alloc: Global,
-        words: &'a [String],
-        program: Program,
-    ) -> Result<Asked<'a>, Problem<'a>> {
-        let matches = command(alloc)?.try_get_matches_from(words)?;
-        let asked = Asked {
-            file: matches.get_str("file").unwrap_or("-"),
-            edits: matches.get_str("edits"),
-            page: matches.get_str("page"),
-            is_plain: matches.get_flag("plain"),
-            has_views: matches.get_flag("views"),
+    /// Reads the words, the first of which is the name of the program. Words that another program does are refused, and
+    /// so are those that `typst_show_words` explains.
+    pub fn parse(words: &'a [String], program: Program) -> Result<Asked<'a>, Problem<'a>> {
+        let asked = match Asked::read(words) {
+            Some(asked) => asked,
+            None => {
+                return Err(Problem::OtherProgram {
+                    program,
+                    other: Program::Words,
+                });
+            }
         };
         if asked.file == "-" && asked.edits == Some("-") {
             return Err(Problem::TwoInputs);
@@ -52,46 +40,123 @@ impl<'a> Asked<'a> {
         Ok(asked)
     }
 
+    /// Reads the words. None if no program does them.
+    fn read(words: &'a [String]) -> Option<Asked<'a>> {
+        let mut reader = Reader::default();
+        for word in words.iter().skip(1) {
+            reader.take(word)?;
+        }
+        reader.asked()
+    }
+
     /// The program that does what is asked for. A page has what views answer.
     fn program(&self) -> Program {
-        Program::of(self.file, self.page.is_some() || self.has_views)
+        if self.file.ends_with(".script") || self.file.ends_with(".look") {
+            Program::Script
+        } else if self.has_views || self.page.is_some() {
+            Program::Views
+        } else {
+            Program::Text
+        }
     }
 }
 
-/// The words that the program takes.
-fn command<'a>(alloc: Global) -> Result<Command<'a>, AllocError> {
-    let file = Arg::new(alloc, "file")
-        .value_name("FILE")
-        .required(true)
-        .help("The text or script whose tree is shown; - reads a text from standard input");
-    let edits = Arg::new(alloc, "edits")
-        .long("edits")
-        .value_name("EDITS")
-        .help(
-            "Makes the edits in this file, and says what each did; - reads them from standard input",
-        );
-    let page = Arg::new(alloc, "page")
-        .long("page")
-        .value_name("OUT.html")
-        .help("Writes a page for a browser; - writes it to standard output");
-    let plain = flag(alloc, "plain").help(
-        "Shows only kinds and texts; with --edits only the tree after all edits",
-    );
-    let plain = plain.conflicts_with("page")?.conflicts_with("views")?;
-    let views = flag(alloc, "views").help("Shows below each node what its view answers");
-    Command::new(alloc, "show")
-        .bin_name("./show")?
-        .version("0.1.0")
-        .about("Shows the syntax tree of a text or a script")
-        .after_help(AFTER_HELP)
-        .arg(file)?
-        .arg(edits)?
-        .arg(page)?
-        .arg(views)?
-        .arg(plain)
+/// An option whose value is the word after it.
+#[derive(Clone, Copy, Debug, PartialEq, Eq)]
+enum Valued {
+    Edits,
+    Page,
 }
 
-/// A word that may be there or not.
-fn flag<'a>(alloc: Global, name: &'a str) -> Arg<'a> {
-    Arg::new(alloc, name).long(name).action(ArgAction::SetTrue)
+/// What the words that were read say. Each may say it once.
+#[derive(Clone, Copy, Default)]
+struct Reader<'a> {
+    file: Option<&'a str>,
+    edits: Option<&'a str>,
+    page: Option<&'a str>,
+    is_plain: bool,
+    has_views: bool,
+    /// The option whose value is the next word.
+    awaiting: Option<Valued>,
+    /// Whether `--` was read, so that each word is a file.
+    is_past_options: bool,
+}
+
+impl<'a> Reader<'a> {
+    /// Reads a word. None if it can't be there.
+    fn take(&mut self, word: &'a str) -> Option<()> {
+        if let Some(option) = self.awaiting.take() {
+            return if is_option(word) {
+                None
+            } else {
+                self.take_value(option, word)
+            };
+        }
+        if self.is_past_options || !is_option(word) {
+            return set_once(&mut self.file, word);
+        }
+        match word {
+            "--" => turn_on(&mut self.is_past_options),
+            "--plain" => turn_on(&mut self.is_plain),
+            "--views" => turn_on(&mut self.has_views),
+            "--edits" => self.await_value(Valued::Edits),
+            "--page" => self.await_value(Valued::Page),
+            _ => match word.split_once('=')? {
+                ("--edits", value) => self.take_value(Valued::Edits, value),
+                ("--page", value) => self.take_value(Valued::Page, value),
+                _ => None,
+            },
+        }
+    }
+
+    /// Notes that the next word is the value of an option.
+    fn await_value(&mut self, option: Valued) -> Option<()> {
+        self.awaiting = Some(option);
+        Some(())
+    }
+
+    /// Takes the value of an option.
+    fn take_value(&mut self, option: Valued, value: &'a str) -> Option<()> {
+        match option {
+            Valued::Edits => set_once(&mut self.edits, value),
+            Valued::Page => set_once(&mut self.page, value),
+        }
+    }
+
+    /// What all words ask for. None if one lacks, or if two contradict each other.
+    fn asked(&self) -> Option<Asked<'a>> {
+        let is_contradictory = self.is_plain && (self.has_views || self.page.is_some());
+        if is_contradictory || self.awaiting.is_some() {
+            return None;
+        }
+        Some(Asked {
+            file: self.file?,
+            edits: self.edits,
+            page: self.page,
+            is_plain: self.is_plain,
+            has_views: self.has_views,
+        })
+    }
+}
+
+/// Whether a word is an option, unless it comes after `--`. A single `-` is a file.
+fn is_option(word: &str) -> bool {
+    word.starts_with('-') && word != "-"
+}
+
+/// Sets what a word says. None if an earlier word said it.
+fn set_once<'a>(place: &mut Option<&'a str>, value: &'a str) -> Option<()> {
+    match place.replace(value) {
+        Some(_) => None,
+        None => Some(()),
+    }
+}
+
+/// Turns on what a word says. None if an earlier word did.
+fn turn_on(place: &mut bool) -> Option<()> {
+    if *place {
+        return None;
+    }
+    *place = true;
+    Some(())
 }

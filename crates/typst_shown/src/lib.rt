@@ -2,8 +2,9 @@
 //! the problems that they report.
 //!
 //! No code here asks for a view. So this crate doesn't build on the crates with the views, and neither does the program
-//! that shows the tree of a text. `typst_rows`, on which it builds, says in its contracts that the rows are those of all
-//! nodes in preorder, and that the report of an edit is what the edit returned.
+//! that shows the tree of a text. Nor does it build on `clap`: `typst_show_words` has that, and explains wrong words.
+//! `typst_rows`, on which it builds, says in its contracts that the rows are those of all nodes in preorder, and that the
+//! report of an edit is what the edit returned.
 #![tactic(auto)]
 
 pub use asked::Asked;

@@ -11,9 +11,6 @@ use typst_source::SourceError;
 /// Why nothing more is shown.
 #[derive(Debug, Drop, Error)]
 pub enum Problem<'a> {
-    /// The words of the command line ask for help, or are wrong. `clap` writes the message.
-    #[error("{0}")]
-    Words(clap::Error),
     #[error("standard input can't be both the text and its edits: name a file for one of them")]
     TwoInputs,
     #[error("{program} doesn't do these words, which are for {other}: run ./show, which picks the program by the words")]
@@ -77,8 +74,7 @@ impl<'a> Problem<'a> {
     /// The status: 1 for files and memory, and 2 for words and edits.
     pub fn status(&self) -> u8 {
         match self {
-            Problem::Words(_)
-            | Problem::TwoInputs
+            Problem::TwoInputs
             | Problem::OtherProgram { .. }
             | Problem::BadEdit { .. }
             | Problem::Misfit { .. } => 2,
@@ -155,15 +151,5 @@ impl<'a, T: Drop> From<AllocFailed<T>> for Problem<'a> {
     /// Memory was refused.
     fn from(_: AllocFailed<T>) -> Problem<'a> {
         Problem::Memory
-    }
-}
-
-impl<'a> From<clap::Error> for Problem<'a> {
-    /// The problem of words that the program doesn't take.
-    fn from(error: clap::Error) -> Problem<'a> {
-        match error.kind() {
-            clap::error::ErrorKind::OutOfMemory => Problem::Memory,
-            _ => Problem::Words(error),
-        }
     }
 }

@@ -9,21 +9,10 @@ pub enum Program {
     Text,
     /// Shows the trees of texts with what views answer: pages, and `--views`.
     Views,
-    /// Shows the trees that scripts and looks build, with all words.
+    /// Shows the trees that scripts and looks build.
     Script,
-}
-
-impl Program {
-    /// The program that shows a file, by the end of the file's name, with what views answer or without.
-    pub fn of(file: &str, has_answers: bool) -> Program {
-        if file.ends_with(".script") || file.ends_with(".look") {
-            Program::Script
-        } else if has_answers {
-            Program::Views
-        } else {
-            Program::Text
-        }
-    }
+    /// Explains the words: those that ask for help, and those that no other program does.
+    Words,
 }
 
 impl Display for Program {
@@ -33,6 +22,7 @@ impl Display for Program {
             Program::Text => "typst_show",
             Program::Views => "typst_show_views",
             Program::Script => "typst_show_script",
+            Program::Words => "typst_show_words",
         })
     }
 }

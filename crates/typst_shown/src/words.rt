@@ -13,16 +13,9 @@ pub fn words_of<R: Env + AllocGlobal>(rt: &R) -> Result<Vec<String>, Problem<'st
 }
 
 /// The status that the program ends with. A problem is reported on standard error.
-pub fn status_of<R: Print + Eprint>(rt: &R, done: Result<(), Problem<'_>>) -> u8 {
+pub fn status_of<R: Eprint>(rt: &R, done: Result<(), Problem<'_>>) -> u8 {
     match done {
         Ok(()) => 0,
-        Err(Problem::Words(error)) => {
-            let status = if error.use_stderr() { 2 } else { 0 };
-            match error.print(rt) {
-                Ok(()) => status,
-                Err(_) => 1,
-            }
-        }
         Err(problem) => {
             let _ = eprintln!(rt; "{problem}");
             problem.status()
