@@ -12,11 +12,13 @@ what the programs must print, apart from them, from trees that no program here m
 - `examples/letter.typ` with its edit, the programs' own runs, and a look with remarks must give what the small trees
   below say, and the files with the wanted output must be the same;
 - each wrong input of the table below must give its message and status, and print nothing;
-- each program must refuse the words that are for another one, and ./show must pick the program of the table below;
+- ./show must pick the program of the table below, the programs must name the same one for any three words of another
+  table, and `clap` must refuse the words that no program does;
 - a page must have the text and the answers as text, even where they are markup.
 
 It runs the proved builds, which `rt ci` and `rt run` make, or the programs in the given folder.
 """
+import itertools
 import re
 import subprocess
 import sys
@@ -28,7 +30,7 @@ import shown
 
 TOP = Path(__file__).resolve().parent.parent
 PAIRS = TOP / "crates/typst_agreement/data"
-PROGRAMS = ["typst_show", "typst_show_views", "typst_show_script"]
+PROGRAMS = ["typst_show", "typst_show_views", "typst_show_script", "typst_show_words"]
 NEW_LINE = "\n"
 # How many paragraphs are inserted at one place. For the fifteenth the first window is too narrow.
 TYPED = 16
@@ -100,8 +102,6 @@ WRONG = [
 ]
 # Words, and the place of their program among the programs.
 PICKED = [
-    ([], 0),
-    (["--help"], 0),
     (["a.typ"], 0),
     (["-", "--plain"], 0),
     (["--edits", "e.script", "a.typ"], 0),
@@ -109,7 +109,6 @@ PICKED = [
     (["--", "--views"], 0),
     (["a.typ", "--views"], 1),
     (["--views", "-"], 1),
-    (["--page"], 1),
     (["a.typ", "--page", "-"], 1),
     (["--page=a.look", "a.typ"], 1),
     (["--page", "a.script", "a.typ"], 1),
@@ -118,7 +117,17 @@ PICKED = [
     (["--views", "a.look"], 2),
     (["--edits", "e", "a.script"], 2),
     (["--", "a.look"], 2),
+    ([], 3),
+    (["--help"], 3),
+    (["a.typ", "--version"], 3),
+    (["a.typ", "b.typ"], 3),
+    (["a.typ", "--page"], 3),
+    (["--page", "--views", "a.typ"], 3),
+    (["a.typ", "--plain", "--views"], 3),
 ]
+# Up to three of these words are put together in all ways.
+ALPHABET = ["a.typ", "a.look", "-", "", "--plain", "--views", "--page", "--page=p", "--edits", "--edits=", "--", "-h", "--plain=x"]
+ELSEWHERE = "typst_show_words explains words, and another program does these: run ./show, which picks it\n"
 
 
 def picked(words):
@@ -131,21 +140,31 @@ def run(programs, words, room, given=b""):
     return subprocess.run([programs[picked(words)], *words], cwd=room, input=given, capture_output=True, check=False)
 
 
+def other_of(program, words, room):
+    """What a program says of words: it names the program that does them, or does them."""
+    said = subprocess.run([program, *words], cwd=room, stdin=subprocess.DEVNULL, capture_output=True, check=False).stderr.decode()
+    if said == ELSEWHERE:
+        return "another"
+    name = program.name
+    found = re.fullmatch(rf"{name} doesn't do these words, which are for (\w+): run \./show, which picks the program by the words\n", said)
+    return found[1] if found else name
+
+
 def wrongly_picked(programs):
-    """Where ./show picks another program than it should, or a program takes the words of another one."""
+    """Where ./show picks another program than it should, or than the programs and `clap` say."""
     names = [(words, picked(words), PROGRAMS[at]) for words, at in PICKED]
     wrong = [f"{words} are for {wanted}, and ./show runs {name}" for words, name, wanted in names if name != wanted]
-    for words in (["a.typ"], ["a.typ", "--views"], ["a.typ", "--page", "p.html"], ["a.look", "--views"]):
-        wanted = picked(words)
-        for name in PROGRAMS:
-            with tempfile.TemporaryDirectory() as room:
-                fill(room, {"a.typ": TEXT, "a.look": "leaf 6 a\nroot\n"})
-                ran = subprocess.run([programs[name], *words], cwd=room, capture_output=True, check=False)
-                files = sorted(it.name for it in Path(room).iterdir())
-            told = f"{name} doesn't do these words, which are for {wanted}: run ./show, which picks the program by the words\n"
-            is_refused = (ran.returncode, ran.stdout, ran.stderr.decode(), files) == (2, b"", told, ["a.look", "a.typ"])
-            if is_refused == (name == wanted):
-                wrong.append(f"{name} {words}: status {ran.returncode}, {ran.stderr!r}")
+    with tempfile.TemporaryDirectory() as room:
+        for words in (list(it) for count in range(4) for it in itertools.product(ALPHABET, repeat=count)):
+            name = picked(words)
+            told = other_of(programs["typst_show"], words, room)
+            is_explained = other_of(programs["typst_show_words"], words, room) == "typst_show_words"
+            if (told, is_explained) != (name, name == "typst_show_words"):
+                wrong.append(f"./show runs {name} for {words}, typst_show names {told}, and clap's answer is {is_explained}")
+        fill(room, {"a.typ": TEXT, "a.look": "leaf 6 a\nroot\n"})
+        for words in (["a.typ"], ["a.typ", "--page", "p"], ["a.look", "--views"], ["--help"]):
+            named = {name: other_of(programs[name], words, room) for name in PROGRAMS[:3]}
+            wrong += [f"{name} names {it} for {words}" for name, it in named.items() if it != picked(words)]
     return wrong
 
 
