@@ -6,10 +6,9 @@
 pub use answered::draw_with_answers;
 pub use windows::Change;
 
-pub mod page;
-
 mod answered;
 mod escaped;
 mod numbers;
+pub mod page;
 mod page_parts;
 mod windows;

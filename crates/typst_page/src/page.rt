@@ -242,11 +242,7 @@ fn write_place<W: Write>(
 }
 
 /// Writes a whole page to its file, or to standard output if the file is `-`.
-pub fn save<'a, R: Files + Print>(
-    rt: &R,
-    page: &'a str,
-    bytes: &[u8],
-) -> Result<(), Problem<'a>> {
+pub fn save<'a, R: Files + Print>(rt: &R, page: &'a str, bytes: &[u8]) -> Result<(), Problem<'a>> {
     if page == "-" {
         io::writer(rt).write_all(bytes)?;
         return Ok(());

@@ -1,4 +1,5 @@
 //! The windows that were tried when the nodes of an edit were numbered.
+ghost use Rattle.std.specs.Prelude.{◌≡◌, IfSome};
 
 use std::ops::Range;
 use typst_node::SyntaxNode;
@@ -45,9 +46,12 @@ impl Change {
         self.before.saturating_sub(reach)..end.saturating_add(reach.min(self.behind))
     }
 
-    /// All windows that were tried. The last of them had room. None if the last isn't the window that the edit
-    /// returned.
-    pub fn tried(&self, report: &EditReport) -> Option<Range<usize>> {
+    /// The turns of all windows that were tried. The last of them had room. None if the last isn't the window that the
+    /// edit returned.
+    pub fn tried(&self, report: &EditReport) -> Option<Range<usize>>
+        ensures first { IfSome result (λ turns. turns.start ≡ 0) }
+        ensures last { IfSome result (λ turns. turns.end ≡ report.now.tried) }
+    {
         let last = report.tried.checked_sub(1)?;
         if self.window(last) == report.window {
             Some(0..report.tried)

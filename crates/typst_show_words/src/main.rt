@@ -49,7 +49,8 @@ fn parse(alloc: Global, words: &[String]) -> Result<(), Error> {
 }
 
 /// What is said of words that another program takes.
-const DONE_ELSEWHERE: &str = "typst_show_words explains words, and another program does these: run ./show, which picks it";
+const DONE_ELSEWHERE: &str =
+    "typst_show_words explains words, and another program does these: run ./show, which picks it";
 
 /// What `--help` prints below the words.
 const AFTER_HELP: &str = "\

@@ -14,20 +14,19 @@ pub use program::Program;
 pub use shown::Shown;
 pub use text::Text;
 
+mod asked;
 pub mod carets;
 pub mod drawing;
-pub mod plain;
-pub mod quoted;
-pub mod reading;
-pub mod report;
-pub mod trail;
-pub mod words;
-
-mod asked;
 mod edit_line;
 mod edits;
 mod misfit;
+pub mod plain;
 mod problem;
 mod program;
+pub mod quoted;
+pub mod reading;
+pub mod report;
 mod shown;
 mod text;
+pub mod trail;
+pub mod words;
