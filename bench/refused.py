@@ -53,6 +53,7 @@ RUNS = [
     ["text.typ", "--edits", "e", "--page", "-"],
     ["a.script"],
     ["a.look", "--views"],
+    ["--help"],
 ]
 FILES = {
     "text.typ": "= A\n\n*b `c\n",

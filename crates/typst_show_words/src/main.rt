@@ -11,13 +11,20 @@ use std::{env, io};
 
 /// Explains the words.
 fn main(rt: HostRuntime) -> ExitCode {
-    match words(&rt) {
-        Ok(words) => ExitCode::from(explain(&rt, &words)),
-        Err(error) => {
-            let _ = eprintln!(&rt; "the command line: cannot read it: {error}");
-            ExitCode::from(1)
-        }
-    }
+    let status = match words(&rt) {
+        Ok(words) => explain(&rt, &words),
+        Err(error) => fail(&rt, &error),
+    };
+    ExitCode::from(status)
+}
+
+/// Reports that the words can't be read, and returns the status.
+fn fail(rt: &HostRuntime, error: &io::Error) -> u8 {
+    let _ = match error.kind() {
+        io::ErrorKind::OutOfMemory => eprintln!(rt; "{NO_MEMORY}"),
+        _ => eprintln!(rt; "the command line: cannot read it: {error}"),
+    };
+    1
 }
 
 /// The words of the command line.
@@ -32,7 +39,7 @@ fn explain(rt: &HostRuntime, words: &[String]) -> u8 {
         return 2;
     };
     if error.kind() == ErrorKind::OutOfMemory {
-        let _ = eprintln!(rt; "out of memory");
+        let _ = eprintln!(rt; "{NO_MEMORY}");
         return 1;
     }
     let status = if error.use_stderr() { 2 } else { 0 };
@@ -47,6 +54,9 @@ fn parse(alloc: Global, words: &[String]) -> Result<(), Error> {
     let _ = command(alloc)?.try_get_matches_from(words)?;
     Ok(())
 }
+
+/// What is said where memory is refused.
+const NO_MEMORY: &str = "out of memory";
 
 /// What is said of words that another program takes.
 const DONE_ELSEWHERE: &str =
