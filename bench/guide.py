@@ -7,9 +7,10 @@ Pages are README.md, docs/GUIDE.md and examples/README.md. The documents of a cr
 sources. An example is the text between fences, or in a page the text that is indented by four blanks. It is one of
 these:
 
-- code: its lines follow one another in a test of `crates/*_tests`, in `crates/example_*` or in another program, however
-  far they are indented there. A line `..` means lines that are left out. The pieces between the fences of a page come
-  only from the guide's tests or an example program. That may be one of `bindings/`, which `bench/door.py` runs.
+- code: its lines follow one another in a test of `crates/*_tests`, in `crates/example_*`, in another program or in what
+  the programs of ./show share, however far they are indented there. A line `..` means lines that are left out. The
+  pieces between the fences of a page come only from the guide's tests or an example program. That may be one of
+  `bindings/`, which `bench/door.py` runs.
 - imports, in a page: each name is imported in one of these sources too.
 - a script, a look or an answer: its lines follow one another in `examples/NAME.script`, `NAME.look` or `NAME.stdout`,
   which `bench/through_main.py` compares. All those of one document of a crate come from one such NAME.
@@ -24,6 +25,7 @@ from pathlib import Path
 TOP = Path(__file__).resolve().parent.parent
 PAGES = ("README.md", "docs/GUIDE.md", "examples/README.md")
 GUIDE = ("crates/typst_tree_tests/src/guide/*.rt", "crates/example_*/src/*.rt", "bindings/*/examples/*.c", "bindings/*/examples/*.rs")
+SHARED = ("crates/typst_shown/src/*.rt", "crates/typst_page/src/*.rt")
 FENCED = re.compile(r"^```\w*\n(.*?)^```$", re.M | re.S)
 INDENTED = re.compile(r"(?:(?<=\n\n)|\A)((?: {4,}.*\n|\n(?= {4}))+)")
 DOCUMENT = re.compile(r"(?:^[ \t]*//[/!].*\n)+", re.M)
@@ -125,7 +127,8 @@ def main():
     guide = [lines_of(it.read_text()) for pattern in GUIDE for it in sorted(TOP.glob(pattern))]
     tests = {it for it in TOP.glob("crates/*_tests/src/**/*.rt")}
     programs = {it for main in TOP.glob("crates/*/src/main.rt") for it in main.parent.glob("**/*.rt")}
-    sources = [code_of(it.read_text()) for it in sorted(tests | programs)]
+    shared = {it for pattern in SHARED for it in TOP.glob(pattern)}
+    sources = [code_of(it.read_text()) for it in sorted(tests | programs | shared)]
     answers = examples()
     told = {name: of_page(name, guide, answers) for name in PAGES}
     for file in sorted(TOP.glob("crates/*/src/**/*.rt")):

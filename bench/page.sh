@@ -11,7 +11,7 @@
 set -euo pipefail
 
 top=$(cd "$(dirname "${BASH_SOURCE[0]}")/.." && pwd)
-program=$top/crates/typst_show/out/typst_show
+program=$top/crates/typst_show_views/out/typst_show_views
 browser=$(command -v chromium || command -v chromium-browser || true)
 if [[ -z $browser ]]; then
   echo "no chromium is here, so no page was opened"

@@ -1,12 +1,12 @@
 #!/usr/bin/env python3
 """Refuses each request for memory of ./show in turn, and compares what it prints with what it prints otherwise.
 
-    bench/refused.py [--program FILE]
+    bench/refused.py [--programs FOLDER]
 
 A run in which one request was refused must end with status 0 and print all, where the program can do without the
 memory. Otherwise it must end with status 1, with a beginning of all on standard output and `out of memory` on standard
-error. The script runs the proved build over a malloc that refuses one request. The C compiler makes that malloc. Where
-there is no compiler, the script says so and runs nothing.
+error. The script runs the proved builds over a malloc that refuses one request, or the programs in the given folder. The C
+compiler makes that malloc. Where there is no compiler, the script says so and runs nothing.
 """
 import os
 import shutil
@@ -16,7 +16,6 @@ import tempfile
 from pathlib import Path
 
 TOP = Path(__file__).resolve().parent.parent
-PROGRAM = TOP / "crates/typst_show/out/typst_show"
 MALLOC = r"""
 #include <errno.h>
 #include <stdlib.h>
@@ -54,6 +53,7 @@ RUNS = [
     ["text.typ", "--edits", "e", "--page", "-"],
     ["a.script"],
     ["a.look", "--views"],
+    ["--help"],
 ]
 FILES = {
     "text.typ": "= A\n\n*b `c\n",
@@ -61,6 +61,12 @@ FILES = {
     "a.script": "leaf 6 a\nleaf 6 b\ninner 5 2\nroot\nnumber 1 2 99\nleaf 6 c\nreplace - 1 1 1\nfind 1 6\nrun\n",
     "a.look": "leaf 6 a\nwarnat 0 1 b\nhint c\nerror d\te\nhintat 0 1 f\ninner 5 2\nroot\nlook views\nmark x\n",
 }
+
+
+def program_of(words, folder):
+    """The program that ./show runs for these words: the proved build, or the one in the folder."""
+    name = subprocess.run([TOP / "bench/show_program", *words], capture_output=True, text=True, check=True).stdout.strip()
+    return folder / name if folder else TOP / f"crates/{name}/out/{name}"
 
 
 def run(program, words, room, **settings):
@@ -92,7 +98,7 @@ def differences(program, words, room):
 
 
 def main():
-    program = Path(sys.argv[2]).resolve() if sys.argv[1:2] == ["--program"] else PROGRAM
+    folder = Path(sys.argv[2]).resolve() if sys.argv[1:2] == ["--programs"] else None
     compiler = shutil.which("cc")
     if not compiler:
         print("no C compiler is here, so no request was refused")
@@ -103,7 +109,7 @@ def main():
         subprocess.run([compiler, "-O1", "-w", "-shared", "-fPIC", "-o", Path(room, "refusing.so"), source], check=True)
         for name, text in FILES.items():
             Path(room, name).write_text(text)
-        found = [differences(program, words, room) for words in RUNS]
+        found = [differences(program_of(words, folder), words, room) for words in RUNS]
     wrong = [line for _, lines in found for line in lines]
     print("\n".join([*wrong, f"{sum(count for count, _ in found)} requests of ./show refused in turn, {len(wrong)} differences"]))
     return 1 if wrong else 0

@@ -1,20 +1,24 @@
 #!/usr/bin/env python3
-"""Runs the program of ./show, and compares what it prints with what it must print.
+"""Runs the programs behind ./show, and compares what they print with what they must print.
 
-    bench/show.py [--program FILE]
+    bench/show.py [--programs FOLDER]
 
-`bench/shown.py` works out what the program must print, apart from it, from trees that no program here made:
+Each run is that of the program that `bench/show_program` picks by the words, as ./show does. `bench/shown.py` works out
+what the programs must print, apart from them, from trees that no program here made:
 
 - each text of crates/typst_agreement/data must give the tree next to it, with --plain and without, and turn into the
   next text by an edit;
 - each tree of crates/typst_look whose views were asked must give with --views the answers that are written there;
-- `examples/letter.typ` with its edit, the program's own run, and a look with remarks must give what the small trees
+- `examples/letter.typ` with its edit, the programs' own runs, and a look with remarks must give what the small trees
   below say, and the files with the wanted output must be the same;
 - each wrong input of the table below must give its message and status, and print nothing;
+- ./show must pick the program of the table below, the programs must name the same one for any three words of another
+  table, and `clap` must refuse the words that no program does;
 - a page must have the text and the answers as text, even where they are markup.
 
-It runs the proved build, which `rt ci` and `rt run` make, or the given program.
+It runs the proved builds, which `rt ci` and `rt run` make, or the programs in the given folder.
 """
+import itertools
 import re
 import subprocess
 import sys
@@ -26,7 +30,7 @@ import shown
 
 TOP = Path(__file__).resolve().parent.parent
 PAIRS = TOP / "crates/typst_agreement/data"
-PROGRAM = TOP / "crates/typst_show/out/typst_show"
+PROGRAMS = ["typst_show", "typst_show_views", "typst_show_script", "typst_show_words"]
 NEW_LINE = "\n"
 # How many paragraphs are inserted at one place. For the fifteenth the first window is too narrow.
 TYPED = 16
@@ -96,10 +100,72 @@ WRONG = [
     ("trees of two kinds", ["text.typ", "--plain", "--views"], {}, re.compile(r"error: the argument '--plain' cannot be used with '--views'\n"), 2),
     ("words that conflict", ["text.typ", "--plain", "--page", "x"], {}, re.compile(r"error: the argument '--plain' cannot be used with '--page <OUT.html>'\n"), 2),
 ]
+# Words, and the place of their program among the programs.
+PICKED = [
+    (["a.typ"], 0),
+    (["-", "--plain"], 0),
+    (["--edits", "e.script", "a.typ"], 0),
+    (["a.typ", "--edits=--views"], 0),
+    (["--", "--views"], 0),
+    (["a.typ", "--views"], 1),
+    (["--views", "-"], 1),
+    (["a.typ", "--page", "-"], 1),
+    (["--page=a.look", "a.typ"], 1),
+    (["--page", "a.script", "a.typ"], 1),
+    (["a.script"], 2),
+    (["--plain", "a.look"], 2),
+    (["--views", "a.look"], 2),
+    (["--edits", "e", "a.script"], 2),
+    (["--", "a.look"], 2),
+    ([], 3),
+    (["--help"], 3),
+    (["a.typ", "--version"], 3),
+    (["a.typ", "b.typ"], 3),
+    (["a.typ", "--page"], 3),
+    (["--page", "--views", "a.typ"], 3),
+    (["a.typ", "--plain", "--views"], 3),
+]
+# Up to three of these words are put together in all ways.
+ALPHABET = ["a.typ", "a.look", "-", "", "--plain", "--views", "--page", "--page=p", "--edits", "--edits=", "--", "-h", "--plain=x"]
+ELSEWHERE = "typst_show_words explains words, and another program does these: run ./show, which picks it\n"
 
 
-def run(program, words, room, given=b""):
-    return subprocess.run([program, *words], cwd=room, input=given, capture_output=True, check=False)
+def picked(words):
+    """The program that ./show runs for these words."""
+    ran = subprocess.run([TOP / "bench/show_program", *words], capture_output=True, text=True, check=True)
+    return ran.stdout.strip()
+
+
+def run(programs, words, room, given=b""):
+    return subprocess.run([programs[picked(words)], *words], cwd=room, input=given, capture_output=True, check=False)
+
+
+def other_of(program, words, room):
+    """What a program says of words: it names the program that does them, or does them."""
+    said = subprocess.run([program, *words], cwd=room, stdin=subprocess.DEVNULL, capture_output=True, check=False).stderr.decode()
+    if said == ELSEWHERE:
+        return "another"
+    name = program.name
+    found = re.fullmatch(rf"{name} doesn't do these words, which are for (\w+): run \./show, which picks the program by the words\n", said)
+    return found[1] if found else name
+
+
+def wrongly_picked(programs):
+    """Where ./show picks another program than it should, or than the programs and `clap` say."""
+    names = [(words, picked(words), PROGRAMS[at]) for words, at in PICKED]
+    wrong = [f"{words} are for {wanted}, and ./show runs {name}" for words, name, wanted in names if name != wanted]
+    with tempfile.TemporaryDirectory() as room:
+        for words in (list(it) for count in range(4) for it in itertools.product(ALPHABET, repeat=count)):
+            name = picked(words)
+            told = other_of(programs["typst_show"], words, room)
+            is_explained = other_of(programs["typst_show_words"], words, room) == "typst_show_words"
+            if (told, is_explained) != (name, name == "typst_show_words"):
+                wrong.append(f"./show runs {name} for {words}, typst_show names {told}, and clap's answer is {is_explained}")
+        fill(room, {"a.typ": TEXT, "a.look": "leaf 6 a\nroot\n"})
+        for words in (["a.typ"], ["a.typ", "--page", "p"], ["a.look", "--views"], ["--help"]):
+            named = {name: other_of(programs[name], words, room) for name in PROGRAMS[:3]}
+            wrong += [f"{name} names {it} for {words}" for name, it in named.items() if it != picked(words)]
+    return wrong
 
 
 def fill(room, files):
@@ -113,14 +179,14 @@ def fill(room, files):
             path.write_bytes(what if isinstance(what, bytes) else what.encode())
 
 
-def told_wrong(program, what, words, files, message, status):
+def told_wrong(programs, what, words, files, message, status):
     """What differs for a wrong input. If the words are one text, that text is the edits of text.typ."""
     if isinstance(words, str):
         words, files = ["text.typ", "--edits", "e"], {"e": words}
     with tempfile.TemporaryDirectory() as room:
         Path(room, "folder").mkdir()
         fill(room, {"text.typ": TEXT} | files)
-        ran = run(program, words, room)
+        ran = run(programs, words, room)
     said = ran.stderr.decode()
     is_said = said == message + "\n" if isinstance(message, str) else message.match(said)
     wrong = [] if is_said else [f"{what}: standard error is {said!r}, and should be {message!r}"]
@@ -137,7 +203,7 @@ def tree_beside(text):
     return shown.numbered(shown.tree_of(text.with_suffix(".tree").read_bytes().decode()))
 
 
-def differing_pairs(program):
+def differing_pairs(programs):
     """What differs between trees of texts, with --plain and without."""
     wrong = []
     for text in sorted(PAIRS.glob("*.typ")):
@@ -150,13 +216,13 @@ def differing_pairs(program):
             ([text.name], b"", drawing),
             (["-"], text.read_bytes(), piped),
         ):
-            ran = run(program, words, PAIRS, given)
+            ran = run(programs, words, PAIRS, given)
             if (ran.stdout, ran.stderr, ran.returncode) != (wanted, b"", 0):
                 wrong.append(f"{text.name}: {' '.join(words)} gives another tree, or ends with {ran.returncode}: {ran.stderr!r}")
     return wrong
 
 
-def differing_edits(program):
+def differing_edits(programs):
     """What differs if an edit turns each text into the next one."""
     wrong = []
     texts = sorted(PAIRS.glob("*.typ"))
@@ -165,13 +231,13 @@ def differing_edits(program):
         edit = f"0..{old.end} {shown.beginning(new.characters())}"
         wanted = shown.printed(old, text.name)
         wanted += shown.printed_edit(edit, old, new, range(new.end), text.name)
-        ran = run(program, [text.name, "--edits", "-"], PAIRS, edit.encode())
+        ran = run(programs, [text.name, "--edits", "-"], PAIRS, edit.encode())
         if (ran.stdout.decode(), ran.stderr, ran.returncode) != (wanted, b"", 0):
             wrong.append(f"{text.name}: the edit to {other.name} gives another output, or ends with {ran.returncode}: {ran.stderr!r}")
     return wrong
 
 
-def differing_views(program):
+def differing_views(programs):
     """What differs between the trees of looks with the answers of their views, and how many trees there are."""
     wrong, count = [], 0
     form_of, kind_of = shown.forms(), shown.kinds()
@@ -180,10 +246,10 @@ def differing_views(program):
             root = shown.built(lines, kind_of)
             wanted = shown.drawn(root, shown.answers_of(root, answers, form_of))
             Path(room, "a.look").write_bytes("\n".join(lines).encode(errors="surrogateescape"))
-            ran = run(program, ["a.look", "--views"], room)
+            ran = run(programs, ["a.look", "--views"], room)
             got = ran.stdout.decode().partition("\n\n")[0].rstrip("\n").split("\n")
             count += 1
-            page = show_page.Page(run(program, ["a.look", "--page", "-"], room).stdout.decode())
+            page = show_page.Page(run(programs, ["a.look", "--page", "-"], room).stdout.decode())
             told = page.wrong + show_page.differing_step(page.steps[0], 0, root, shown.answers_of(root, answers, form_of))
             wrong += [f"look {name}: its page has {it}" for it in told]
             if got != wanted or ran.stderr or ran.returncode:
@@ -197,14 +263,14 @@ def first_other(got, wanted):
     return f"{pairs[0][0]!r}, and should give {pairs[0][1]!r}" if pairs else f"{len(got)} lines, and should give {len(wanted)}"
 
 
-def differing_pages(program):
+def differing_pages(programs):
     """What differs in the pages of texts, each with the edit that makes the next one of it."""
     wrong = []
     texts = sorted(PAIRS.glob("*.typ"))
     for text, other in zip(texts, texts[1:] + texts[:1]):
         old, new = tree_beside(text), tree_beside(other)
         edit = f"0..{old.end} {shown.beginning(new.characters())}"
-        ran = run(program, [text.name, "--edits", "-", "--page", "-"], PAIRS, edit.encode())
+        ran = run(programs, [text.name, "--edits", "-", "--page", "-"], PAIRS, edit.encode())
         page = show_page.Page(ran.stdout.decode())
         told = [*page.wrong, *([] if not ran.returncode else [f"status {ran.returncode}, {ran.stderr!r}"])]
         windows = shown.edited(old, new, range(len(old.children)), range(len(new.children)))
@@ -232,15 +298,15 @@ def typed():
     return steps
 
 
-def differing_typing(program):
+def differing_typing(programs):
     """What differs if a window has no room, so that several are tried."""
     steps = typed()
     edit = '3..3 "a\\n\\n"'
     titles = [shown.told_of(edit, new, range(6), windows, at + 1) for at, (new, windows) in enumerate(steps)]
     with tempfile.TemporaryDirectory() as room:
         fill(room, {"a.typ": "a\n\na\n\n", "e": f"{edit}\n" * TYPED})
-        printed = run(program, ["a.typ", "--edits", "e"], room).stdout.decode()
-        page = show_page.Page(run(program, ["a.typ", "--edits", "e", "--page", "-"], room).stdout.decode())
+        printed = run(programs, ["a.typ", "--edits", "e"], room).stdout.decode()
+        page = show_page.Page(run(programs, ["a.typ", "--edits", "e", "--page", "-"], room).stdout.decode())
     told = [] if max(len(windows) for _, windows in steps) > 1 else ["each first window has room"]
     wanted = "".join(f"\n{title}\n\n{shown.printed(new, 'a.typ')}" for title, (new, _) in zip(titles, steps))
     if not printed.endswith(wanted) or len(page.steps) != TYPED + 1:
@@ -251,7 +317,7 @@ def differing_typing(program):
     return [f"typing has {it}" for it in told]
 
 
-def differing_paste(program):
+def differing_paste(programs):
     """What differs in the page of an edit that numbers more children than are drawn."""
     paragraph, count = '  Text "a"\n  Parbreak "\\n\\n"\n', 40
     old, new = shown.numbered(shown.tree_of("Markup\n" + paragraph)), shown.tree_of("Markup\n" + count * paragraph)
@@ -259,19 +325,19 @@ def differing_paste(program):
     windows = shown.edited(old, new, range(2), range(2 * count))
     with tempfile.TemporaryDirectory() as room:
         fill(room, {"a.typ": "a\n\n", "e": '0..3 "' + count * "a\\n\\n" + '"\n'})
-        page = show_page.Page(run(program, ["a.typ", "--edits", "e", "--page", "-"], room).stdout.decode())
+        page = show_page.Page(run(programs, ["a.typ", "--edits", "e", "--page", "-"], room).stdout.decode())
     told = [*page.wrong, *show_page.differing_step(page.steps[1], 1, new), *show_page.differing_drawing(page.steps[1], new, windows[-1], windows)]
     if page.steps[1]["left_out"] != f"{2 * count - show_page.MOST} more children after these aren't drawn.":
         told.append(f"{page.steps[1]['left_out']!r} after its drawing")
     return [f"the paste has {it}" for it in told]
 
 
-def escaped(program):
+def escaped(programs):
     """Whether markup in a text, in its name and in an edit is text in a page."""
     markup = "<script>alert(1)</script> & \"'\0\n"
     with tempfile.TemporaryDirectory() as room:
         fill(room, {"<b>.typ": markup, "e": '0..0 "<i>"\n'})
-        ran = run(program, ["<b>.typ", "--edits", "e", "--page", "-"], room)
+        ran = run(programs, ["<b>.typ", "--edits", "e", "--page", "-"], room)
     written = ran.stdout.decode()
     page = show_page.Page(written)
     texts = [step["text"] for step in page.steps]
@@ -285,8 +351,8 @@ def escaped(program):
     return wrong
 
 
-# The trees of examples/letter.typ before its edit and after it, and of the program's own run. They were worked out by hand, by the rules
-# of docs/MARKUP.md.
+# The trees of examples/letter.typ before its edit and after it, and of the programs' own runs. They were worked out by hand, by the
+# rules of docs/MARKUP.md.
 BEFORE = """\
 Markup
   Heading
@@ -323,6 +389,24 @@ Markup
       Space " "
       Error "`raw\\n": unclosed raw text
 """
+HEADED = """\
+Markup
+  Heading
+    HeadingMarker "="
+    Space " "
+    Markup
+      Text "A"
+  Space "\\n"
+"""
+# What the views of its nodes answer, in the lines of a look (docs/LOOK.md). A space has no view.
+HEADED_ANSWERS = [
+    "- Markup.exprs [0, 1]",
+    *(f"{at}.{what}" for at in ("0 Heading", "0.2.0 Text") for what in ("hash false", "is_literal false", "bindings []")),
+    "0 Heading.body 0.2",
+    "0 Heading.depth 1",
+    "0.2 Markup.exprs [0.2.0]",
+    '0.2.0 Text.get "A"',
+]
 # The block that the edit of the letter is in, after the paragraph break.
 PARSED = range(9, 26)
 # Remarks, and what is printed of them below the tree.
@@ -352,34 +436,38 @@ def letter_of(edit):
     return first + shown.printed_edit(edit, old, new, PARSED, "examples/letter.typ")
 
 
-def examples(program):
-    """What differs in the example, in the example with its edit written in bytes, in the program's own run, and in remarks."""
+def examples(programs):
+    """What differs in the example, in the example with its edit written in bytes, in remarks, and in the programs' own runs."""
     by_column, in_bytes = letter_of('3:15..3:15 "*"'), letter_of('23..23 "*"')
     own = shown.printed(shown.numbered(shown.tree_of(OWN)), "-")
-    remarked = shown.numbered(shown.built(REMARKS.split("\n"), shown.kinds()))
+    headed = shown.numbered(shown.tree_of(HEADED))
+    answered = "\n".join(shown.drawn(headed, shown.answers_of(headed, HEADED_ANSWERS, shown.forms()))) + "\n"
+    remarked = "\n".join(shown.drawn(shown.numbered(shown.built(REMARKS.split("\n"), shown.kinds())))) + "\n" + REMARKED
     with tempfile.TemporaryDirectory() as room:
         fill(room, {"a.look": REMARKS})
-        look = run(program, ["a.look"], room).stdout.decode()
+        look = run(programs, ["a.look"], room).stdout.decode()
     letter = ["examples/letter.typ", "--edits"]
     compared = [
         ("examples/letter.stdout", (TOP / "examples/letter.stdout").read_text(), by_column),
-        ("examples/letter.typ", run(program, [*letter, "examples/letter.edits"], TOP).stdout.decode(), by_column),
-        ("an edit in bytes", run(program, [*letter, "-"], TOP, b'23..23 "\\u{2a}"\n').stdout.decode(), in_bytes),
-        ("crates/typst_show/stdout", (TOP / "crates/typst_show/stdout").read_text(), own),
-        ("a look with remarks", look, "\n".join(shown.drawn(remarked)) + "\n" + REMARKED),
+        ("examples/letter.typ", run(programs, [*letter, "examples/letter.edits"], TOP).stdout.decode(), by_column),
+        ("an edit in bytes", run(programs, [*letter, "-"], TOP, b'23..23 "\\u{2a}"\n').stdout.decode(), in_bytes),
+        ("a look with remarks", look, remarked),
+        *((f"crates/{name}/stdout", (TOP / f"crates/{name}/stdout").read_text(), it) for name, it in zip(PROGRAMS, (own, answered, remarked))),
     ]
     return [f"{name}: {first_other(got.split(NEW_LINE), wanted.split(NEW_LINE))}" for name, got, wanted in compared if got != wanted]
 
 
 def main():
-    program = Path(sys.argv[2]).resolve() if sys.argv[1:2] == ["--program"] else PROGRAM
-    if not program.exists():
-        print(f"{program} isn't there: rt run in crates/typst_show makes it")
+    folder = Path(sys.argv[2]).resolve() if sys.argv[1:2] == ["--programs"] else None
+    programs = {name: folder / name if folder else TOP / f"crates/{name}/out/{name}" for name in PROGRAMS}
+    lacking = [name for name, file in programs.items() if not file.exists()]
+    if lacking:
+        print("\n".join(f"{programs[name]} isn't there: rt run in crates/{name} makes it" for name in lacking))
         return 1
-    wrong = [line for row in WRONG for line in told_wrong(program, *row)]
-    different, views = differing_views(program)
-    wrong += differing_pairs(program) + differing_edits(program) + different
-    wrong += differing_pages(program) + differing_typing(program) + differing_paste(program) + escaped(program) + examples(program)
+    wrong = [line for row in WRONG for line in told_wrong(programs, *row)]
+    different, views = differing_views(programs)
+    wrong += wrongly_picked(programs) + differing_pairs(programs) + differing_edits(programs) + different
+    wrong += differing_pages(programs) + differing_typing(programs) + differing_paste(programs) + escaped(programs) + examples(programs)
     pairs = len(list(PAIRS.glob("*.typ")))
     counts = f"{pairs} texts with their trees and edits, {views} trees with their answers, {len(WRONG)} wrong inputs"
     print("\n".join([*wrong, f"{counts}, {len(wrong)} differences"]))

@@ -1,75 +1,79 @@
-//! Shows the syntax tree of a text, or the tree that a script builds, to a person: as a drawing in the terminal with
-//! errors and warnings below it, or as a page for a browser. It can also show the tree after each of a list of edits.
+//! Shows the syntax tree of a text to a person, as a drawing in the terminal with errors and warnings below it, and the
+//! tree again after each of a list of edits.
 //!
-//! It uses `typst_rows`, whose contracts say that the rows are those of all nodes in preorder, and that the report of
-//! an edit is what the edit returned. This crate has the words of the command line, what the program reads, and what it
-//! writes.
+//! `typst_shown` has the words of the command line, and what is read and drawn. What views answer is shown by
+//! `typst_show_views`, and the trees of scripts by `typst_show_script`.
 #![tactic(auto)]
 
-mod answered;
-mod asked;
-mod bad_line;
-mod built;
-mod carets;
-mod drawing;
-mod edit_line;
-mod edits;
-mod escaped;
-mod language;
-mod levels;
-mod misfit;
-mod numbers;
-mod page;
-mod page_parts;
-mod plain;
-mod problem;
-mod quoted;
-mod reading;
-mod shown;
-mod trail;
-mod windows;
-
-use crate::asked::Asked;
-use crate::problem::Problem;
+use std::alloc::Global;
+use std::io;
+use std::io::{BufWriter, Write};
 use std::process::ExitCode;
-use std::{env, io};
+use typst_rows::EditReport;
+use typst_shown::carets::write_reports;
+use typst_shown::drawing::draw;
+use typst_shown::plain::write_plain;
+use typst_shown::report::told_of;
+use typst_shown::words::{status_of, words_of};
+use typst_shown::{Asked, NumberedEdit, Problem, Program, Shown, Text};
 
 /// Does what the words ask for.
 fn main(rt: HostRuntime) -> ExitCode {
-    match words(&rt) {
+    let status = match words_of(&rt) {
         Ok(words) => {
             let done = answer(&rt, &words);
-            ExitCode::from(status_of(&rt, done))
+            status_of(&rt, done)
         }
-        Err(error) => ExitCode::from(status_of(&rt, Err(Problem::of_words(error)))),
-    }
-}
-
-/// The words of the command line.
-fn words(rt: &HostRuntime) -> io::Result<Vec<String>> {
-    Ok(env::args(rt)?.collect(rt.alloc())?)
-}
-
-/// The status that the program ends with. A problem is reported on standard error.
-fn status_of(rt: &HostRuntime, done: Result<(), Problem<'_>>) -> u8 {
-    match done {
-        Ok(()) => 0,
-        Err(Problem::Words(error)) => {
-            let status = if error.use_stderr() { 2 } else { 0 };
-            match error.print(rt) {
-                Ok(()) => status,
-                Err(_) => 1,
-            }
-        }
-        Err(problem) => {
-            let _ = eprintln!(rt; "{problem}");
-            problem.status()
-        }
-    }
+        Err(problem) => status_of(&rt, Err(problem)),
+    };
+    ExitCode::from(status)
 }
 
 /// Shows what the words ask for.
 fn answer<'a>(rt: &HostRuntime, words: &'a [String]) -> Result<(), Problem<'a>> {
-    let asked = Asked::parse(rt.alloc(), words)?;
-    shown::show(rt, &asked)
+    let alloc = rt.alloc();
+    let asked = Asked::parse(words, Program::Text)?;
+    let (mut text, edits) = Text::read(rt, &asked)?;
+    let mut out = BufWriter::new(alloc, io::writer(rt))?;
+    let done = show(alloc, &mut out, asked.is_plain, &mut text, &edits);
+    let flushed = out.flush();
+    done?;
+    flushed?;
+    Ok(())
+}
+
+/// Shows a text, and the text again after each edit, or plainly only after all edits.
+fn show<'a, W: Write>(
+    alloc: Global,
+    out: &mut W,
+    is_plain: bool,
+    text: &mut Text<'a>,
+    edits: &[NumberedEdit],
+) -> Result<(), Problem<'a>> {
+    if is_plain {
+        for edit in edits {
+            let _ = text.edit(alloc, edit)?;
+        }
+        write_plain(alloc, out, &text.shown())?;
+        return Ok(());
+    }
+    write_tree(alloc, out, &text.shown(), None)?;
+    for edit in edits {
+        let report = text.edit(alloc, edit)?;
+        let told = told_of(alloc, edit, &report)?;
+        writeln!(out, "\n{told}\n")?;
+        write_tree(alloc, out, &text.shown(), Some(&report))?;
+    }
+    Ok(())
+}
+
+/// Draws a tree, and writes its errors and warnings below it.
+fn write_tree<W: Write>(
+    alloc: Global,
+    out: &mut W,
+    shown: &Shown<'_>,
+    report: Option<&EditReport>,
+) -> io::Result<()> {
+    draw(alloc, out, shown, report)?;
+    write_reports(alloc, out, shown)
 }

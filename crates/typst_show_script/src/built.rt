@@ -3,13 +3,14 @@
 use crate::bad_line::{BadLine, State};
 use crate::language::Language;
 use crate::levels::{Levels, MOST_LEVELS};
-use crate::problem::Problem;
+use crate::problem::ScriptProblem;
 use std::alloc::Global;
 use std::io;
 use typst_looker::looker::numbered;
 use typst_looker::{Look, Looker};
 use typst_script::Fault;
 use typst_script::script::Obey;
+use typst_shown::Problem;
 use typst_tree::NumberedTree;
 
 /// Builds a tree, line by line.
@@ -91,7 +92,7 @@ pub(crate) fn build<'a>(
     file: &'a str,
     language: Language,
     text: &str,
-) -> Result<NumberedTree, Problem<'a>> {
+) -> Result<NumberedTree, ScriptProblem<'a>> {
     let mut builder = Builder::new(alloc);
     let mut number = 0u64;
     for line in text.split('\n') {
@@ -101,7 +102,7 @@ pub(crate) fn build<'a>(
             return Err(problem_of(file, number, fault, BadLine::of(language, line, state)));
         }
         if !builder.levels.fit() {
-            return Err(Problem::TooDeep {
+            return Err(ScriptProblem::TooDeep {
                 file,
                 line: number,
                 most: MOST_LEVELS,
@@ -109,19 +110,19 @@ pub(crate) fn build<'a>(
         }
     }
     let Some(tree) = builder.looker.script.tree.take() else {
-        return Err(Problem::NoTree { file });
+        return Err(ScriptProblem::NoTree { file });
     };
     match numbered(tree) {
         Ok(tree) => Ok(tree),
-        Err(_) => Err(Problem::TooManyNodes { file }),
+        Err(_) => Err(ScriptProblem::TooManyNodes { file }),
     }
 }
 
 /// The problem that reports the fault of a line. Nothing is read or written while a tree is built.
-fn problem_of<'a>(file: &'a str, line: u64, fault: Fault, bad: BadLine) -> Problem<'a> {
+fn problem_of<'a>(file: &'a str, line: u64, fault: Fault, bad: BadLine) -> ScriptProblem<'a> {
     match fault {
-        Fault::BadCommand { .. } => Problem::BadLine { file, line, bad },
-        Fault::Memory | Fault::Read | Fault::Write => Problem::Memory,
-        Fault::Overflow => Problem::TooManyNodes { file },
+        Fault::BadCommand { .. } => ScriptProblem::BadLine { file, line, bad },
+        Fault::Memory | Fault::Read | Fault::Write => ScriptProblem::Shared(Problem::Memory),
+        Fault::Overflow => ScriptProblem::TooManyNodes { file },
     }
 }

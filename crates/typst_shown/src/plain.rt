@@ -8,11 +8,7 @@ use typst_base::SyntaxKind;
 use typst_rows::rows;
 
 /// Writes one node per line: a leaf with its text, an error with its text and message.
-pub(crate) fn write_plain<W: Write>(
-    alloc: Global,
-    out: &mut W,
-    shown: &Shown<'_>,
-) -> io::Result<()> {
+pub fn write_plain<W: Write>(alloc: Global, out: &mut W, shown: &Shown<'_>) -> io::Result<()> {
     let (errors, _) = shown.root.errors_and_warnings(alloc)?;
     // Each error node reports one error, and the errors come in preorder.
     let mut errors = errors.iter();

@@ -1,21 +1,18 @@
 //! A tree, drawn with branches, one node per line.
 
-use crate::answered::answers_of;
 use crate::quoted::push_beginning;
 use crate::shown::Shown;
 use crate::trail::Trail;
 use std::alloc::Global;
 use std::io;
 use std::io::Write;
-use typst_linked::LinkedNode;
-use typst_node::SyntaxNode;
 use typst_rows::{EditReport, Row, rows};
 
 /// How many characters of an inner node's text are shown.
 const SHOWN_CHARS: usize = 32;
 
 /// Draws a tree, and marks the nodes that an edit numbered anew.
-pub(crate) fn draw<W: Write>(
+pub fn draw<W: Write>(
     alloc: Global,
     out: &mut W,
     shown: &Shown<'_>,
@@ -30,44 +27,8 @@ pub(crate) fn draw<W: Write>(
     Ok(())
 }
 
-/// Draws a tree in the same way, and writes what the view of each node answers below the node's line.
-pub(crate) fn draw_with_answers<W: Write>(
-    alloc: Global,
-    out: &mut W,
-    shown: &Shown<'_>,
-    report: Option<&EditReport>,
-) -> io::Result<()> {
-    let mut trail = Trail::new(alloc);
-    for node in LinkedNode::new(shown.root).preorder(alloc)? {
-        let node = node?;
-        let row = Row::of(alloc, &node)?;
-        trail.go_to(&row)?;
-        trail.draw(out)?;
-        draw_row(alloc, out, shown.text, &row, report)?;
-        draw_answers(alloc, out, shown.root, node.get(), &trail)?;
-    }
-    Ok(())
-}
-
-/// Writes the answers for a node, between its line and those of its children.
-fn draw_answers<W: Write>(
-    alloc: Global,
-    out: &mut W,
-    root: &SyntaxNode,
-    node: &SyntaxNode,
-    trail: &Trail,
-) -> io::Result<()> {
-    let answers = answers_of(alloc, root, node)?;
-    let has_children = !node.child_slice().is_empty();
-    for answer in answers.lines() {
-        trail.draw_below(out, has_children)?;
-        writeln!(out, "{answer}")?;
-    }
-    Ok(())
-}
-
 /// Writes what a row tells, after its branches.
-fn draw_row<W: Write>(
+pub fn draw_row<W: Write>(
     alloc: Global,
     out: &mut W,
     text: &str,

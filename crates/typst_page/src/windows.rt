@@ -1,4 +1,5 @@
 //! The windows that were tried when the nodes of an edit were numbered.
+ghost use Rattle.std.specs.Prelude.{◌≡◌, IfSome};
 
 use std::ops::Range;
 use typst_node::SyntaxNode;
@@ -7,7 +8,7 @@ use typst_rows::EditReport;
 /// Where the list of the root's children changed: how many are before the change, how many are new, and how many are
 /// after it.
 #[derive(Clone, Copy, Debug, PartialEq, Eq)]
-pub(crate) struct Change {
+pub struct Change {
     before: usize,
     changed: usize,
     behind: usize,
@@ -16,7 +17,7 @@ pub(crate) struct Change {
 impl Change {
     /// The change that an edit made between two trees: the children whose text was parsed anew, except those at the
     /// beginning and at the end that are what they were.
-    pub(crate) fn between(old: &SyntaxNode, new: &SyntaxNode, reparsed: &Range<usize>) -> Change {
+    pub fn between(old: &SyntaxNode, new: &SyntaxNode, reparsed: &Range<usize>) -> Change {
         let old_children = old.child_slice();
         let new_children = new.child_slice();
         let before = ending_by(new_children, reparsed.start);
@@ -36,7 +37,7 @@ impl Change {
     }
 
     /// The window that is tried at a turn, from 0. It includes 0, 1, 2, 4, .. neighbours on each side.
-    pub(crate) fn window(&self, turn: usize) -> Range<usize> {
+    pub fn window(&self, turn: usize) -> Range<usize> {
         let reach = match turn.checked_sub(1) {
             None => 0,
             Some(doublings) => reach_after(doublings),
@@ -45,9 +46,12 @@ impl Change {
         self.before.saturating_sub(reach)..end.saturating_add(reach.min(self.behind))
     }
 
-    /// All windows that were tried. The last of them had room. None if the last isn't the window that the edit
-    /// returned.
-    pub(crate) fn tried(&self, report: &EditReport) -> Option<Range<usize>> {
+    /// The turns of all windows that were tried. The last of them had room. None if the last isn't the window that the
+    /// edit returned.
+    pub fn tried(&self, report: &EditReport) -> Option<Range<usize>>
+        ensures first { IfSome result (λ turns. turns.start ≡ 0) }
+        ensures last { IfSome result (λ turns. turns.end ≡ report.now.tried) }
+    {
         let last = report.tried.checked_sub(1)?;
         if self.window(last) == report.window {
             Some(0..report.tried)

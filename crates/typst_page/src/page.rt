@@ -6,24 +6,25 @@ use crate::answered::answers_of;
 use crate::escaped::write_escaped;
 use crate::numbers::write_numbers;
 use crate::page_parts::{HEAD, LEGEND, STYLE, TAIL};
-use crate::quoted::push_beginning;
-use crate::shown::Shown;
-use crate::trail::Trail;
 use crate::windows::Change;
 use std::alloc::Global;
-use std::io;
 use std::io::Write;
+use std::rt::Files;
+use std::{fs, io};
 use typst_base::SyntaxKind;
 use typst_lines::{ColumnUnit, Lines};
 use typst_linked::{LinkedNode, place_of};
 use typst_node::{SyntaxDiagnostic, SyntaxNode};
 use typst_rows::{EditReport, Row, rows};
+use typst_shown::quoted::push_beginning;
+use typst_shown::trail::Trail;
+use typst_shown::{Problem, Shown};
 
 /// How many characters of a node's text are shown next to it.
 const SHOWN_CHARS: usize = 48;
 
 /// Writes the beginning of a page about a file.
-pub(crate) fn write_head<W: Write>(out: &mut W, file: &str) -> io::Result<()> {
+pub fn write_head<W: Write>(out: &mut W, file: &str) -> io::Result<()> {
     out.write_all(HEAD.as_bytes())?;
     write_escaped(out, file)?;
     out.write_all(STYLE.as_bytes())?;
@@ -34,12 +35,12 @@ pub(crate) fn write_head<W: Write>(out: &mut W, file: &str) -> io::Result<()> {
 }
 
 /// Writes the end of a page.
-pub(crate) fn write_tail<W: Write>(out: &mut W) -> io::Result<()> {
+pub fn write_tail<W: Write>(out: &mut W) -> io::Result<()> {
     out.write_all(TAIL.as_bytes())
 }
 
 /// Writes a heading of a step.
-pub(crate) fn write_title<W: Write>(out: &mut W, title: &str) -> io::Result<()> {
+pub fn write_title<W: Write>(out: &mut W, title: &str) -> io::Result<()> {
     out.write_all(b"<h2>")?;
     write_escaped(out, title)?;
     out.write_all(b"</h2>\n")
@@ -47,21 +48,21 @@ pub(crate) fn write_title<W: Write>(out: &mut W, title: &str) -> io::Result<()> 
 
 /// A step of a page.
 #[derive(Clone, Copy)]
-pub(crate) struct Step<'a> {
+pub struct Step<'a> {
     /// The number of the step, from 0. Names of nodes contain it.
-    pub(crate) number: usize,
+    pub number: usize,
     /// What the edit before the step did.
-    pub(crate) report: Option<&'a EditReport>,
+    pub report: Option<&'a EditReport>,
 }
 
 /// The step before any edit.
-pub(crate) const FIRST: Step<'static> = Step {
+pub const FIRST: Step<'static> = Step {
     number: 0,
     report: None,
 };
 
 /// Writes a step: the numbers after an edit, the text next to the tree, and errors and warnings.
-pub(crate) fn write_step<W: Write>(
+pub fn write_step<W: Write>(
     alloc: Global,
     out: &mut W,
     shown: &Shown<'_>,
@@ -238,4 +239,16 @@ fn write_place<W: Write>(
     };
     let (line, column) = (line.saturating_add(1), column.saturating_add(1));
     write!(out, "{line}:{column} ")
+}
+
+/// Writes a whole page to its file, or to standard output if the file is `-`.
+pub fn save<'a, R: Files + Print>(rt: &R, page: &'a str, bytes: &[u8]) -> Result<(), Problem<'a>> {
+    if page == "-" {
+        io::writer(rt).write_all(bytes)?;
+        return Ok(());
+    }
+    match fs::write(rt, page, bytes) {
+        Ok(()) => Ok(()),
+        Err(error) => Err(Problem::of_saving(page, error)),
+    }
 }

@@ -1,7 +1,7 @@
 //! What can go wrong, as it is reported on standard error.
 
-use crate::bad_line::BadLine;
 use crate::misfit::Misfit;
+use crate::program::Program;
 use std::alloc::{AllocError, AllocFailed};
 use std::io;
 use std::io::ErrorKind;
@@ -10,15 +10,13 @@ use typst_source::SourceError;
 
 /// Why nothing more is shown.
 #[derive(Debug, Drop, Error)]
-pub(crate) enum Problem<'a> {
-    /// The words of the command line ask for help, or are wrong. `clap` writes the message.
-    #[error("{0}")]
-    Words(clap::Error),
+pub enum Problem<'a> {
     #[error("standard input can't be both the text and its edits: name a file for one of them")]
     TwoInputs,
-    #[error("{file}: --edits edits a text, but this is a script: edit its tree by its own lines `replace` and `run`")]
-    NoText {
-        file: &'a str,
+    #[error("{program} doesn't do these words, which are for {other}: run ./show, which picks the program by the words")]
+    OtherProgram {
+        program: Program,
+        other: Program,
     },
     #[error("{file}: there is no such file")]
     NoFile {
@@ -61,26 +59,6 @@ pub(crate) enum Problem<'a> {
         file: &'a str,
         error: SourceError,
     },
-    #[error("{file}:{line}: {bad}")]
-    BadLine {
-        file: &'a str,
-        line: u64,
-        bad: BadLine,
-    },
-    #[error("{file}:{line}: after this line nodes nest in more than {most} levels, the most that can be shown")]
-    TooDeep {
-        file: &'a str,
-        line: u64,
-        most: usize,
-    },
-    #[error("{file}: there is no tree at the end: put `root` after the line that makes the last node")]
-    NoTree {
-        file: &'a str,
-    },
-    #[error("{file}: the tree has more bytes or nodes than can be counted or numbered")]
-    TooManyNodes {
-        file: &'a str,
-    },
     #[error("out of memory")]
     Memory,
     #[error("{file}: cannot write it: {error}")]
@@ -93,15 +71,11 @@ pub(crate) enum Problem<'a> {
 }
 
 impl<'a> Problem<'a> {
-    /// The status: 1 for files and memory, and 2 for words, edits and the lines of scripts.
-    pub(crate) fn status(&self) -> u8 {
+    /// The status: 1 for files and memory, and 2 for words and edits.
+    pub fn status(&self) -> u8 {
         match self {
-            Problem::Words(_)
-            | Problem::TwoInputs
-            | Problem::NoText { .. }
-            | Problem::BadLine { .. }
-            | Problem::TooDeep { .. }
-            | Problem::NoTree { .. }
+            Problem::TwoInputs
+            | Problem::OtherProgram { .. }
             | Problem::BadEdit { .. }
             | Problem::Misfit { .. } => 2,
             Problem::NoFile { .. }
@@ -109,7 +83,6 @@ impl<'a> Problem<'a> {
             | Problem::Read { .. }
             | Problem::NotText { .. }
             | Problem::TooLarge { .. }
-            | Problem::TooManyNodes { .. }
             | Problem::Refused { .. }
             | Problem::Memory
             | Problem::Save { .. }
@@ -118,7 +91,7 @@ impl<'a> Problem<'a> {
     }
 
     /// The words of the command line can't be read.
-    pub(crate) fn of_words(error: io::Error) -> Problem<'a> {
+    pub fn of_words(error: io::Error) -> Problem<'a> {
         match error.kind() {
             ErrorKind::OutOfMemory => Problem::Memory,
             _ => Problem::Read {
@@ -129,7 +102,7 @@ impl<'a> Problem<'a> {
     }
 
     /// A file can't be opened or read.
-    pub(crate) fn of_reading(file: &'a str, error: io::Error) -> Problem<'a> {
+    pub fn of_reading(file: &'a str, error: io::Error) -> Problem<'a> {
         match error.kind() {
             ErrorKind::OutOfMemory => Problem::Memory,
             ErrorKind::NotFound => Problem::NoFile { file },
@@ -139,7 +112,7 @@ impl<'a> Problem<'a> {
     }
 
     /// A file can't be written.
-    pub(crate) fn of_saving(file: &'a str, error: io::Error) -> Problem<'a> {
+    pub fn of_saving(file: &'a str, error: io::Error) -> Problem<'a> {
         match error.kind() {
             ErrorKind::OutOfMemory => Problem::Memory,
             ErrorKind::IsADirectory => Problem::Folder { file },
@@ -148,7 +121,7 @@ impl<'a> Problem<'a> {
     }
 
     /// A text isn't parsed, or an edit of it isn't done.
-    pub(crate) fn of_source(file: &'a str, error: SourceError) -> Problem<'a> {
+    pub fn of_source(file: &'a str, error: SourceError) -> Problem<'a> {
         match error {
             SourceError::Memory => Problem::Memory,
             SourceError::Overflow | SourceError::Unnumberable => Problem::Refused { file, error },
@@ -178,15 +151,5 @@ impl<'a, T: Drop> From<AllocFailed<T>> for Problem<'a> {
     /// Memory was refused.
     fn from(_: AllocFailed<T>) -> Problem<'a> {
         Problem::Memory
-    }
-}
-
-impl<'a> From<clap::Error> for Problem<'a> {
-    /// The problem of words that the program doesn't take.
-    fn from(error: clap::Error) -> Problem<'a> {
-        match error.kind() {
-            clap::error::ErrorKind::OutOfMemory => Problem::Memory,
-            _ => Problem::Words(error),
-        }
     }
 }

@@ -3,13 +3,17 @@
 use crate::problem::Problem;
 use std::alloc::Global;
 use std::io::Read;
+use std::rt::Files;
 use std::{fs, io};
 
 /// How many bytes a file may have: 64 MiB. Its tree takes some 50 times as much memory.
-pub(crate) const MOST_BYTES: u64 = 1 << 26;
+const MOST_BYTES: u64 = 1 << 26;
 
 /// The text of a file, or of standard input if the file is `-`.
-pub(crate) fn read<'a>(rt: &HostRuntime, file: &'a str) -> Result<String, Problem<'a>> {
+pub fn read<'a, R: Files + Input + AllocGlobal>(
+    rt: &R,
+    file: &'a str,
+) -> Result<String, Problem<'a>> {
     let bytes = match bytes_of(rt, file) {
         Ok(bytes) => bytes,
         Err(error) => return Err(Problem::of_reading(file, error)),
@@ -30,7 +34,7 @@ pub(crate) fn read<'a>(rt: &HostRuntime, file: &'a str) -> Result<String, Proble
 }
 
 /// The bytes of a file, up to one more than a file may have.
-fn bytes_of(rt: &HostRuntime, file: &str) -> io::Result<Vec<u8>> {
+fn bytes_of<R: Files + Input + AllocGlobal>(rt: &R, file: &str) -> io::Result<Vec<u8>> {
     if file == "-" {
         first_bytes(rt.alloc(), rt.reader())
     } else {

@@ -4,7 +4,7 @@ use thiserror::Error;
 
 /// Why an edit can't be done.
 #[derive(Clone, Copy, Debug, PartialEq, Eq, Error)]
-pub(crate) enum Misfit {
+pub enum Misfit {
     #[error("the edit {end} at byte {byte}, but the text has only {len} bytes")]
     Beyond {
         end: &'static str,

@@ -8,7 +8,7 @@ use typst_rows::Row;
 /// The nodes from a child of the root down to the last one that was drawn: the index of each, and whether it is the
 /// last sibling.
 #[derive(Drop)]
-pub(crate) struct Trail {
+pub struct Trail {
     steps: Vec<Step>,
 }
 
@@ -21,14 +21,14 @@ struct Step {
 
 impl Trail {
     /// A trail with nothing drawn.
-    pub(crate) fn new(alloc: Global) -> Trail {
+    pub fn new(alloc: Global) -> Trail {
         Trail {
             steps: Vec::new(alloc),
         }
     }
 
     /// Moves on to the node of a row. Rows come in preorder.
-    pub(crate) fn go_to(&mut self, row: &Row) -> Result<(), AllocError> {
+    pub fn go_to(&mut self, row: &Row) -> Result<(), AllocError> {
         let Some(above) = row.depth.checked_sub(1) else {
             return Ok(());
         };
@@ -41,7 +41,7 @@ impl Trail {
     }
 
     /// Draws the branches that lead to the node.
-    pub(crate) fn draw<W: Write>(&self, out: &mut W) -> io::Result<()> {
+    pub fn draw<W: Write>(&self, out: &mut W) -> io::Result<()> {
         let Some((last, above)) = self.steps.split_last() else {
             return Ok(());
         };
@@ -50,13 +50,13 @@ impl Trail {
     }
 
     /// Draws the branches that pass next to what is written about the node below its line.
-    pub(crate) fn draw_below<W: Write>(&self, out: &mut W, has_children: bool) -> io::Result<()> {
+    pub fn draw_below<W: Write>(&self, out: &mut W, has_children: bool) -> io::Result<()> {
         draw_past(out, &self.steps)?;
         out.write_all(if has_children { "│  " } else { "   " }.as_bytes())
     }
 
     /// The child indices from the root down, joined by dots, or `-` for the root.
-    pub(crate) fn path(&self, alloc: Global) -> Result<String, AllocError> {
+    pub fn path(&self, alloc: Global) -> Result<String, AllocError> {
         let mut path = String::new(alloc);
         if self.steps.is_empty() {
             path.push('-')?;

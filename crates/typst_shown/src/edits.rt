@@ -13,7 +13,7 @@ use typst_lines::{ColumnUnit, Lines};
 
 /// An edit, and its line in its file, from 1.
 #[derive(Debug, Drop)]
-pub(crate) struct NumberedEdit {
+pub struct NumberedEdit {
     pub(crate) line: usize,
     pub(crate) edit: EditLine,
 }

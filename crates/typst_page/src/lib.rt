@@ -1,0 +1,14 @@
+//! What is shown of a tree with the answers of views: pages for a browser, and drawings in a terminal.
+//!
+//! A page shows a text next to its tree, and both again after each edit. `typst_answers` asks the views.
+#![tactic(auto)]
+
+pub use answered::draw_with_answers;
+pub use windows::Change;
+
+mod answered;
+mod escaped;
+mod numbers;
+pub mod page;
+mod page_parts;
+mod windows;

@@ -1,0 +1,109 @@
+//! Shows the syntax tree that a script or a look builds to a person, as a drawing in the terminal with errors and
+//! warnings below it, with what the view of each node answers or without, or as a page for a browser.
+//!
+//! `typst_shown` has the words of the command line, what is read, and drawings, and `typst_page` has what views answer.
+//! This crate builds the tree by `typst_looker`, and says what is wrong with a line.
+#![tactic(auto)]
+
+mod bad_line;
+mod built;
+mod language;
+mod levels;
+mod problem;
+
+use crate::built::build;
+use crate::language::Language;
+use crate::problem::ScriptProblem;
+use std::alloc::Global;
+use std::io;
+use std::io::{BufWriter, Write};
+use std::process::ExitCode;
+use typst_page::draw_with_answers;
+use typst_page::page::{FIRST, save, write_head, write_step, write_tail};
+use typst_shown::carets::write_reports;
+use typst_shown::drawing::draw;
+use typst_shown::plain::write_plain;
+use typst_shown::reading::read;
+use typst_shown::words::{status_of, words_of};
+use typst_shown::{Asked, Problem, Program, Shown};
+
+/// Does what the words ask for.
+fn main(rt: HostRuntime) -> ExitCode {
+    let status = match words_of(&rt) {
+        Ok(words) => match answer(&rt, &words) {
+            Ok(()) => 0,
+            Err(ScriptProblem::Shared(problem)) => status_of(&rt, Err(problem)),
+            Err(problem) => {
+                let _ = eprintln!(&rt; "{problem}");
+                problem.status()
+            }
+        },
+        Err(problem) => status_of(&rt, Err(problem)),
+    };
+    ExitCode::from(status)
+}
+
+/// Shows what the words ask for.
+fn answer<'a>(rt: &HostRuntime, words: &'a [String]) -> Result<(), ScriptProblem<'a>> {
+    let alloc = rt.alloc();
+    let asked = Asked::parse(words, Program::Script)?;
+    let file = asked.file;
+    if asked.edits.is_some() {
+        return Err(ScriptProblem::NoText { file });
+    }
+    let tree = build(alloc, file, Language::of(file), &read(rt, file)?)?;
+    let root = tree.root();
+    let text = match root.full_text(alloc) {
+        Ok(text) => text,
+        Err(error) => return Err(ScriptProblem::Shared(Problem::from(error))),
+    };
+    let shown = Shown {
+        file,
+        text: &text,
+        root,
+    };
+    show(rt, &asked, &shown)?;
+    Ok(())
+}
+
+/// Shows a tree, as a page or in the terminal.
+fn show<'a>(rt: &HostRuntime, asked: &Asked<'a>, shown: &Shown<'_>) -> Result<(), Problem<'a>> {
+    let alloc = rt.alloc();
+    if let Some(page) = asked.page {
+        // The page is made whole before any of it is written.
+        let mut bytes: Vec<u8> = Vec::new(alloc);
+        write_page(alloc, &mut bytes, shown)?;
+        return save(rt, page, &bytes);
+    }
+    let mut out = BufWriter::new(alloc, io::writer(rt))?;
+    let done = write_tree(alloc, &mut out, asked, shown);
+    let flushed = out.flush();
+    done?;
+    flushed?;
+    Ok(())
+}
+
+/// Writes a page of a tree.
+fn write_page<W: Write>(alloc: Global, out: &mut W, shown: &Shown<'_>) -> io::Result<()> {
+    write_head(out, shown.file)?;
+    write_step(alloc, out, shown, &FIRST, None)?;
+    write_tail(out)
+}
+
+/// Draws a tree and writes its errors and warnings below it, or writes it plainly.
+fn write_tree<W: Write>(
+    alloc: Global,
+    out: &mut W,
+    asked: &Asked<'_>,
+    shown: &Shown<'_>,
+) -> io::Result<()> {
+    if asked.is_plain {
+        return write_plain(alloc, out, shown);
+    }
+    if asked.has_views {
+        draw_with_answers(alloc, out, shown, None)?;
+    } else {
+        draw(alloc, out, shown, None)?;
+    }
+    write_reports(alloc, out, shown)
+}

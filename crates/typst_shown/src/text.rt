@@ -1,0 +1,80 @@
+//! A text that is shown, at first and again after each edit.
+
+use crate::asked::Asked;
+use crate::edits::{NumberedEdit, parse_edits, range_of};
+use crate::problem::Problem;
+use crate::reading::read;
+use crate::shown::Shown;
+use std::alloc::Global;
+use std::rt::Files;
+use typst_base::FileId;
+use typst_markup::Markup;
+use typst_rows::{EditReport, edit_text};
+use typst_source::Source;
+
+/// A text with its tree, and the names of its file and of the file with its edits.
+#[derive(Drop)]
+pub struct Text<'a> {
+    file: &'a str,
+    edits_file: &'a str,
+    source: Source<Markup>,
+}
+
+impl<'a> Text<'a> {
+    /// Reads the text and the edits that are asked for. The text becomes file 1.
+    pub fn read<R: Files + Input + AllocGlobal>(
+        rt: &R,
+        asked: &Asked<'a>,
+    ) -> Result<(Text<'a>, Vec<NumberedEdit>), Problem<'a>> {
+        let alloc = rt.alloc();
+        let file = asked.file;
+        let text = read(rt, file)?;
+        let edits = match asked.edits {
+            None => Vec::new(alloc),
+            Some(file) => parse_edits(alloc, file, &read(rt, file)?)?,
+        };
+        match Source::new(alloc, FileId::FIRST, &text, Markup) {
+            Ok(source) => Ok((
+                Text {
+                    file,
+                    edits_file: asked.edits.unwrap_or("-"),
+                    source,
+                },
+                edits,
+            )),
+            Err(error) => Err(Problem::of_source(file, error)),
+        }
+    }
+
+    /// The text with its tree.
+    pub fn shown(&self) -> Shown<'_> {
+        Shown {
+            file: self.file,
+            text: self.source.text(),
+            root: self.source.root(),
+        }
+    }
+
+    /// Does an edit.
+    pub fn edit(
+        &mut self,
+        alloc: Global,
+        numbered: &NumberedEdit,
+    ) -> Result<EditReport, Problem<'a>> {
+        let NumberedEdit { line, edit } = numbered;
+        let range = match range_of(alloc, self.source.text(), edit)? {
+            Ok(range) => range,
+            Err(misfit) => {
+                return Err(Problem::Misfit {
+                    file: self.edits_file,
+                    line: *line,
+                    misfit,
+                });
+            }
+        };
+        match edit_text(alloc, &mut self.source, range, &edit.with) {
+            Ok(report) => Ok(report),
+            Err(error) => Err(Problem::of_source(self.file, error)),
+        }
+    }
+}
