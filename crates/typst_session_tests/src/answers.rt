@@ -62,9 +62,15 @@ pub(crate) fn place(alloc: Global, outcome: Result<LineColumn, Refusal>) -> Answ
 
 /// A kind, bytes, nodes, children, the number and the bound, and four flags, as `6 5b 1n 0c 11..12 1000`.
 pub(crate) fn info(alloc: Global, info: &NodeInfo) -> Result<String, AllocError> {
-    let size = format!(in alloc; "{} {}b {}n {}c", info.kind, info.len, info.descendants, info.children)?;
+    let size = format!(in alloc;
+        "{} {}b {}n {}c",
+        info.kind, info.len, info.descendants, info.children
+    )?;
     let label = format!(in alloc; "{}..{}", info.number, info.bound)?;
-    let kept = format!(in alloc; "{}{}{}{}", info.leaf, info.inner, info.errors, info.warnings)?;
+    let kept = format!(in alloc;
+        "{}{}{}{}",
+        info.leaf, info.inner, info.errors, info.warnings
+    )?;
     format!(in alloc; "{size} {label} {kept}")
 }
 

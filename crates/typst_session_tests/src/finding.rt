@@ -88,7 +88,10 @@ const CLASSES: &[(Call, &str)] = &[
     (Find(ChildOfClass(&[], 256, 1, false)), "3"),
     (Find(ChildOfClass(&[], 256, 1, true)), "0"),
     (Find(ChildOfClass(&[], 257, 1, false)), "3"),
-    (Find(ChildOfClass(&[], 257, 2, false)), "there is no such node"),
+    (
+        Find(ChildOfClass(&[], 257, 2, false)),
+        "there is no such node",
+    ),
     (Find(ChildOfClass(&[], 258, 0, false)), "0"),
     (Find(ChildOfClass(&[], 259, 1, true)), "2"),
     (Find(ChildOfClass(&[], 58, 0, false)), "2"),
@@ -96,7 +99,10 @@ const CLASSES: &[(Call, &str)] = &[
         Find(ChildOfClass(&[], 260, 0, false)),
         "no leaf or inner node can have this kind",
     ),
-    (Find(ChildOfClass(&[4], 259, 0, false)), "the path leads to no node"),
+    (
+        Find(ChildOfClass(&[4], 259, 0, false)),
+        "the path leads to no node",
+    ),
 ];
 
 #[test]

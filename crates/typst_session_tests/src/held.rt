@@ -51,8 +51,14 @@ const NUMBERED: &[(Call, &str)] = &[
     (Held(Edit(0, 0, b"")), "there is no document"),
     (Held(Number(0, 2, 10)), "the number of the file is 0"),
     (Held(Number(1, 1, 10)), "the numbers must lie in 2..2^47"),
-    (Held(Number(1, 2, END + 1)), "the numbers must lie in 2..2^47"),
-    (Held(Number(1, 10, 12)), "there are fewer numbers than nodes"),
+    (
+        Held(Number(1, 2, END + 1)),
+        "the numbers must lie in 2..2^47",
+    ),
+    (
+        Held(Number(1, 10, 12)),
+        "there are fewer numbers than nodes",
+    ),
     (Held(Number(1, 10, 13)), "done"),
     (Held(Number(1, 10, 13)), "the stack has too few nodes"),
     (Labels, "10..13[11..12 12..13]"),
@@ -61,12 +67,27 @@ const NUMBERED: &[(Call, &str)] = &[
     (Stack(PushLeaf(7, b" ")), "done"),
     (Held(Replace(&[2], 0, 0, 1)), "the path leads to no node"),
     (Held(Replace(&[0], 0, 0, 1)), "the path leads to a leaf"),
-    (Held(Replace(&[], 2, 1, 1)), "the range doesn't fit the children or the text"),
-    (Held(Replace(&[], 0, 3, 1)), "the range doesn't fit the children or the text"),
-    (Held(Replace(&[], 1, 1, 1)), "there are fewer numbers than nodes"),
+    (
+        Held(Replace(&[], 2, 1, 1)),
+        "the range doesn't fit the children or the text",
+    ),
+    (
+        Held(Replace(&[], 0, 3, 1)),
+        "the range doesn't fit the children or the text",
+    ),
+    (
+        Held(Replace(&[], 1, 1, 1)),
+        "there are fewer numbers than nodes",
+    ),
     (Held(Renumber(0, 2, 62)), "the number of the file is 0"),
-    (Held(Renumber(3, 2, END + 1)), "the numbers must lie in 2..2^47"),
-    (Held(Renumber(3, 2, 4)), "there are fewer numbers than nodes"),
+    (
+        Held(Renumber(3, 2, END + 1)),
+        "the numbers must lie in 2..2^47",
+    ),
+    (
+        Held(Renumber(3, 2, 4)),
+        "there are fewer numbers than nodes",
+    ),
     (Held(Renumber(3, 2, 62)), "done"),
     (Labels, "7..62[17..18 27..28]"),
     (Held(Replace(&[], 1, 1, 1)), "1..2 of 1"),
@@ -75,9 +96,15 @@ const NUMBERED: &[(Call, &str)] = &[
     (Stack(PushCopy(&[1])), "done"),
     (Held(TakeTree), "done"),
     (Held(TakeTree), "there is no tree"),
-    (Nodes, r#"[Space: " ", Markup: 11 [Text: "Hello", Space: " ", Text: "world"]], no tree"#),
+    (
+        Nodes,
+        r#"[Space: " ", Markup: 11 [Text: "Hello", Space: " ", Text: "world"]], no tree"#,
+    ),
     (Held(Number(1, 10, 14)), "done"),
-    (Nodes, r#"[Space: " "], Markup: 11 [Text: "Hello", Space: " ", Text: "world"]"#),
+    (
+        Nodes,
+        r#"[Space: " "], Markup: 11 [Text: "Hello", Space: " ", Text: "world"]"#,
+    ),
     (Labels, "10..14[11..12 12..13 13..14]"),
 ];
 
@@ -90,13 +117,31 @@ fn a_tree_is_numbered_edited_and_taken(rt: HostRuntime) -> Result<(), Fail> {
 const EDITED: &[(Call, &str)] = &[
     (Held(Open(0, b"x")), "the number of the file is 0"),
     (Held(Open(1, b"\xff")), "the text isn't UTF-8"),
-    (Held(Open(1, b"= Notes\n\nSome more text.\n\nThe last paragraph.\n")), "done"),
-    (Held(Renumber(1, 2, 100)), "the tree belongs to a document, which is edited as a text"),
-    (Held(TakeTree), "the tree belongs to a document, which is edited as a text"),
-    (Held(Replace(&[], 0, 0, 0)), "the tree belongs to a document, which is edited as a text"),
+    (
+        Held(Open(1, b"= Notes\n\nSome more text.\n\nThe last paragraph.\n")),
+        "done",
+    ),
+    (
+        Held(Renumber(1, 2, 100)),
+        "the tree belongs to a document, which is edited as a text",
+    ),
+    (
+        Held(TakeTree),
+        "the tree belongs to a document, which is edited as a text",
+    ),
+    (
+        Held(Replace(&[], 0, 0, 0)),
+        "the tree belongs to a document, which is edited as a text",
+    ),
     (Held(Edit(19, 23, b"\xff")), "the text isn't UTF-8"),
-    (Held(Edit(2, 1, b"")), "the range doesn't fit the children or the text"),
-    (Held(Edit(46, 47, b"")), "the range doesn't fit the children or the text"),
+    (
+        Held(Edit(2, 1, b"")),
+        "the range doesn't fit the children or the text",
+    ),
+    (
+        Held(Edit(46, 47, b"")),
+        "the range doesn't fit the children or the text",
+    ),
     (Held(Edit(19, 23, b"*text*")), "9..28 parsed, 2..6 of 1"),
     (
         Nodes,

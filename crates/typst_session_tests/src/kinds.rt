@@ -30,6 +30,7 @@ pub(crate) fn answer(alloc: Global, call: KindCall) -> Answer {
     }
 }
 
+/// The name of a kind in a buffer.
 fn name(alloc: Global, number: u32, room: usize) -> Answer {
     let (mut out, mut len) = (vec![in alloc; b'#'; room]?, 77);
     let outcome = kinds::write_name(number, &mut out, &mut len);
@@ -50,10 +51,19 @@ fn classes(alloc: Global, number: u32) -> Answer {
 /// Calls that need no session.
 const KINDS: &[(Call, &str)] = &[
     (Kind(WriteName(0, 14)), "done: 13 end of tokens#"),
-    (Kind(WriteName(0, 12)), "the buffer is too short: 13 ############"),
+    (
+        Kind(WriteName(0, 12)),
+        "the buffer is too short: 13 ############",
+    ),
     (Kind(WriteName(1, 12)), "done: 12 syntax error"),
-    (Kind(WriteName(137, 2)), "no leaf or inner node can have this kind: 77 ##"),
-    (Kind(WriteName(256, 2)), "no leaf or inner node can have this kind: 77 ##"),
+    (
+        Kind(WriteName(137, 2)),
+        "no leaf or inner node can have this kind: 77 ##",
+    ),
+    (
+        Kind(WriteName(256, 2)),
+        "no leaf or inner node can have this kind: 77 ##",
+    ),
     (Kind(KindOfName(b"syntax error")), "1"),
     (Kind(KindOfName(b"keyword `let`")), "83"),
     (Kind(KindOfName(b"no kind")), "there is no such node"),
@@ -62,12 +72,18 @@ const KINDS: &[(Call, &str)] = &[
     (Kind(Classes(120)), "000100"),
     (Kind(Classes(83)), "000010"),
     (Kind(Classes(7)), "000001"),
-    (Kind(Classes(137)), "no leaf or inner node can have this kind"),
+    (
+        Kind(Classes(137)),
+        "no leaf or inner node can have this kind",
+    ),
     (Kind(SetHolds(0, 83)), "true"),
     (Kind(SetHolds(3, 83)), "false"),
     (Kind(SetHolds(4, 58)), "true"),
     (Kind(SetHolds(12, 0)), "no set of kinds has this number"),
-    (Kind(SetHolds(11, 137)), "no leaf or inner node can have this kind"),
+    (
+        Kind(SetHolds(11, 137)),
+        "no leaf or inner node can have this kind",
+    ),
 ];
 
 #[test]

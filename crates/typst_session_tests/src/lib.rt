@@ -6,6 +6,8 @@ mod answers;
 #[cfg(test)]
 mod calls;
 #[cfg(test)]
+mod documents;
+#[cfg(test)]
 mod finding;
 #[cfg(test)]
 mod held;
@@ -15,6 +17,8 @@ mod kinds;
 mod lines;
 #[cfg(test)]
 mod reading;
+#[cfg(test)]
+mod refusals;
 #[cfg(test)]
 mod remarks;
 #[cfg(test)]

@@ -48,15 +48,30 @@ const TEXT: &[(Call, &str)] = &[
     (Line(ByteToLineColumn(5, Byte)), "0:5"),
     (Line(ByteToLineColumn(5, Character)), "0:2"),
     (Line(ByteToLineColumn(5, Utf16)), "0:3"),
-    (Line(ByteToLineColumn(2, Byte)), "the text has no such place"),
-    (Line(ByteToLineColumn(13, Byte)), "the text has no such place"),
+    (
+        Line(ByteToLineColumn(2, Byte)),
+        "the text has no such place",
+    ),
+    (
+        Line(ByteToLineColumn(13, Byte)),
+        "the text has no such place",
+    ),
     (Line(LineColumnToByte(1, 4, Byte)), "11"),
     (Line(LineColumnToByte(1, 1, Utf16)), "9"),
-    (Line(LineColumnToByte(1, 1, Byte)), "the text has no such place"),
-    (Line(LineColumnToByte(3, 0, Byte)), "the text has no such place"),
+    (
+        Line(LineColumnToByte(1, 1, Byte)),
+        "the text has no such place",
+    ),
+    (
+        Line(LineColumnToByte(3, 0, Byte)),
+        "the text has no such place",
+    ),
     (Held(Edit(6, 7, b"\r\n\n")), "0..14 parsed, 1..2 of 1"),
     (Line(LenLines), "4"),
-    (Line(ByteToLineColumn(10, Byte)), "the text has no such place"),
+    (
+        Line(ByteToLineColumn(10, Byte)),
+        "the text has no such place",
+    ),
     (Line(ByteToLineColumn(11, Character)), "2:1"),
 ];
 

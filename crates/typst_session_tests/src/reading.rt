@@ -48,6 +48,7 @@ pub(crate) fn answer(alloc: Global, session: &Session, call: ReadCall) -> Answer
     }
 }
 
+/// What is read of the node at a path.
 fn node(alloc: Global, session: &Session, path: &[usize]) -> Answer {
     match session.node(path) {
         Ok(one) => Ok(info(alloc, &one)?),
@@ -55,24 +56,28 @@ fn node(alloc: Global, session: &Session, path: &[usize]) -> Answer {
     }
 }
 
+/// The text of a leaf in a buffer.
 fn leaf_text(alloc: Global, session: &Session, path: &[usize], room: usize) -> Answer {
     let (mut out, mut len) = (vec![in alloc; b'#'; room]?, 77);
     let outcome = session.leaf_text(path, &mut out, &mut len);
     written(alloc, outcome, len, &out)
 }
 
+/// The text of a subtree in a buffer.
 fn full_text(alloc: Global, session: &Session, path: &[usize], room: usize) -> Answer {
     let (mut out, mut len) = (vec![in alloc; b'#'; room]?, 77);
     let outcome = session.full_text(alloc, path, &mut out, &mut len);
     written(alloc, outcome, len, &out)
 }
 
+/// The children of a node in a buffer.
 fn children(alloc: Global, session: &Session, path: &[usize], room: usize) -> Answer {
     let (mut out, mut len) = (vec![in alloc; BEFORE; room]?, 77);
     let outcome = session.children(path, &mut out, &mut len);
     listed(alloc, outcome, len, &out)
 }
 
+/// The nodes of a subtree in a buffer.
 fn preorder(alloc: Global, session: &Session, path: &[usize], room: usize) -> Answer {
     let (mut out, mut len) = (vec![in alloc; BEFORE; room]?, 77);
     let outcome = session.preorder(path, &mut out, &mut len);
@@ -84,15 +89,24 @@ const TREE: &[(Call, &str)] = &[
     (Read(Node(&[])), "there is no tree"),
     (Read(LeafText(&[], 2)), "there is no tree: 77 ##"),
     (Read(FullText(&[], 2)), "there is no tree: 77 ##"),
-    (Read(Children(&[], 1)), "there is no tree: 77; 99 77b 0n 0c 0..0 0000"),
-    (Read(Preorder(&[], 1)), "there is no tree: 77; 99 77b 0n 0c 0..0 0000"),
+    (
+        Read(Children(&[], 1)),
+        "there is no tree: 77; 99 77b 0n 0c 0..0 0000",
+    ),
+    (
+        Read(Preorder(&[], 1)),
+        "there is no tree: 77; 99 77b 0n 0c 0..0 0000",
+    ),
     (Held(Number(1, 10, 16)), "done"),
     (Read(Node(&[2])), "13 3b 2n 1c 13..15 0100"),
     (Read(Node(&[2, 1])), "the path leads to no node"),
     (Read(LeafText(&[2, 0], 4)), "done: 3 big#"),
     (Read(LeafText(&[2], 2)), "done: 0 ##"),
     (Read(LeafText(&[0], 4)), "the buffer is too short: 5 ####"),
-    (Read(LeafText(&[4], 4)), "the path leads to no node: 77 ####"),
+    (
+        Read(LeafText(&[4], 4)),
+        "the path leads to no node: 77 ####",
+    ),
     (Read(FullText(&[], 16)), "done: 14 Hello bigworld##"),
     (Read(FullText(&[2], 2)), "the buffer is too short: 3 ##"),
     (Read(FullText(&[4], 2)), "the path leads to no node: 77 ##"),
@@ -108,7 +122,10 @@ const TREE: &[(Call, &str)] = &[
         "done: 6; 5 14b 6n 4c 10..16 0100; 6 5b 1n 0c 11..12 1000; 7 1b 1n 0c 12..13 1000; \
         13 3b 2n 1c 13..15 0100; 6 3b 1n 0c 14..15 1000; 6 5b 1n 0c 15..16 1000; 99 77b 0n 0c 0..0 0000",
     ),
-    (Read(Preorder(&[2], 1)), "the buffer is too short: 2; 99 77b 0n 0c 0..0 0000"),
+    (
+        Read(Preorder(&[2], 1)),
+        "the buffer is too short: 2; 99 77b 0n 0c 0..0 0000",
+    ),
     (Read(Preorder(&[4], 0)), "the path leads to no node: 77"),
 ];
 
@@ -129,5 +146,10 @@ const REMARKED: &[(Call, &str)] = &[
 
 #[test]
 fn errors_and_warnings_are_seen_from_above(rt: HostRuntime) -> Result<(), Fail> {
-    follow(&rt, rt.alloc(), "Markup[ Text:ab ^careful !wrong:x ]", REMARKED)
+    follow(
+        &rt,
+        rt.alloc(),
+        "Markup[ Text:ab ^careful !wrong:x ]",
+        REMARKED,
+    )
 }

@@ -70,13 +70,7 @@ fn all_of(alloc: Global, list: &[Diagnostic]) -> Result<String, AllocError> {
 }
 
 /// How the call ended, the form, the number and the integer, and the text with its length.
-fn view(
-    alloc: Global,
-    session: &Session,
-    path: &[usize],
-    asked: Asked,
-    room: usize,
-) -> Answer {
+fn view(alloc: Global, session: &Session, path: &[usize], asked: Asked, room: usize) -> Answer {
     let mut out = vec![in alloc; b'#'; room]?;
     let mut told = BEFORE;
     let outcome = session.view(alloc, path, asked, &mut out, &mut told);
@@ -100,7 +94,10 @@ const REMARKED: &[(Call, &str)] = &[
         "done: 21 wrongthisoutersoinner# 5; 0 12 4..5 1 5; 2 1 0..0 0 4; 1 11 0..4 1 5; 2 1 0..0 0 2; 1 11 0..4 1 5; \
         9 0 0..0 0 77",
     ),
-    (Remark(Diagnostics(1, 22)), "the buffer is too short: 21 ###################### 5; 9 0 0..0 0 77"),
+    (
+        Remark(Diagnostics(1, 22)),
+        "the buffer is too short: 21 ###################### 5; 9 0 0..0 0 77",
+    ),
     (
         Remark(Diagnostics(5, 2)),
         "the buffer is too short: 21 ## 5; 9 0 0..0 0 77; 9 0 0..0 0 77; 9 0 0..0 0 77; 9 0 0..0 0 77; 9 0 0..0 0 77",
@@ -114,7 +111,10 @@ fn each_error_and_warning_is_told_with_its_hints(rt: HostRuntime) -> Result<(), 
 
 /// Calls on children that answer in all forms.
 const VIEWS: &[(Call, &str)] = &[
-    (Remark(View(&[], 10, 0, 1)), "77 77 77, there is no tree: 77 #"),
+    (
+        Remark(View(&[], 10, 0, 1)),
+        "77 77 77, there is no tree: 77 #",
+    ),
     (Held(Number(1, 10, 27)), "done"),
     (Remark(View(&[0], 22, 0, 1)), "0 0 0, done: 0 #"),
     (Remark(View(&[1], 10, 0, 1)), "1 1 0, done: 0 #"),
@@ -123,12 +123,21 @@ const VIEWS: &[(Call, &str)] = &[
     (Remark(View(&[4], 16, 0, 1)), "3 0 -5, done: 0 #"),
     (Remark(View(&[5], 7, 0, 1)), "4 9731 0, done: 0 #"),
     (Remark(View(&[6], 24, 0, 6)), "5 0 0, done: 5 fig:a#"),
-    (Remark(View(&[6], 24, 0, 4)), "5 0 0, the buffer is too short: 5 ####"),
+    (
+        Remark(View(&[6], 24, 0, 4)),
+        "5 0 0, the buffer is too short: 5 ####",
+    ),
     (Remark(View(&[6], 24, 1, 1)), "0 0 0, done: 0 #"),
     (Remark(View(&[7], 20, 0, 3)), "5 0 0, done: 2 a\n#"),
     (Remark(View(&[8], 33, 0, 1)), "6 24 0, done: 0 #"),
-    (Remark(View(&[9], 10, 0, 1)), "77 77 77, the path leads to no node: 77 #"),
-    (Remark(View(&[1], 119, 0, 1)), "77 77 77, the number is no accessor: 77 #"),
+    (
+        Remark(View(&[9], 10, 0, 1)),
+        "77 77 77, the path leads to no node: 77 #",
+    ),
+    (
+        Remark(View(&[1], 119, 0, 1)),
+        "77 77 77, the number is no accessor: 77 #",
+    ),
 ];
 
 #[test]

@@ -30,7 +30,10 @@ pub(crate) enum StackCall {
 pub(crate) fn answer(alloc: Global, session: &mut Session, call: StackCall) -> Answer {
     match call {
         StackCall::PushLeaf(kind, text) => done(alloc, session.push_leaf(alloc, kind, text)),
-        StackCall::PushError(message, text) => done(alloc, session.push_error(alloc, message, text)),
+        StackCall::PushError(message, text) => done(
+            alloc,
+            session.push_error(alloc, message, text),
+        ),
         StackCall::PushCopy(path) => done(alloc, session.push_copy(path)),
         StackCall::Wrap(kind, count) => done(alloc, session.wrap(alloc, kind, count)),
         StackCall::Warn(message) => done(alloc, session.warn(alloc, message)),
@@ -44,9 +47,18 @@ const BUILT: &[(Call, &str)] = &[
     (Stack(Warn(b"outer")), "the stack has too few nodes"),
     (Stack(Hint(b"so")), "the stack has too few nodes"),
     (Stack(Pop(1)), "the stack has too few nodes"),
-    (Stack(PushLeaf(1, b"x")), "no leaf or inner node can have this kind"),
-    (Stack(PushLeaf(137, b"x")), "no leaf or inner node can have this kind"),
-    (Stack(PushLeaf(262, b"x")), "no leaf or inner node can have this kind"),
+    (
+        Stack(PushLeaf(1, b"x")),
+        "no leaf or inner node can have this kind",
+    ),
+    (
+        Stack(PushLeaf(137, b"x")),
+        "no leaf or inner node can have this kind",
+    ),
+    (
+        Stack(PushLeaf(262, b"x")),
+        "no leaf or inner node can have this kind",
+    ),
     (Stack(PushLeaf(6, b"\xff")), "the text isn't UTF-8"),
     (Stack(PushLeaf(6, b"fine")), "done"),
     (Stack(Hint(b"so")), "the node takes no hints"),
@@ -60,7 +72,10 @@ const BUILT: &[(Call, &str)] = &[
     (Stack(PushError(b"wrong", b"x")), "done"),
     (Stack(Hint(b"this")), "done"),
     (Stack(Wrap(5, 3)), "the stack has too few nodes"),
-    (Stack(Wrap(1, 2)), "no leaf or inner node can have this kind"),
+    (
+        Stack(Wrap(1, 2)),
+        "no leaf or inner node can have this kind",
+    ),
     (Stack(PushLeaf(7, b" ")), "done"),
     (Stack(PushLeaf(6, b"ab")), "done"),
     (Stack(Pop(2)), "done"),
