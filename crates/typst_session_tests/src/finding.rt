@@ -3,7 +3,7 @@ use crate::answers::{Answer, found, value};
 use crate::calls::Call::{Find, Held};
 use crate::calls::{Call, follow};
 use crate::held::HeldCall::Number;
-use FindCall::{ByNumber, ChildOfClass, LeafAt, NextTo, RangeOf, SpanlessEq};
+use FindCall::{ByNumber, ChildOfClass, LeafAt, NextTo, RangeOf, SpanlessEq, SpanlessEqText};
 use std::alloc::Global;
 use std::test::Fail;
 use typst_session::Neighbor::{NextLeaf, NextSibling, PrevLeaf, PrevSibling};
@@ -26,6 +26,8 @@ pub(crate) enum FindCall {
     ChildOfClass(&'static [usize], u32, usize, bool),
     /// By two paths in the same tree.
     SpanlessEq(&'static [usize], &'static [usize]),
+    /// By a path, and a text whose first node is compared, in a session of its own.
+    SpanlessEqText(&'static [usize], &'static [u8]),
 }
 
 /// What the call answers.
@@ -41,7 +43,15 @@ pub(crate) fn answer(alloc: Global, session: &Session, call: FindCall) -> Answer
         FindCall::SpanlessEq(path, other) => {
             value(alloc, session.spanless_eq(path, session, other))
         }
+        FindCall::SpanlessEqText(path, text) => equals_text(alloc, session, path, text),
     }
+}
+
+/// Whether a node and the first node of a text's document are equal.
+fn equals_text(alloc: Global, session: &Session, path: &[usize], text: &[u8]) -> Answer {
+    let mut other = Session::new(alloc);
+    other.open(alloc, 2, text)?;
+    value(alloc, session.spanless_eq(path, &other, &[0]))
 }
 
 /// Calls on a tree of six nodes, before it is held and after.
@@ -72,6 +82,8 @@ const TREE: &[(Call, &str)] = &[
     (Find(NextTo(&[4], NextLeaf)), "the path leads to no node"),
     (Find(SpanlessEq(&[0], &[0])), "true"),
     (Find(SpanlessEq(&[0], &[3])), "false"),
+    (Find(SpanlessEqText(&[0], b"Hello")), "true"),
+    (Find(SpanlessEqText(&[0], b"Hallo")), "false"),
     (Find(SpanlessEq(&[4], &[0])), "the path leads to no node"),
     (Find(SpanlessEq(&[0], &[4])), "the path leads to no node"),
 ];
