@@ -1,0 +1,94 @@
+// Documents by their own calls, which a program in Rattle makes without a session.
+use crate::answers::{Answer, edited, place, value};
+use DocumentCall::{ByteToLineColumn, Edit, LineColumnToByte, Shown};
+use std::alloc::Global;
+use std::ops::Range;
+use std::test::Fail;
+use typst_lines::ColumnUnit;
+use typst_session::{Document, LineColumn, Refusal};
+use typst_tree::FileId;
+
+/// A call on a document.
+#[derive(Clone, Copy)]
+enum DocumentCall {
+    /// Reads the text, the lines and the tree.
+    Shown,
+    /// By the first byte and the end of the bytes that go, and a text.
+    Edit(usize, usize, &'static str),
+    /// By a byte.
+    ByteToLineColumn(usize),
+    /// By a line and a column.
+    LineColumnToByte(usize, usize),
+}
+
+/// What the call answers. Columns count units of UTF-16.
+fn answer(alloc: Global, document: &mut Document, call: DocumentCall) -> Answer {
+    match call {
+        DocumentCall::Shown => shown(alloc, document),
+        DocumentCall::Edit(start, end, with) => edit(alloc, document, start..end, with),
+        DocumentCall::ByteToLineColumn(byte) => {
+            let found = document.byte_to_line_column(byte, ColumnUnit::Utf16);
+            place(alloc, found.ok_or(Refusal::NoPlace))
+        }
+        DocumentCall::LineColumnToByte(line, column) => {
+            let place = LineColumn { line, column };
+            value(
+                alloc,
+                Ok(document.line_column_to_byte(place, ColumnUnit::Utf16)),
+            )
+        }
+    }
+}
+
+/// The text, also as the source has it, the lines, and the tree.
+fn shown(alloc: Global, document: &Document) -> Answer {
+    let (text, same) = (document.text(), document.source().text());
+    let lines = document.len_lines();
+    Ok(format!(in alloc; "{text:?} {same:?}, {lines} lines, {:?}", document.root())?)
+}
+
+/// What an edit answers, if its range fits.
+fn edit(alloc: Global, document: &mut Document, range: Range<usize>, with: &str) -> Answer {
+    if !document.fits(&range) {
+        return Err(Refusal::Range);
+    }
+    match document.edit(alloc, range, with) {
+        Ok(done) => edited(alloc, Ok(done)),
+        Err(error) => Err(Refusal::from(error)),
+    }
+}
+
+/// Calls on a document whose second character has two bytes.
+const CALLS: &[(DocumentCall, &str)] = &[
+    (
+        Shown,
+        "\"b\u{e9}c\\n\" \"b\u{e9}c\\n\", 2 lines, Markup: 5 [Text: \"b\u{e9}c\", Space: \"\\n\"]",
+    ),
+    (
+        Edit(0, 2, "x"),
+        "the range doesn't fit the children or the text",
+    ),
+    (Edit(0, 1, "x\n"), "0..6 parsed, 0..3 of 1"),
+    (
+        Shown,
+        "\"x\\n\u{e9}c\\n\" \"x\\n\u{e9}c\\n\", 3 lines, \
+        Markup: 6 [Text: \"x\", Space: \"\\n\", Text: \"\u{e9}c\", Space: \"\\n\"]",
+    ),
+    (ByteToLineColumn(4), "1:1"),
+    (ByteToLineColumn(3), "the text has no such place"),
+    (LineColumnToByte(1, 1), "Some(4)"),
+    (LineColumnToByte(3, 0), "None"),
+];
+
+#[test]
+fn a_document_answers_without_a_session(rt: HostRuntime) -> Result<(), Fail> {
+    let alloc = rt.alloc();
+    let mut document = Document::new(alloc, FileId::FIRST, "b\u{e9}c\n")?;
+    for (call, wanted) in CALLS {
+        match answer(alloc, &mut document, *call) {
+            Ok(said) => assert_eq!(rt; said.as_str(), *wanted),
+            Err(refusal) => assert_eq!(rt; format!(in alloc; "{refusal}")?.as_str(), *wanted),
+        }
+    }
+    Ok(())
+}
