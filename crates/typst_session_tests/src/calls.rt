@@ -68,17 +68,33 @@ fn answer(alloc: Global, session: &mut Session, call: Call) -> Answer {
     }
 }
 
-/// What a call answers, or why it is refused. If a refused call changed the session, that is added.
+/// All that a refused call leaves as it was.
+fn state(alloc: Global, session: &Session) -> Result<String, AllocError> {
+    let (nodes, labels) = (nodes(alloc, session)?, labels_of(alloc, session)?);
+    format!(in alloc; "{nodes} {labels}")
+}
+
+/// Why a call was refused, and what the session is after it if that isn't what it was before.
+fn refused(
+    alloc: Global,
+    refusal: Refusal,
+    before: &str,
+    after: &str,
+) -> Result<String, AllocError> {
+    if before == after {
+        return format!(in alloc; "{refusal}");
+    }
+    format!(in alloc; "{refusal}, but the session is {after}")
+}
+
+/// What a call answers, or why it is refused.
 fn answer_or_refusal(alloc: Global, session: &mut Session, call: Call) -> Answer {
-    let (nodes_before, labels_before) = (nodes(alloc, session)?, labels_of(alloc, session)?);
+    let before = state(alloc, session)?;
     match answer(alloc, session, call) {
         Ok(answer) => Ok(answer),
         Err(refusal) => {
-            let (nodes, labels) = (nodes(alloc, session)?, labels_of(alloc, session)?);
-            if nodes == nodes_before && labels == labels_before {
-                return Ok(format!(in alloc; "{refusal}")?);
-            }
-            Ok(format!(in alloc; "{refusal}, but the session is {nodes} {labels}")?)
+            let after = state(alloc, session)?;
+            Ok(refused(alloc, refusal, before.as_str(), after.as_str())?)
         }
     }
 }
