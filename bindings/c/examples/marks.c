@@ -6,7 +6,8 @@
 #include <stdlib.h>
 #include <string.h>
 
-/* A node that is kept: its kind, the bytes of its text, and its number, or 0 while there is no such node. */
+/* A node that is kept: its kind, the bytes of its text, and its number, or 0 while there is no such node. Then the bytes say
+ * where its text is now, so that the node can be found again. */
 typedef struct mark {
     uint32_t kind;
     typst_range range;
@@ -87,33 +88,49 @@ static size_t after(size_t byte, const change *edit)
     return byte - edit->range.end + edit->range.start + edit->added;
 }
 
+/* Finds a mark by the first byte of its node, which is now at `start`, wherever the node ends. Text that was inserted directly
+ * before that byte may be part of the node. */
+static bool find_over(typst_session *session, mark *kept, const change *edit, size_t start)
+{
+    mark grown = *kept;
+
+    if (find_at(session, kept, start, NULL)) return true;
+    if (edit->range.end != grown.range.start) return false;
+    if (!find_at(session, &grown, edit->range.start, NULL) || grown.range.end <= start) return false;
+    *kept = grown;
+    return true;
+}
+
 /* Follows a mark over an edit that was done. An edit at an end of the mark's bytes may be part of its node or not. If no node
  * has the bytes, the node is one that begins where the first byte is now. The mark is gone if the edit replaced that byte. */
 static void follow(typst_session *session, mark *kept, const change *edit)
 {
-    typst_range old = kept->range, now = old, gone = edit->range;
-    size_t start;
+    typst_range old = kept->range, gone = edit->range;
+    size_t start, end = 0;
 
     if (kept->gone || find_by_number(session, kept, &edit->done)) return;
-    if (old.end <= gone.start && find_at(session, kept, old.start, &old.end)) return;
+    if (old.end <= gone.start) {
+        end = old.end;
+        if (find_at(session, kept, old.start, &end)) return;
+    }
     if (gone.end <= old.start) {
-        now = (typst_range){after(old.start, edit), after(old.end, edit)};
-        if (find_at(session, kept, now.start, &now.end)) return;
+        end = after(old.end, edit);
+        if (find_at(session, kept, after(old.start, edit), &end)) return;
     }
     if (old.start <= gone.start && gone.end <= old.end) {
-        now = (typst_range){old.start, after(old.end, edit)};
-        if (find_at(session, kept, now.start, &now.end)) return;
+        end = after(old.end, edit);
+        if (find_at(session, kept, old.start, &end)) return;
     }
-    if (gone.end <= old.start && gone.start < old.start) {
+    if (gone.end <= old.start) {
         start = after(old.start, edit);
-    } else if (old.start < gone.start || gone.end == old.start) {
+    } else if (old.start < gone.start) {
         start = old.start;
     } else {
         kept->gone = true;
         return;
     }
-    if (find_at(session, kept, start, NULL)) return;
-    kept->range = now;
+    if (find_over(session, kept, edit, start)) return;
+    kept->range = (typst_range){start, end > start ? end : start};
     kept->number = 0;
 }
 
@@ -188,6 +205,9 @@ int main(void)
     /* A raw text begins, and hides what comes after it until it ends. */
     edit(&session, marks, count, (typst_range){38, 38}, " `");
     edit(&session, marks, count, (typst_range){40, 40}, "x`");
+    /* A line is typed directly before the last heading, which is no heading until the line ends. */
+    edit(&session, marks, count, (typst_range){61, 61}, "N");
+    edit(&session, marks, count, (typst_range){62, 62}, "\n");
     typst_free(&session);
     return 0;
 }

@@ -2,7 +2,8 @@
 use std::ops::Range;
 use typst_tree::{ColumnUnit, Edited, Error, FileId, Node, Side, Source, Span, SyntaxKind};
 
-/// A node that is kept: its kind, the bytes of its text, and its span, or `None` while there is no such node.
+/// A node that is kept: its kind, the bytes of its text, and its span, or `None` while there is no such node. Then the bytes
+/// say where its text is now, so that the node can be found again.
 struct Mark {
     kind: SyntaxKind,
     range: Range<usize>,
@@ -58,9 +59,9 @@ impl Change {
 
     /// Where the first of some bytes is now. `None` if the edit replaced it.
     fn first_byte(&self, bytes: &Range<usize>) -> Option<usize> {
-        if self.range.end <= bytes.start && self.range.start < bytes.start {
+        if self.range.end <= bytes.start {
             Some(self.after(bytes.start))
-        } else if bytes.start < self.range.start || self.range.end == bytes.start {
+        } else if bytes.start < self.range.start {
             Some(bytes.start)
         } else {
             None
@@ -84,6 +85,17 @@ fn mark_at(source: &Source, kind: SyntaxKind, start: usize, end: Option<usize>) 
     Ok(found)
 }
 
+/// The node of a mark, found by its first byte, which is now at `start`, wherever the node ends. Text that was inserted
+/// directly before that byte may be part of the node.
+fn mark_over(source: &Source, mark: &Mark, change: &Change, start: usize) -> Result<Option<Mark>, Error> {
+    let found = mark_at(source, mark.kind, start, None)?;
+    if found.is_some() || change.range.end != mark.range.start {
+        return Ok(found);
+    }
+    let grown = mark_at(source, mark.kind, change.range.start, None)?;
+    Ok(grown.filter(|grown| start < grown.range.end))
+}
+
 /// The mark after an edit that was done. `None` if the edit replaced the first byte of the node.
 fn follow(source: &Source, mark: &Mark, change: &Change) -> Result<Option<Mark>, Error> {
     if let Some(span) = mark.span {
@@ -102,13 +114,13 @@ fn follow(source: &Source, mark: &Mark, change: &Change) -> Result<Option<Mark>,
     let Some(start) = change.first_byte(&mark.range) else {
         return Ok(None);
     };
-    // The end of a node may move further than the edit does.
-    if let Some(found) = mark_at(source, mark.kind, start, None)? {
+    if let Some(found) = mark_over(source, mark, change, start)? {
         return Ok(Some(found));
     }
+    let end = places.last().map_or(start, |range| range.end);
     Ok(Some(Mark {
         kind: mark.kind,
-        range: places.last().cloned().unwrap_or(start..start),
+        range: start..end,
         span: None,
     }))
 }
@@ -169,5 +181,8 @@ fn main() -> Result<(), Error> {
     edit(&mut source, &mut marks, 40..40, "= ")?;
     // A raw text begins, and hides what comes after it until it ends.
     edit(&mut source, &mut marks, 38..38, " `")?;
-    edit(&mut source, &mut marks, 40..40, "x`")
+    edit(&mut source, &mut marks, 40..40, "x`")?;
+    // A line is typed directly before the last heading, which is no heading until the line ends.
+    edit(&mut source, &mut marks, 61..61, "N")?;
+    edit(&mut source, &mut marks, 62..62, "\n")
 }

@@ -5,7 +5,8 @@ use typst_markup::Markup;
 use typst_source::{Edited, Source, TextEdit};
 use typst_tree::{LinkedNode, Side, Span, SyntaxKind};
 
-/// A node that a tool keeps: its kind, the bytes of its text, and its span, or `None` while there is no such node.
+/// A node that a tool keeps: its kind, the bytes of its text, and its span, or `None` while there is no such node. Then the
+/// bytes say where its text is now, so that the node can be found again.
 #[derive(Drop)]
 pub(crate) struct Mark {
     pub(crate) kind: SyntaxKind,
@@ -69,9 +70,9 @@ fn moved(
 
 /// Where the first of some bytes is after an edit. `None` if the edit replaced it.
 fn first_byte(bytes: &Range<usize>, edit: &TextEdit) -> Option<usize> {
-    if edit.range.end <= bytes.start && edit.range.start < bytes.start {
+    if edit.range.end <= bytes.start {
         after(bytes.start, edit)
-    } else if bytes.start < edit.range.start || edit.range.end == bytes.start {
+    } else if bytes.start < edit.range.start {
         Some(bytes.start)
     } else {
         None
@@ -95,6 +96,23 @@ fn mark_at(
         node = at.parent();
     }
     Ok(found)
+}
+
+/// The node of a mark after an edit, found by its first byte, which is now at `start`, wherever the node ends. Text that
+/// was inserted directly before that byte may be part of the node.
+fn mark_over(
+    alloc: Global,
+    root: &LinkedNode,
+    mark: &Mark,
+    edit: &TextEdit,
+    start: usize,
+) -> Result<Option<Mark>, AllocError> {
+    let found = mark_at(alloc, root, mark.kind, start, None)?;
+    if found.is_some() || edit.range.end != mark.range.start {
+        return Ok(found);
+    }
+    let grown = mark_at(alloc, root, mark.kind, edit.range.start, None)?;
+    Ok(grown.filter(|grown| start < grown.range.end))
 }
 
 /// The mark after an edit that was done. `None` if the edit replaced the first byte of the node.
@@ -122,14 +140,13 @@ pub(crate) fn follow(
     let Some(start) = first_byte(&mark.range, edit) else {
         return Ok(None);
     };
-    if let Some(found) = mark_at(alloc, &root, mark.kind, start, None)? {
+    if let Some(found) = mark_over(alloc, &root, mark, edit, start)? {
         return Ok(Some(found));
     }
+    let end = places.last().map_or(start, |range| range.end);
     Ok(Some(Mark {
         kind: mark.kind,
-        range: places
-            .last()
-            .map_or(start..start, |range| range.start..range.end),
+        range: start..end,
         span: None,
     }))
 }
