@@ -102,7 +102,7 @@ static bool find_over(typst_session *session, mark *kept, const change *edit, si
 }
 
 /* Follows a mark over an edit that was done. An edit at an end of the mark's bytes may be part of its node or not. If no node
- * has the bytes, the node is one that begins where the first byte is now. The mark is gone if the edit replaced that byte. */
+ * has the bytes, the node is one that begins where the first byte is now. If the edit replaced that byte, the mark is gone. */
 static void follow(typst_session *session, mark *kept, const change *edit)
 {
     typst_range old = kept->range, gone = edit->range;

@@ -96,7 +96,8 @@ fn mark_over(source: &Source, mark: &Mark, change: &Change, start: usize) -> Res
     Ok(grown.filter(|grown| start < grown.range.end))
 }
 
-/// The mark after an edit that was done. `None` if the edit replaced the first byte of the node.
+/// The mark after an edit that was done. `None` if the edit replaced the first byte of the node, and no node of its kind
+/// has the bytes that are left and what came in between.
 fn follow(source: &Source, mark: &Mark, change: &Change) -> Result<Option<Mark>, Error> {
     if let Some(span) = mark.span {
         if let Some(node) = source.find(span)? {

@@ -115,7 +115,8 @@ fn mark_over(
     Ok(grown.filter(|grown| start < grown.range.end))
 }
 
-/// The mark after an edit that was done. `None` if the edit replaced the first byte of the node.
+/// The mark after an edit that was done. `None` if the edit replaced the first byte of the node, and no node of its kind
+/// has the bytes that are left and what came in between.
 pub(crate) fn follow(
     alloc: Global,
     source: &Source<Markup>,
