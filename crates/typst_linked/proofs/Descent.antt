@@ -1,9 +1,8 @@
 -- A search by a number on its way down from a root, with where the node's text begins.
-use Rattle.std.proofs.Common.{◌≡◌, ◌≢◌, ◌∙◌, ℕ, ◌+◌, ◌<◌, ◌≤◌, ◌^◌, length, take, List, [], ◌∷◌, Option, Some, None, get_or, ap, sym, refl, subst, arith, zero, suc}
+use Rattle.std.proofs.Common.{◌≡◌, ◌∙◌, ℕ, ◌+◌, ◌<◌, ◌≤◌, ◌^◌, length, take, List, [], ◌∷◌, Option, Some, None, get_or, ap, sym, refl, subst, arith, zero, suc}
 use Rattle.std.specs.Prelude.{slice_get}
 use Rattle.std.specs.Option.{option_map}
 use Rattle.std.specs.declared.ops.Range.{Range}
-use Rattle.std.proofs.lemmas.Option.{slice_get_within}
 use Rattle.typst_node.specs.Tree.{Tree, trees, IsInner}
 use Rattle.typst_node.specs.Preorder.{at}
 use Rattle.typst_node.specs.Count.{count}
@@ -14,7 +13,7 @@ use Rattle.typst_node.specs.Paths.{no_tree, tree_at}
 use Rattle.typst_node.proofs.PathSteps.{if_some_value}
 use Rattle.typst_linked.specs.Place.{Place, subtree, below}
 use Rattle.typst_node.specs.BinaryDigits.{binary_digits}
-use Rattle.typst_linked.specs.Search.{with_number, found_below}
+use Rattle.typst_linked.specs.Search.{with_number}
 use Rattle.typst_linked.specs.Linked.{IsAt}
 use Rattle.typst_linked.specs.DiagPlaces.{node_range}
 use Rattle.typst_node.proofs.Offsets.{offset-root, length-text, text_of_all-take}

@@ -1,4 +1,4 @@
-use Rattle.std.proofs.Common.{◌≡◌, ◌∙◌, ◌<◌, List, Some, length, arith, refl, ap, sym}
+use Rattle.std.proofs.Common.{◌∙◌, List, length, arith, refl, ap, sym}
 use Rattle.std.specs.Prelude.{slice_get}
 use Rattle.std.proofs.lemmas.Option.{slice_get_read, slice_get_within}
 use Rattle.typst_node.specs.Tree.{Tree, trees}

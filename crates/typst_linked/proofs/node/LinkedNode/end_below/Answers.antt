@@ -1,4 +1,4 @@
-use Rattle.std.proofs.Common.{◌≡◌, ◌+◌, ◌∙◌, length, take, ap, arith}
+use Rattle.std.proofs.Common.{◌+◌, ◌∙◌, length, take, ap, arith}
 use Rattle.typst_node.specs.Tree.{Tree, trees}
 use Rattle.typst_node.specs.Text.{text_of_all}
 use Rattle.typst_linked.specs.Place.{last_step}

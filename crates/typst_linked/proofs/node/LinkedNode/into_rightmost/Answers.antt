@@ -1,4 +1,3 @@
-use Rattle.std.proofs.Common.{◌∙◌, ap}
 use Rattle.typst_linked.specs.Leaves.{is_good}
 use Rattle.typst_linked.proofs.Walks.{last_here}
 use Rattle.typst_linked.proofs.node.LinkedNode.into_rightmost.Goals as goal
