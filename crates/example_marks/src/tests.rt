@@ -1,4 +1,4 @@
-// Tests of marks: a mark stays at its node, or says that the node is gone.
+//! Tests of marks: a mark stays at its node, or says that the node is gone.
 use crate::marks::{Mark, follow};
 use std::alloc::{AllocError, Global};
 use std::ops::Range;

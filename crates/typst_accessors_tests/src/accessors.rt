@@ -1,4 +1,4 @@
-// Tests of the accessors of typed views that answer a value, each by its number.
+//! Tests of the accessors of typed views that answer a value, each by its number.
 use crate::shown::{answer, assert_answer};
 use std::test::Fail;
 

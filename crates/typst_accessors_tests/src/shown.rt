@@ -1,4 +1,4 @@
-// What an accessor answers, in words.
+//! What an accessor answers, in words.
 use std::alloc::{AllocError, Global};
 use std::process::Abort;
 use std::test::Fail;

@@ -1,3 +1,4 @@
+//! Whether a tree has errors and warnings.
 ghost use Rattle.std.specs.Prelude.{◌≡◌, ◌||◌, ◌&&◌, true, false};
 
 /// Whether a subtree holds an error, and whether it holds a warning.

@@ -1,3 +1,4 @@
+//! Nodes of a syntax tree.
 ghost use Rattle.std.specs.Slice.Iter.{iter_rest};
 ghost use Rattle.std.specs.Prelude.{◌≡◌, ◌+◌, ◌^◌, ◌<◌, ◌≤◌, ◌==◌, ◌++◌, ◌↔◌, [], length, take, string_bytes, IfOk, OnOk, IsTrue};
 ghost use Rattle.typst_node.specs.Tree.{trees, kind_of, IsInner, IsLeaf};

@@ -1,4 +1,4 @@
-// Calls on a session, each with what it answers.
+//! Calls on a session, each with what it answers.
 use crate::answers::Answer;
 use crate::finding::{self, FindCall};
 use crate::held::{self, HeldCall};

@@ -1,4 +1,4 @@
-// Documents by their own calls, which a program in Rattle makes without a session.
+//! Documents by their own calls, which a program in Rattle makes without a session.
 use crate::answers::{Answer, edited, place, value};
 use DocumentCall::{ByteToLineColumn, Edit, LineColumnToByte, Shown};
 use std::alloc::Global;

@@ -1,4 +1,4 @@
-// Finding nodes of the tree that a session holds.
+//! Finding nodes of the tree that a session holds.
 use crate::answers::{Answer, found, value};
 use crate::calls::Call::{Find, Held};
 use crate::calls::{Call, follow};

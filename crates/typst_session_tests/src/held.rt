@@ -1,4 +1,4 @@
-// The tree and the document that a session holds.
+//! The tree and the document that a session holds.
 use crate::answers::{Answer, done, edited, window};
 use crate::calls::Call::{Held, Labels, Nodes, Stack};
 use crate::calls::{Call, follow};

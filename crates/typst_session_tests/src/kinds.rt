@@ -1,4 +1,4 @@
-// Kinds by their numbers and names, for which no session is needed.
+//! Kinds by their numbers and names, for which no session is needed.
 use crate::answers::{Answer, value, written};
 use crate::calls::Call::Kind;
 use crate::calls::{Call, follow};

@@ -1,4 +1,4 @@
-// Lines and columns of the document that a session holds.
+//! Lines and columns of the document that a session holds.
 use crate::answers::{Answer, place, value};
 use crate::calls::Call::{Held, Line};
 use crate::calls::{Call, follow};

@@ -1,4 +1,4 @@
-// Reading nodes of the tree that a session holds.
+//! Reading nodes of the tree that a session holds.
 use crate::answers::{Answer, info, listed, written};
 use crate::calls::Call::{Held, Read};
 use crate::calls::{Call, follow};

@@ -1,4 +1,4 @@
-// What refusals say that the other tests don't see.
+//! What refusals say that the other tests don't see.
 use std::test::Fail;
 use typst_session::Refusal;
 

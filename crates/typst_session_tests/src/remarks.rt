@@ -1,4 +1,4 @@
-// The diagnostics and the views of the tree that a session holds.
+//! The diagnostics and the views of the tree that a session holds.
 use crate::answers::{Answer, ended, written};
 use crate::calls::Call::{Held, Remark, Stack};
 use crate::calls::{Call, follow};

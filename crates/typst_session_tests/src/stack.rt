@@ -1,4 +1,4 @@
-// Nodes that are built on the stack.
+//! Nodes that are built on the stack.
 use crate::answers::{Answer, done};
 use crate::calls::Call::{Nodes, Stack};
 use crate::calls::{Call, follow};

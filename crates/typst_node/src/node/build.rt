@@ -1,3 +1,4 @@
+//! Making nodes.
 ghost use Rattle.std.specs.Prelude.{◌≡◌, ◌≢◌, ◌≤◌, ◌↔◌, [], length, IfOk, IsErrOf, IsOk};
 ghost use Rattle.typst_base.specs.declared.kind.SyntaxKind.TheVariants.{End, Error};
 ghost use Rattle.typst_node.specs.Tree.{leaf_tree, inner_tree};

@@ -1,4 +1,4 @@
-// Nodes of another kind, and errors in place of nodes.
+//! Nodes of another kind, and errors in place of nodes.
 ghost use Rattle.std.specs.Prelude.{◌≡◌, ◌≢◌, ◌&&◌, [], map, option_to_list, string_bytes, IfOk, OnErr, OnOk};
 ghost use Rattle.typst_base.specs.declared.kind.SyntaxKind.TheVariants.{Error};
 ghost use Rattle.typst_base.specs.KindClasses.{is_keyword_kind};

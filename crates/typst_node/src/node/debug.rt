@@ -1,4 +1,4 @@
-// Nodes written in one line, for programmers.
+//! Nodes written in one line, for programmers.
 use crate::node::{ErrorNode, Hint, Node, SyntaxNode, Warning};
 use std::fmt;
 use typst_base::SubRange;

@@ -1,4 +1,4 @@
-// What a tree reports: errors and warnings, with their places.
+//! What a tree reports: errors and warnings, with their places.
 ghost use Rattle.std.specs.Prelude.{◌≡◌, ◌≢◌, ◌++◌, ◌∷◌, ◌↔◌, [], map, string_bytes, IfOk, IsTrue, OnOk};
 ghost use Rattle.typst_node.specs.Diagnosis.{has_error, has_warning};
 ghost use Rattle.typst_node.specs.Diagnostics.{error_report, errors_of, placed, warning_report, warnings_of};

@@ -1,4 +1,4 @@
-// Equality of whole trees.
+//! Equality of whole trees.
 ghost use Rattle.std.specs.Prelude.{◌≡◌, ◌↔◌, IsTrue};
 ghost use Rattle.typst_node.specs.View.{content, below, IsConsistent};
 

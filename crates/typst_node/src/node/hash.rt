@@ -1,4 +1,4 @@
-// Hashes of whole trees.
+//! Hashes of whole trees.
 ghost use Rattle.std.specs.Prelude.{◌≡◌, fold, map, reverse};
 ghost use Rattle.typst_node.specs.Hashed.{sub_range_input, hint_input, hints_input, warning_input, warnings_input, content_input, label_input, tree_input};
 ghost use Rattle.typst_node.specs.Tree.{AsLeaf};

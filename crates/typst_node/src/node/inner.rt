@@ -1,4 +1,4 @@
-// What an inner node keeps about its children.
+//! What an inner node keeps about its children.
 ghost use Rattle.std.specs.Prelude.{◌≡◌, ◌↔◌, [], length, MatchOption, IfSome, IfOk, OnOk, IsErrOf};
 ghost use Rattle.typst_node.specs.Text.{text};
 ghost use Rattle.typst_node.specs.Count.{count, SumsFit};

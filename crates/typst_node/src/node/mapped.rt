@@ -1,4 +1,4 @@
-// Trees whose nodes get the places of mapped bytes.
+//! Trees whose nodes get the places of mapped bytes.
 ghost use Rattle.std.specs.Prelude.{◌≡◌, ◌+◌, ◌<◌, ◌≤◌, ◌↔◌, length, map, IsErr, IsErrOf, OnErr, OnOk};
 ghost use Rattle.typst_base.specs.SubRange.{interval};
 ghost use Rattle.typst_node.specs.Mapped.{IsMapped, mapped_hint, mapped_part, mapped_warning};

@@ -1,4 +1,4 @@
-// Numbers in order, and the test for this order.
+//! Numbers in order, and the test for this order.
 ghost use Rattle.std.specs.Prelude.{ℕ, List, ◌≡◌, ◌+◌, ◌-◌, ◌*◌, ◌/◌, ◌^◌, ◌<◌, ◌≤◌, ◌↔◌, length, map, OnOk, OnErr, IsErr, IsTrue};
 ghost use Rattle.typst_node.specs.Tree.{forest, IsInner};
 ghost use Rattle.typst_node.specs.Text.{text_of_all};

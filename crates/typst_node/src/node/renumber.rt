@@ -1,4 +1,4 @@
-// The renumbering of a window of children.
+//! The renumbering of a window of children.
 ghost use Rattle.std.specs.Prelude.{◌≡◌, ◌+◌, ◌*◌, ◌^◌, ◌≤◌, map, length, take, drop, slice_range};
 ghost use Rattle.typst_node.specs.Tree.{forest};
 ghost use Rattle.typst_node.specs.Count.{count_of_all};

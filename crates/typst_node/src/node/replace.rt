@@ -1,4 +1,4 @@
-// Replacements of children.
+//! Replacements of children.
 ghost use Rattle.std.specs.Prelude.{[], ◌≡◌, ◌+◌, ◌-◌, ◌^◌, ◌<◌, ◌≤◌, ◌↔◌, length, IfSome, IfNone, IsSome, Ok, IsOk, IfErr, IfOk, IsTrue, OnOk, OnErr, IsErrOf, MatchOption};
 ghost use Rattle.std.specs.List.{splice};
 ghost use Rattle.typst_node.specs.Tree.{forest, trees, IsInner};

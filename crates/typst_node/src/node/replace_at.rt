@@ -1,4 +1,4 @@
-// Replacements at any depth.
+//! Replacements at any depth.
 ghost use Rattle.std.specs.Prelude.{[], ◌∷◌, ◌≡◌, ◌+◌, ◌^◌, ◌<◌, ◌≤◌, ◌↔◌, suc, length, set, false, Ok, OnErr, IfOk, IfSome, IfNone, IfErr, IsSome, IsTrue};
 ghost use Rattle.typst_node.specs.Tree.{trees};
 ghost use Rattle.typst_node.specs.Text.{text, text_of_all};

@@ -1,4 +1,4 @@
-// The correction of what an inner node keeps about its children, after some of them were exchanged.
+//! The correction of what an inner node keeps about its children, after some of them were exchanged.
 ghost use Rattle.std.specs.Prelude.{◌≡◌, ◌+◌, ◌<◌, ◌≤◌, ◌||◌, ◌++◌, ◌↔◌, true, length, take, drop, slice_range, IsTrue};
 ghost use Rattle.std.specs.List.{list_any};
 ghost use Rattle.typst_node.specs.Tree.{forest};

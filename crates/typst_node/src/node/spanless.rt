@@ -1,4 +1,4 @@
-// The equality of nodes apart from spans and bounds.
+//! The equality of nodes apart from spans and bounds.
 ghost use Rattle.std.specs.Prelude.{◌≡◌, ◌↔◌, IsTrue, map, string_bytes};
 ghost use Rattle.typst_node.specs.Plain.{plain, unbounded};
 ghost use Rattle.typst_node.specs.Tree.{AsLeaf};

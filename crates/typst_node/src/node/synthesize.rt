@@ -1,4 +1,4 @@
-// Trees whose nodes all have one span.
+//! Trees whose nodes all have one span.
 ghost use Rattle.std.specs.Prelude.{◌≡◌, length, map};
 ghost use Rattle.typst_node.specs.Text.{text_of_all};
 ghost use Rattle.typst_node.specs.Synthesized.{synthesized, whole_hint, whole_warning};

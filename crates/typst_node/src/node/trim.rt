@@ -1,4 +1,4 @@
-// The nodes that two lists have alike at the beginning and at the end.
+//! The nodes that two lists have alike at the beginning and at the end.
 ghost use Rattle.std.specs.Prelude.{◌≡◌, ◌+◌, ◌-◌, ◌≤◌, length, reverse, slice_range};
 ghost use Rattle.typst_node.specs.ChangedChildren.{IsCommonBeginning, common_first, common_last};
 

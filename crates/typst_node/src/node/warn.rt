@@ -1,4 +1,4 @@
-// Errors, warnings and hints.
+//! Errors, warnings and hints.
 ghost use Rattle.std.specs.Prelude.{◌≡◌, ◌<◌, ◌∷◌, ◌++◌, ◌↔◌, [], length, map, None, string_bytes, vec_len, IfOk, IsTrue, OnErr, OnOk};
 ghost use Rattle.typst_node.specs.Hints.{error_tree, hint_for, hint_outermost, hinted, plain_hints, CanHint};
 ghost use Rattle.typst_node.specs.Warnings.{part_for, warned, warning, FitsRange};

@@ -1,4 +1,4 @@
-// The first window of children that has room for new numbers.
+//! The first window of children that has room for new numbers.
 ghost use Rattle.std.specs.Prelude.{◌≡◌, ◌+◌, ◌*◌, ◌-◌, ◌^◌, ◌<◌, ◌≤◌, ◌↔◌, IfSome, MatchOption, IsTrue};
 ghost use Rattle.typst_node.specs.Count.{count_of_all};
 ghost use Rattle.typst_node.specs.OpenNumbers.{open_from, open_to};
