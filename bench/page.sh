@@ -23,9 +23,15 @@ cd "$room"
 cp "$top/examples/letter.typ" "$top/examples/letter.edits" .
 : >empty.typ
 printf 'A <script>alert(1)</script> & "two" &amp; `raw`\n' >marks.typ
-"$program" letter.typ --edits letter.edits --page letter.html
-"$program" empty.typ --page empty.html
-"$program" marks.typ --page marks.html
+
+# Writes a page of a text with its edits: FILE EDITS PAGE.
+write_page() {
+  "$program" <(printf '%s\0' page "$@") .
+}
+
+write_page letter.typ letter.edits letter.html
+write_page empty.typ "" empty.html
+write_page marks.typ "" marks.html
 
 # Runs the browser on a page.
 open_page() {

@@ -3,7 +3,7 @@
 
     bench/show.py [--programs FOLDER]
 
-Each run is that of the program that `bench/show_program` picks by the words, as ./show does. `bench/shown.py` works out
+Each run is that of `typst_show_words`, and then of the program that it names, as ./show does. `bench/shown.py` works out
 what the programs must print, apart from them, from trees that no program here made:
 
 - each text of crates/typst_agreement/data must give the tree next to it, with --plain and without, and turn into the
@@ -12,13 +12,13 @@ what the programs must print, apart from them, from trees that no program here m
 - `examples/letter.typ` with its edit, the programs' own runs, and a look with remarks must give what the small trees
   below say, and the files with the wanted output must be the same;
 - each wrong input of the table below must give its message and status, and print nothing;
-- ./show must pick the program of the table below, the programs must name the same one for any three words of another
-  table, and `clap` must refuse the words that no program does;
+- words must be read as the tables below say, by the rules that the documents of `clap` give;
+- a program must refuse arguments that it can't have from ./show;
+- where the builds are the proved ones, ./show itself must do as the runs here do;
 - a page must have the text and the answers as text, even where they are markup.
 
 It runs the proved builds, which `rt ci` and `rt run` make, or the programs in the given folder.
 """
-import itertools
 import re
 import subprocess
 import sys
@@ -100,71 +100,193 @@ WRONG = [
     ("trees of two kinds", ["text.typ", "--plain", "--views"], {}, re.compile(r"error: the argument '--plain' cannot be used with '--views'\n"), 2),
     ("words that conflict", ["text.typ", "--plain", "--page", "x"], {}, re.compile(r"error: the argument '--plain' cannot be used with '--page <OUT.html>'\n"), 2),
 ]
-# Words, and the place of their program among the programs.
-PICKED = [
-    (["a.typ"], 0),
-    (["-", "--plain"], 0),
-    (["--edits", "e.script", "a.typ"], 0),
-    (["a.typ", "--edits=--views"], 0),
-    (["--", "--views"], 0),
-    (["a.typ", "--views"], 1),
-    (["--views", "-"], 1),
-    (["a.typ", "--page", "-"], 1),
-    (["--page=a.look", "a.typ"], 1),
-    (["--page", "a.script", "a.typ"], 1),
-    (["a.script"], 2),
-    (["--plain", "a.look"], 2),
-    (["--views", "a.look"], 2),
-    (["--edits", "e", "a.script"], 2),
-    (["--", "a.look"], 2),
-    ([], 3),
-    (["--help"], 3),
-    (["a.typ", "--version"], 3),
-    (["a.typ", "b.typ"], 3),
-    (["a.typ", "--page"], 3),
-    (["--page", "--views", "a.typ"], 3),
-    (["a.typ", "--plain", "--views"], 3),
+# Words, the place of their program among the programs, and the parts that it gets: the form, the file, the edits and the page.
+ASKED = [
+    (["a.typ"], 0, ["tree", "a.typ", "", ""]),
+    (["-"], 0, ["tree", "-", "", ""]),
+    (["-", "--plain"], 0, ["plain", "-", "", ""]),
+    (["--plain", "a.typ"], 0, ["plain", "a.typ", "", ""]),
+    (["--edits", "e", "a.typ"], 0, ["tree", "a.typ", "e", ""]),
+    (["a.typ", "--edits=e", "--plain"], 0, ["plain", "a.typ", "e", ""]),
+    (["a.typ", "--edits", "-"], 0, ["tree", "a.typ", "-", ""]),
+    (["a.typ", "--edits=-"], 0, ["tree", "a.typ", "-", ""]),
+    (["-", "--edits", "e"], 0, ["tree", "-", "e", ""]),
+    # A value after `=` may begin with a hyphen, and may have a further `=`.
+    (["a.typ", "--edits=--views"], 0, ["tree", "a.typ", "--views", ""]),
+    (["--edits=a=b", "a.typ"], 0, ["tree", "a.typ", "a=b", ""]),
+    # Only the file tells whether a tree is built by a script.
+    (["--edits", "e.script", "a.typ"], 0, ["tree", "a.typ", "e.script", ""]),
+    (["script"], 0, ["tree", "script", "", ""]),
+    # After `--` each word is a file.
+    (["--", "a.typ"], 0, ["tree", "a.typ", "", ""]),
+    (["a.typ", "--"], 0, ["tree", "a.typ", "", ""]),
+    (["--", "--views"], 0, ["tree", "--views", "", ""]),
+    (["--plain", "--", "-h"], 0, ["plain", "-h", "", ""]),
+    (["--", "--"], 0, ["tree", "--", "", ""]),
+    (["--", "-"], 0, ["tree", "-", "", ""]),
+    (["two words\nand a line.typ"], 0, ["tree", "two words\nand a line.typ", "", ""]),
+    ([" "], 0, ["tree", " ", "", ""]),
+    (["\u00e4 $x `y` 'z' \"w\" \\ *"], 0, ["tree", "\u00e4 $x `y` 'z' \"w\" \\ *", "", ""]),
+    (["a.typ", "--views"], 1, ["views", "a.typ", "", ""]),
+    (["--views", "-"], 1, ["views", "-", "", ""]),
+    (["--views", "--edits", "e", "a.typ"], 1, ["views", "a.typ", "e", ""]),
+    (["a.typ", "--page", "p.html"], 1, ["page", "a.typ", "", "p.html"]),
+    (["a.typ", "--page", "-"], 1, ["page", "a.typ", "", "-"]),
+    (["-", "--page=-", "--edits=e"], 1, ["page", "-", "e", "-"]),
+    # A page has what views answer.
+    (["a.typ", "--views", "--page", "p"], 1, ["page", "a.typ", "", "p"]),
+    (["--page=a.look", "a.typ"], 1, ["page", "a.typ", "", "a.look"]),
+    (["--page", "a.script", "a.typ"], 1, ["page", "a.typ", "", "a.script"]),
+    (["--page=--plain", "a.typ"], 1, ["page", "a.typ", "", "--plain"]),
+    (["a.script"], 2, ["tree", "a.script", "", ""]),
+    ([".look"], 2, ["tree", ".look", "", ""]),
+    (["--plain", "a.look"], 2, ["plain", "a.look", "", ""]),
+    (["--views", "a.look"], 2, ["views", "a.look", "", ""]),
+    (["a.look", "--page", "p"], 2, ["page", "a.look", "", "p"]),
+    (["--edits", "e", "a.script"], 2, ["tree", "a.script", "e", ""]),
+    (["--", "-a.look"], 2, ["tree", "-a.look", "", ""]),
 ]
-# Up to three of these words are put together in all ways.
-ALPHABET = ["a.typ", "a.look", "-", "", "--plain", "--views", "--page", "--page=p", "--edits", "--edits=", "--", "-h", "--plain=x"]
-ELSEWHERE = "typst_show_words explains words, and another program does these: run ./show, which picks it\n"
+NEEDED = "the following required arguments were not provided:\n  <FILE>"
+NO_EDITS = "a value is required for '--edits <EDITS>' but none was supplied"
+NO_PAGE = "a value is required for '--page <OUT.html>' but none was supplied"
+# Words that are refused, and what `clap` says first.
+REFUSED = [
+    ([], NEEDED),
+    (["--plain"], NEEDED),
+    (["--"], NEEDED),
+    (["--edits", "e"], NEEDED),
+    ([""], "a value is required for '<FILE>' but none was supplied"),
+    (["a.typ", "b.typ"], "unexpected argument 'b.typ' found"),
+    (["a.typ", ""], "unexpected argument '' found"),
+    (["a.typ", "--", "--views"], "unexpected argument '--views' found"),
+    (["a.typ", "--trees"], "unexpected argument '--trees' found"),
+    (["a.typ", "--edit", "e"], "unexpected argument '--edit' found"),
+    (["a.typ", "--Plain"], "unexpected argument '--Plain' found"),
+    (["a.typ", "-p"], "unexpected argument '-p' found"),
+    (["--trees", "--help"], "unexpected argument '--trees' found"),
+    (["a.typ", "--edits"], NO_EDITS),
+    (["a.typ", "--edits="], NO_EDITS),
+    (["a.typ", "--edits", ""], NO_EDITS),
+    (["--edits", "--views", "a.typ"], NO_EDITS),
+    (["--edits", "--", "a.typ"], NO_EDITS),
+    (["a.typ", "--page"], NO_PAGE),
+    (["--page", "--views", "a.typ"], NO_PAGE),
+    (["--page=", "a.typ"], NO_PAGE),
+    (["--plain=x", "a.typ"], "unexpected value 'x' for '--plain' found; no more were expected"),
+    (["--views=", "a.typ"], "unexpected value '' for '--views' found; no more were expected"),
+    (["a.typ", "--plain", "--plain"], "the argument '--plain' cannot be used multiple times"),
+    (["--views", "--views", "a.typ"], "the argument '--views' cannot be used multiple times"),
+    (["--edits=e", "a.typ", "--edits", "e"], "the argument '--edits <EDITS>' cannot be used multiple times"),
+    (["--page=p", "--page=p", "a.typ"], "the argument '--page <OUT.html>' cannot be used multiple times"),
+    (["a.typ", "--plain", "--views"], "the argument '--plain' cannot be used with '--views'"),
+    # A conflict is told at the word that came first.
+    (["--page=p", "a.typ", "--plain"], "the argument '--page <OUT.html>' cannot be used with '--plain'"),
+]
+VERSION = "show 0.1.0\n"
+HELP = (TOP / "crates/typst_show_words/stdout").read_text()
+# Words that ask for help or for the version, wherever they stand before a word that is refused, and what is printed.
+EXPLAINED = [
+    (["--help"], HELP),
+    (["-h"], HELP),
+    (["a.typ", "--help"], HELP),
+    (["a.typ", "--plain", "-h", "--trees"], HELP),
+    (["--version"], VERSION),
+    (["-V"], VERSION),
+    (["a.typ", "--version"], VERSION),
+]
+# A program's place, and arguments that ./show doesn't give it: the parts, or none, and then other words.
+MISGIVEN = [
+    *((at, None, words) for at in range(3) for words in ([], ["a.typ"], ["a.typ", ".", "."])),
+    *((at, parts, ["."]) for at in range(3) for parts in ([], ["tree", "a.typ", ""], ["tree", "a.typ", "", "", ""])),
+    *((at, parts, ["."]) for at in range(3) for parts in (["trees", "a.typ", "", ""], ["", "a.typ", "", ""], ["tree", "", "", ""])),
+    *((at, parts, ["."]) for at in range(3) for parts in (["page", "a.typ", "", ""], ["tree", "a.typ", "", "p"], ["views", "a.typ", "", "p"])),
+    (0, ["views", "a.typ", "", ""], ["."]),
+    (0, ["page", "a.typ", "", "p"], ["."]),
+    (1, ["tree", "a.typ", "", ""], ["."]),
+    (1, ["plain", "a.typ", "e", ""], ["."]),
+]
+# Words that ./show itself is given, and standard input.
+GIVEN = [
+    (["text.typ"], b""),
+    (["--edits", "e", "text.typ"], b""),
+    (["-", "--plain"], TEXT.encode()),
+    (["text.typ", "--edits=-"], b'0..1 "=="\n'),
+    (["a b\nc.look", "--views"], b""),
+    (["--", "--views"], b""),
+    (["text.typ", "--page", "-"], b""),
+    (["none.typ"], b""),
+    (["--edits", "bad", "text.typ"], b""),
+    (["--help"], b""),
+    (["--trees"], b""),
+]
 
 
-def picked(words):
-    """The program that ./show runs for these words."""
-    ran = subprocess.run([TOP / "bench/show_program", *words], capture_output=True, text=True, check=True)
-    return ran.stdout.strip()
+def joined(parts):
+    """The parts as they are printed and read: each has a byte 0 after it."""
+    return "".join(part + "\0" for part in parts).encode()
 
 
 def run(programs, words, room, given=b""):
-    return subprocess.run([programs[picked(words)], *words], cwd=room, input=given, capture_output=True, check=False)
+    """The run of typst_show_words, or that of the program that it names."""
+    read = subprocess.run([programs["typst_show_words"], *words], cwd=room, stdin=subprocess.DEVNULL, capture_output=True, check=False)
+    if read.returncode or b"\0" not in read.stdout:
+        return read
+    name, parts = read.stdout.split(b"\0", 1)
+    return run_given(programs[name.decode()], parts, ["."], room, given)
 
 
-def other_of(program, words, room):
-    """What a program says of words: it names the program that does them, or does them."""
-    said = subprocess.run([program, *words], cwd=room, stdin=subprocess.DEVNULL, capture_output=True, check=False).stderr.decode()
-    if said == ELSEWHERE:
-        return "another"
-    name = program.name
-    found = re.fullmatch(rf"{name} doesn't do these words, which are for (\w+): run \./show, which picks the program by the words\n", said)
-    return found[1] if found else name
+def run_given(program, parts, words, room, given=b""):
+    """The run of a program that gets a file with the parts, and other words."""
+    with tempfile.NamedTemporaryFile() as file:
+        file.write(parts)
+        file.flush()
+        return subprocess.run([program, file.name, *words], cwd=room, input=given, capture_output=True, check=False)
 
 
-def wrongly_picked(programs):
-    """Where ./show picks another program than it should, or than the programs and `clap` say."""
-    names = [(words, picked(words), PROGRAMS[at]) for words, at in PICKED]
-    wrong = [f"{words} are for {wanted}, and ./show runs {name}" for words, name, wanted in names if name != wanted]
+def misread(programs):
+    """Where words are read otherwise than the tables say."""
+    wanted = [(words, joined([PROGRAMS[at], *parts]), "", 0) for words, at, parts in ASKED]
+    wanted += [(words, text.encode(), "", 0) for words, text in EXPLAINED]
+    wanted += [(words, b"", f"error: {said}\n", 2) for words, said in REFUSED]
+    wrong = []
+    for words, printed, said, status in wanted:
+        ran = subprocess.run([programs["typst_show_words"], *words], stdin=subprocess.DEVNULL, capture_output=True, check=False)
+        told = ran.stderr.decode()
+        is_said = told.startswith(said) if said else not told
+        if not is_said or (ran.stdout, ran.returncode) != (printed, status):
+            wrong.append(f"{words} give status {ran.returncode}, {ran.stdout!r} and {told!r}, and should give {status}, {printed!r} and {said!r}")
+    return wrong
+
+
+def misgiven(programs):
+    """Where a program takes arguments that it can't have from ./show."""
+    wrong = []
     with tempfile.TemporaryDirectory() as room:
-        for words in (list(it) for count in range(4) for it in itertools.product(ALPHABET, repeat=count)):
-            name = picked(words)
-            told = other_of(programs["typst_show"], words, room)
-            is_explained = other_of(programs["typst_show_words"], words, room) == "typst_show_words"
-            if (told, is_explained) != (name, name == "typst_show_words"):
-                wrong.append(f"./show runs {name} for {words}, typst_show names {told}, and clap's answer is {is_explained}")
-        fill(room, {"a.typ": TEXT, "a.look": "leaf 6 a\nroot\n"})
-        for words in (["a.typ"], ["a.typ", "--page", "p"], ["a.look", "--views"], ["--help"]):
-            named = {name: other_of(programs[name], words, room) for name in PROGRAMS[:3]}
-            wrong += [f"{name} names {it} for {words}" for name, it in named.items() if it != picked(words)]
+        fill(room, {"a.typ": TEXT, "e": ""})
+        for at, parts, words in MISGIVEN:
+            name = PROGRAMS[at]
+            if parts is None:
+                ran = subprocess.run([programs[name], *words], cwd=room, stdin=subprocess.DEVNULL, capture_output=True, check=False)
+            else:
+                ran = run_given(programs[name], joined(parts), words, room)
+            said = f"{name} can't do what its arguments ask: run ./show, which starts it with the right ones\n"
+            if (ran.stdout, ran.stderr.decode(), ran.returncode) != (b"", said, 2):
+                wrong.append(f"{name} with {parts} and {words} ends with {ran.returncode}, {ran.stdout!r} and {ran.stderr!r}")
+    return wrong
+
+
+def otherwise_shown(programs):
+    """Where ./show itself, which must run the proved builds, does otherwise than the runs here."""
+    wrong = []
+    files = {"text.typ": TEXT, "--views": "= B\n", "e": '0..1 "=="\n', "bad": "x\n", "a b\nc.look": "leaf 6 a\nroot\n"}
+    with tempfile.TemporaryDirectory() as room:
+        fill(room, files)
+        for words, given in GIVEN:
+            ran = subprocess.run([TOP / "show", *words], cwd=room, input=given, capture_output=True, check=False)
+            wanted = run(programs, words, room, given)
+            said = ran.stderr.removeprefix(b"run: the proved build\n")
+            if (ran.stdout, said, ran.returncode) != (wanted.stdout, wanted.stderr, wanted.returncode):
+                wrong.append(f"./show {words} ends with {ran.returncode}, {ran.stdout!r} and {ran.stderr!r}")
     return wrong
 
 
@@ -466,10 +588,12 @@ def main():
         return 1
     wrong = [line for row in WRONG for line in told_wrong(programs, *row)]
     different, views = differing_views(programs)
-    wrong += wrongly_picked(programs) + differing_pairs(programs) + differing_edits(programs) + different
+    wrong += misread(programs) + misgiven(programs) + ([] if folder else otherwise_shown(programs))
+    wrong += differing_pairs(programs) + differing_edits(programs) + different
     wrong += differing_pages(programs) + differing_typing(programs) + differing_paste(programs) + escaped(programs) + examples(programs)
     pairs = len(list(PAIRS.glob("*.typ")))
     counts = f"{pairs} texts with their trees and edits, {views} trees with their answers, {len(WRONG)} wrong inputs"
+    counts += f", {len(ASKED) + len(REFUSED) + len(EXPLAINED)} lists of words, {len(MISGIVEN)} of wrong arguments"
     print("\n".join([*wrong, f"{counts}, {len(wrong)} differences"]))
     return 1 if wrong else 0
 

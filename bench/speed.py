@@ -4,6 +4,7 @@ time of a step: the least of its turns, their median, and by how many percent th
 
     bench/speed.py                      times the proved build of crates/typst_bench, and makes it if it isn't there
     bench/speed.py OTHER                takes turns with another program, such as an older commit's crates/typst_bench/out/typst_bench
+    bench/speed.py --build PROGRAM      times PROGRAM in place of the proved build, such as one of bench/unproved.py
     bench/speed.py --only WORD          times the rows whose operation has this word; the option may be repeated
     bench/speed.py --turns N            takes N turns instead of 7
     bench/speed.py --document           also writes what it prints into docs/PERFORMANCE.md, after the heading of the figures
@@ -15,7 +16,8 @@ It prints that line again with a check sum and the nanoseconds of processor time
 it ends with another status, and its part of the row stays empty.
 
 Each turn of a row is a process of its own, first of this build, then of the other one. The script compares each check sum with one that
-it works out itself, from what the tree or the text of the row is.
+it works out itself, from what the tree or the text of the row is. A build that isn't proved needs a larger stack for the chain of 50,000
+nodes: `ulimit -s unlimited`.
 
 What an operation needs is built, copied or parsed before, in memory that the process hasn't had before, and isn't timed. malloc is told
 to keep what is given back, so that later rounds take that memory.
@@ -329,7 +331,7 @@ def table(name, rows, programs, turns):
     for row in rows:
         here, *others = timed(row, programs, turns)
         if here is None:
-            sys.exit(f"speed: {PROGRAM} doesn't do {row.line!r}")
+            sys.exit(f"speed: {programs[0]} doesn't do {row.line!r}")
         written = [row.name, *cells(here, others[0] if others else None)]
         yield lined(written + [""] * (len(heads) - len(written)))
 
@@ -347,14 +349,21 @@ def memory(programs):
 
 def measured(programs, turns, only):
     """A line that says what was measured and where, and all tables, or only the rows whose operation has one of these words."""
-    commit = subprocess.run(["git", "rev-parse", "--short", "HEAD"], cwd=TOP, capture_output=True, text=True, check=False)
-    yield f"Commit {commit.stdout.strip()}, {turns} turns a row, load {os.getloadavg()[0]:.1f} at the beginning, {processor()}."
+    yield f"{timed_build(programs[0])}, {turns} turns a row, load {os.getloadavg()[0]:.1f} at the beginning, {processor()}."
     for name, rows in TABLES.items():
         chosen = [row for row in rows if not only or any(word in row.line for word in only)]
         if chosen:
             yield from table(name, chosen, programs, turns)
     if not only:
         yield from memory(programs)
+
+
+def timed_build(program):
+    """What is timed: the commit of the proved build, or the program that takes its place."""
+    if program != PROGRAM:
+        return str(program)
+    commit = subprocess.run(["git", "rev-parse", "--short", "HEAD"], cwd=TOP, capture_output=True, text=True, check=False)
+    return f"Commit {commit.stdout.strip()}"
 
 
 def processor():
@@ -380,12 +389,16 @@ def proved():
 def asked():
     words = argparse.ArgumentParser(description="Times the library's operations.")
     words.add_argument("other", nargs="?", type=Path, metavar="OTHER")
+    words.add_argument("--build", type=Path, metavar="PROGRAM")
     words.add_argument("--only", action="append", default=[], metavar="WORD")
     words.add_argument("--turns", type=int, default=TURNS, metavar="N")
     words.add_argument("--document", action="store_true")
     words.add_argument("--check", action="store_true")
     words.add_argument("--wanted", action="store_true")
-    return words.parse_args()
+    asked_for = words.parse_args()
+    if asked_for.document and asked_for.build:
+        words.error("the document has figures of the proved build: give --document without --build")
+    return asked_for
 
 
 def main():
@@ -398,7 +411,7 @@ def main():
         said = "the check sums are right" if is_right else "crates/typst_bench/stdout is out of date: run bench/speed.py --wanted"
         print(f"speed: {said}")
         return 0 if is_right else 1
-    programs = [proved(), *([words.other.resolve()] if words.other else [])]
+    programs = [words.build.resolve() if words.build else proved(), *([words.other.resolve()] if words.other else [])]
     said = []
     for line in measured(programs, words.turns, words.only):
         print(line, flush=True)

@@ -4,10 +4,11 @@ ghost use Rattle.typst_answers.specs.Written.{Adds, IsRefused, IsWritten};
 ghost use Rattle.typst_answers.specs.declared.form.Form.TheVariants.{Paths};
 
 use crate::form::Form;
-use crate::lists::{Ends, both, both_of};
+use crate::lists::{Ends, both, both_of, collected};
 use crate::place::Place;
 use std::alloc::{AllocError, Global};
 use std::fmt::{Debug, Display};
+use typst_atoms::same_views::Parts;
 use typst_tree::ast::{AstNode, Expr, Exprs, Ident, Items, Pattern};
 use typst_tree::{LinkedNode, SyntaxNode};
 
@@ -123,8 +124,18 @@ impl<'t> Answers<'t> {
 
     /// Writes the beginning of an answer's line.
     pub fn begin(&mut self, what: &str) {
-        let beginning = self.form.beginning(self.alloc, self.head.as_str(), what);
-        self.put_made(beginning);
+        self.put_head();
+        self.put(what);
+        self.put(self.form.separator());
+    }
+
+    /// Writes the place that the line is about.
+    fn put_head(&mut self) {
+        if let Ok(written) = &mut self.text
+            && written.push_str(self.head.as_str()).is_err()
+        {
+            self.text = Err(AllocError);
+        }
     }
 
     /// Ends a line.
@@ -151,9 +162,14 @@ impl<'t> Answers<'t> {
 
     /// Writes `NAME(VIEW)`.
     pub fn put_wrapped<'v, T: AstNode<'v>>(&mut self, name: &str, view: T) {
+        self.put_wrapped_place(name, Place::of(view));
+    }
+
+    /// Writes `NAME(PLACE)`.
+    fn put_wrapped_place(&mut self, name: &str, place: Place) {
         self.put(name);
         self.put("(");
-        self.put_view(view);
+        self.put_place(place);
         self.put(")");
     }
 
@@ -208,26 +224,43 @@ impl<'t> Answers<'t> {
         self.line(what, format!(in alloc; "{value:?}"));
     }
 
+    /// Writes a line whose answer is a word.
+    pub fn word(&mut self, what: &str, word: &str) {
+        self.begin(what);
+        self.put(word);
+        self.end();
+    }
+
+    /// Writes a line whose answer is `true` or `false`.
+    pub fn flag(&mut self, what: &str, flag: bool) {
+        self.word(what, if flag { "true" } else { "false" });
+    }
+
     /// Writes a line whose answer is a number, or `none`.
     pub fn number<D: Display + Drop>(&mut self, what: &str, number: Option<D>) {
         match number {
             Some(number) => self.shown(what, number),
-            None => self.shown(what, "none"),
+            None => self.word(what, "none"),
         }
+    }
+
+    /// Writes a line whose answer is the place of a view.
+    fn place(&mut self, what: &str, place: Place) {
+        self.begin(what);
+        self.put_place(place);
+        self.end();
     }
 
     /// Writes a line whose answer is a view.
     pub fn view<'v, T: AstNode<'v>>(&mut self, what: &str, view: T) {
-        self.begin(what);
-        self.put_view(view);
-        self.end();
+        self.place(what, Place::of(view));
     }
 
     /// Writes a line whose answer is a view, or `none`.
     pub fn option<'v, T: AstNode<'v>>(&mut self, what: &str, view: Option<T>) {
         match view {
             Some(view) => self.view(what, view),
-            None => self.shown(what, "none"),
+            None => self.word(what, "none"),
         }
     }
 
@@ -249,27 +282,35 @@ impl<'t> Answers<'t> {
 
     /// Writes a line whose answer is a view, in parentheses after a name.
     pub fn wrapped<'v, T: AstNode<'v>>(&mut self, what: &str, name: &str, view: T) {
+        self.wrapped_place(what, name, Place::of(view));
+    }
+
+    /// Writes a line whose answer is the place of a view, in parentheses after a name.
+    fn wrapped_place(&mut self, what: &str, name: &str, place: Place) {
         self.begin(what);
-        self.put_wrapped(name, view);
+        self.put_wrapped_place(name, place);
         self.end();
     }
 
     /// Writes a line with the names that a pattern binds.
     pub fn names(&mut self, what: &str, names: Result<Vec<Ident>, AllocError>) {
         match names {
-            Ok(names) => self.listed(what, &names),
+            Ok(names) => match collected(self.alloc, &names) {
+                Ok(views) => self.listed(what, &views),
+                Err(_) => self.refuse(),
+            },
             Err(_) => self.refuse(),
         }
     }
 
     /// Writes a line whose answer is a list of views, in brackets.
-    fn listed<'v, T: AstNode<'v>>(&mut self, what: &str, views: &[T]) {
+    fn listed(&mut self, what: &str, views: &[Parts]) {
         self.begin(what);
         self.put("[");
         let entries = self.form.entries(views);
         for (index, view) in entries.iter().enumerate() {
             self.put_comma(index);
-            self.put_view(*view);
+            self.put_place(Place::of_parts(*view));
         }
         self.put_more(views.len().saturating_sub(entries.len()));
         self.put("]");
@@ -277,17 +318,17 @@ impl<'t> Answers<'t> {
     }
 
     /// Writes a line whose answer is a list of the views of one class.
-    pub fn items<'v, T: AstNode<'v> + PartialEq>(&mut self, what: &str, items: Items<'v, T>) {
+    pub fn items<'v, T: AstNode<'v>>(&mut self, what: &str, items: Items<'v, T>) {
         self.list(what, both_of(self.alloc, items));
     }
 
     /// Writes a line with the expressions of markup or of math, which are passed three times.
     pub fn expr_list(&mut self, front: Exprs, back: Exprs, mixed: Exprs) {
-        self.list("exprs", both(self.alloc, front, back, mixed));
+        self.list("exprs", both(self.alloc, front, back, mixed, parts_of_expr));
     }
 
     /// Writes a list, and whether it differs when it is read from the back, or from both ends in turn.
-    fn list<'v, T: AstNode<'v>>(&mut self, what: &str, ends: Result<Ends<T>, AllocError>) {
+    fn list(&mut self, what: &str, ends: Result<Ends, AllocError>) {
         match ends {
             Ok(ends) => {
                 self.listed(what, &ends.items);
@@ -297,10 +338,26 @@ impl<'t> Answers<'t> {
         }
     }
 
+    /// Writes a line if a list differs when it is read from the back, or from both ends in turn.
+    pub fn warn_of_ends(&mut self, ends: &Result<Ends, AllocError>) {
+        match ends {
+            Ok(ends) => self.warn_of(ends.agree),
+            Err(_) => self.refuse(),
+        }
+    }
+
     /// Writes a line if a list differs when it is read from another end.
-    pub fn warn_of(&mut self, ends_agree: bool) {
+    fn warn_of(&mut self, ends_agree: bool) {
         if !ends_agree {
             self.put("THE ENDS DIFFER\n");
         }
+    }
+}
+
+/// The kind and the node of an expression.
+fn parts_of_expr<'t>(expr: Expr<'t>) -> Parts<'t> {
+    Parts {
+        kind: expr.kind(),
+        node: expr.to_untyped(),
     }
 }

@@ -58,7 +58,7 @@ fn func_call(out: &mut Answers, call: FuncCall) {
 /// What the arguments of a call answers.
 fn args(out: &mut Answers, args: Args) {
     out.items("items", args.items());
-    out.shown("trailing_comma", args.trailing_comma());
+    out.flag("trailing_comma", args.trailing_comma());
 }
 
 /// What a closure answers.

@@ -1,4 +1,6 @@
 //! The forms in which answers are written.
+ghost use Rattle.std.specs.Prelude.{◌≡◌, take};
+ghost use Rattle.typst_answers.specs.declared.form.Form.TheVariants.{Paths, Ranges};
 
 use std::alloc::{AllocError, Global};
 use typst_tree::{LinkedNode, SyntaxKind};
@@ -20,11 +22,11 @@ pub enum Form {
 }
 
 impl Form {
-    /// The beginning of a line, up to its answer.
-    pub fn beginning(self, alloc: Global, head: &str, what: &str) -> Result<String, AllocError> {
+    /// What stands between the name of an accessor and its answer.
+    pub fn separator(self) -> &'static str {
         match self {
-            Form::Paths => format!(in alloc; "{head}{what} "),
-            Form::Ranges => format!(in alloc; "{what}: "),
+            Form::Paths => " ",
+            Form::Ranges => ": ",
         }
     }
 
@@ -65,7 +67,10 @@ impl Form {
     }
 
     /// The entries of a list that are written.
-    pub fn entries<T>(self, list: &[T]) -> &[T] {
+    pub fn entries<T>(self, list: &[T]) -> &[T]
+        ensures whole { self ≡ Paths → result.now ≡ list.now }
+        ensures cut { self ≡ Ranges → result.now ≡ take 8 list.now }
+    {
         match self {
             Form::Paths => list,
             Form::Ranges => list.get(..MOST_ENTRIES).unwrap_or(list),

@@ -40,16 +40,14 @@ fn renamed_import_item(out: &mut Answers, item: RenamedImportItem) {
 
 /// What the items of an import answer.
 fn import_items(out: &mut Answers, items: ImportItems) {
-    match both_of(out.alloc, items.iter()) {
-        Ok(ends) => {
-            import_item_list(out, &ends.items);
-            out.warn_of(ends.agree);
-        }
+    match items.iter().collect::<Vec<ImportItem>>(out.alloc) {
+        Ok(listed) => import_item_list(out, &listed),
         Err(_) => out.refuse(),
     }
+    out.warn_of_ends(&both_of(out.alloc, items.iter()));
 }
 
-/// Writes the items of an import, one per line.
+/// Writes the items of an import, one after the other.
 fn import_item_list(out: &mut Answers, items: &[ImportItem]) {
     out.begin("iter");
     out.put("[");
@@ -88,8 +86,8 @@ fn module_import(out: &mut Answers, import: ModuleImport) {
 /// What an import brings in.
 fn imports(out: &mut Answers, imports: Option<Imports>) {
     match imports {
-        None => out.shown("imports", "none"),
-        Some(Imports::Wildcard) => out.shown("imports", "Wildcard"),
+        None => out.word("imports", "none"),
+        Some(Imports::Wildcard) => out.word("imports", "Wildcard"),
         Some(Imports::Items(items)) => out.wrapped("imports", "Items", items),
     }
 }

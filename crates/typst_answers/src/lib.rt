@@ -13,6 +13,7 @@
 
 pub use answers::Answers;
 pub use form::Form;
+pub use typst_atoms::same_views::Parts;
 
 mod answers;
 mod code;

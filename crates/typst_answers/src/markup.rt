@@ -56,5 +56,5 @@ fn reference(out: &mut Answers, reference: Ref) {
 /// What an equation answers.
 fn equation(out: &mut Answers, equation: Equation) {
     out.view("body", equation.body());
-    out.shown("block", equation.block());
+    out.flag("block", equation.block());
 }

@@ -4,9 +4,10 @@ use crate::answers::Answers;
 use crate::lists::both;
 use crate::place::Place;
 use crate::subject::Subject;
+use typst_atoms::same_views::Parts;
 use typst_tree::ast::{
-    Math, MathArg, MathArgItem, MathArgs, MathAttach, MathCall, MathDelimited, MathFieldAccess,
-    MathFrac, MathRoot,
+    AstNode, Math, MathArg, MathArgItem, MathArgs, MathAttach, MathCall, MathDelimited,
+    MathFieldAccess, MathFrac, MathRoot,
 };
 use typst_tree::{SyntaxKind, SyntaxNode};
 
@@ -28,7 +29,7 @@ pub fn answer(out: &mut Answers, subject: Subject) {
 /// What the contents of an equation answer.
 fn math(out: &mut Answers, math: Math) {
     out.expr_list(math.exprs(), math.exprs(), math.exprs());
-    out.shown("was_deparenthesized", math.was_deparenthesized());
+    out.flag("was_deparenthesized", math.was_deparenthesized());
 }
 
 /// What a field in math answers.
@@ -51,18 +52,17 @@ fn math_args(out: &mut Answers, args: MathArgs) {
 
 /// Writes the items of arguments in math.
 fn content_items(out: &mut Answers, args: MathArgs) {
-    match both(
+    match args.content_items().collect::<Vec<MathArgItem>>(out.alloc) {
+        Ok(items) => math_content_items(out, &items),
+        Err(_) => out.refuse(),
+    }
+    out.warn_of_ends(&both(
         out.alloc,
         args.content_items(),
         args.content_items(),
         args.content_items(),
-    ) {
-        Ok(ends) => {
-            math_content_items(out, &ends.items);
-            out.warn_of(ends.agree);
-        }
-        Err(_) => out.refuse(),
-    }
+        parts_of_item,
+    ));
 }
 
 /// Writes the arguments in math.
@@ -70,6 +70,32 @@ fn arg_items(out: &mut Answers, args: MathArgs) {
     match args.arg_items().collect::<Vec<MathArg>>(out.alloc) {
         Ok(items) => math_arg_items(out, &items),
         Err(_) => out.refuse(),
+    }
+}
+
+/// The kind and the node of an item.
+fn parts_of_item<'t>(item: MathArgItem<'t>) -> Parts<'t> {
+    match item {
+        MathArgItem::Arg(arg) => Parts {
+            kind: arg.kind(),
+            node: arg.to_untyped(),
+        },
+        MathArgItem::Space(space) => Parts {
+            kind: space.kind(),
+            node: space.to_untyped(),
+        },
+        MathArgItem::Comma(_, node) => parts_of_token(node),
+        MathArgItem::Semicolon(_, node) => parts_of_token(node),
+        MathArgItem::LeftParen(_, node) => parts_of_token(node),
+        MathArgItem::RightParen(_, node) => parts_of_token(node),
+    }
+}
+
+/// The kind and the node of an item that is a sign.
+fn parts_of_token<'t>(node: &'t SyntaxNode) -> Parts<'t> {
+    Parts {
+        kind: node.kind(),
+        node: Some(node),
     }
 }
 

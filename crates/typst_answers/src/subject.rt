@@ -35,13 +35,12 @@ impl<'t> Subject<'t> {
         ensures blank { node_of_subject self.entry ≡ None
             → IsViewOf T.node_of T.view_kind T.proper T.blank None result }
     {
-        match self {
-            Subject::Node(node) => match node.cast() {
-                Some(view) => view,
-                None => T::placeholder(),
-            },
-            Subject::Blank(_) => T::placeholder(),
+        if let Subject::Node(node) = self
+            && let Some(view) = T::from_untyped(node)
+        {
+            return view;
         }
+        T::placeholder()
     }
 
     /// The place of the node or the placeholder. A placeholder has no place in the tree.

@@ -33,10 +33,10 @@ pub fn answer_reading(out: &mut Answers, subject: Subject) {
         SyntaxKind::Escape => out.debugged("get", subject.view::<Escape>().get()),
         SyntaxKind::Shorthand => out.debugged("get", subject.view::<Shorthand>().get()),
         SyntaxKind::MathShorthand => out.debugged("get", subject.view::<MathShorthand>().get()),
-        SyntaxKind::SmartQuote => out.shown("double", subject.view::<SmartQuote>().double()),
+        SyntaxKind::SmartQuote => out.flag("double", subject.view::<SmartQuote>().double()),
         SyntaxKind::MathText => out.debugged("get", subject.view::<MathText>().get()),
         SyntaxKind::MathPrimes => out.shown("count", subject.view::<MathPrimes>().count()),
-        SyntaxKind::Bool => out.shown("get", subject.view::<Bool>().get()),
+        SyntaxKind::Bool => out.flag("get", subject.view::<Bool>().get()),
         SyntaxKind::Int => out.shown("get", subject.view::<Int>().get()),
         SyntaxKind::Numeric => out.debugged("get", subject.view::<Numeric>().get()),
         SyntaxKind::Str => out.owned("get", subject.view::<Str>().get(out.alloc)),
@@ -60,5 +60,5 @@ fn math_ident(out: &mut Answers, ident: MathIdent) {
 fn raw(out: &mut Answers, raw: Raw) {
     out.items("lines", raw.lines());
     out.option("lang", raw.lang());
-    out.shown("block", raw.block(is_newline));
+    out.flag("block", raw.block(is_newline));
 }

@@ -50,8 +50,8 @@ fn of_code(out: &mut Answers, subject: Subject) {
 /// The answers of an expression.
 fn of_expr(out: &mut Answers, expr: Option<Expr>) {
     if let Some(expr) = expr {
-        out.shown("hash", expr.hash());
-        out.shown("is_literal", expr.is_literal());
+        out.flag("hash", expr.hash());
+        out.flag("is_literal", expr.is_literal());
     }
 }
 

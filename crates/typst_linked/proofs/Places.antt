@@ -1,9 +1,15 @@
 -- Places, and the last steps to them.
-use Rattle.std.proofs.Common.{◌≡◌, ℕ, ◌<◌, List, [], ◌∷◌, ◌++◌, length, Some, refl, sym, ◌∙◌}
+use Rattle.std.proofs.Common.{◌≡◌, ℕ, ◌<◌, false, true, List, [], ◌∷◌, ◌++◌, length, Option, None, Some, refl, sym, ◌∙◌}
+use Rattle.std.specs.Prelude.{IsSome}
 use Rattle.std.proofs.lemmas.Option.{slice_get_within}
 use Rattle.typst_node.specs.Tree.{Tree, trees}
 use Rattle.typst_node.proofs.PathSteps.{pushed}
 use Rattle.typst_linked.specs.Place.{Place, subtree, child_place, last_step}
+
+-- the tree that there is
+pub some_of : (o : Option Tree) → IsSome o → (t : Tree) × (o ≡ Some t)
+some_of (Some t) is = (t, refl)
+some_of None is = let no : false ≡ true = is in cc
 
 -- one node is at a place
 pub same_node : (s n : Tree) (p : Place) → subtree p ≡ Some s → subtree p ≡ Some n → s ≡ n

@@ -112,8 +112,6 @@ impl<'a> LinkedNode<'a> {
             ↔ ((begin_of self.now ≡ start) × (begin_of self.now + length (text t) ≡ end))) }
     {
         let range = self.range();
-        // Read for the proof: there is a node at this place, and its length gives the end of the range.
-        let _node = self.get();
         range.start == start && range.end == end
     }
 

@@ -1,7 +1,7 @@
 //! Walks from leaf to leaf.
 ghost use Rattle.std.specs.Prelude.{◌≡◌, ◌+◌, ◌≤◌, ◌↔◌, true, false, [], length, IfOk, IsTrue};
 ghost use Rattle.std.specs.Option.{ForSome};
-ghost use Rattle.typst_linked.specs.Place.{subtree, child_place, last_step, BeginsAt};
+ghost use Rattle.typst_linked.specs.Place.{subtree, child_place, last_step, BeginsAt, HasChild};
 ghost use Rattle.typst_node.specs.Tree.{trees};
 ghost use Rattle.typst_linked.specs.Search.{found_below, first_path, last_path};
 ghost use Rattle.typst_linked.specs.Leaves.{is_good, stop_behind, stop_before, elsewhere, later_from, earlier_up};
@@ -115,15 +115,11 @@ impl<'a> LinkedNode<'a> {
     pub fn next_leaf(&self, alloc: Global) -> Result<Option<Self>, AllocError>
         ensures { IfOk result (λ r. r ≡ elsewhere stop_behind self.now) }
     {
-        // Read for the proof: there is a node at this place, and its index is at most the number of its siblings.
-        let _node = self.get();
-        let _siblings = self.siblings();
         let Some(parent) = self.shared_parent() else {
             return Ok(None);
         };
-        let start = self.index() + 1;
         let begin = self.end_below(parent);
-        if let Some(leaf) = LinkedNode::leaf_from(parent, alloc, start, begin)? {
+        if let Some(leaf) = LinkedNode::leaf_behind(parent, alloc, self.index(), begin)? {
             return Ok(Some(leaf));
         }
         parent.next_leaf(alloc)
@@ -134,9 +130,6 @@ impl<'a> LinkedNode<'a> {
     pub fn prev_leaf(&self, alloc: Global) -> Result<Option<Self>, AllocError>
         ensures { IfOk result (λ r. r ≡ elsewhere stop_before self.now) }
     {
-        // Read for the proof: there is a node at this place, and its index is at most the number of its siblings.
-        let _node = self.get();
-        let _siblings = self.siblings();
         let Some(parent) = self.shared_parent() else {
             return Ok(None);
         };
@@ -178,20 +171,21 @@ impl<'a> LinkedNode<'a> {
         Ok(None)
     }
 
-    /// The first good leaf among the children of a node from the index `start` on. It skips children whose kind is
-    /// trivia. `begin` is where the text of the child at that index begins, if there is one.
-    fn leaf_from(
+    /// The first good leaf among the children of a node behind the child at the index `before`. It skips children whose
+    /// kind is trivia. `begin` is where the text of that child ends.
+    fn leaf_behind(
         parent: &Rc<LinkedNode<'a>>,
         alloc: Global,
-        start: usize,
+        before: usize,
         mut begin: usize,
     ) -> Result<Option<Self>, AllocError>
-        requires { BeginsAt parent.now.value start begin }
-        ensures { IfOk result (λ r. r ≡ found_below (λ t. later_from t start) parent.now.value) }
+        requires child { HasChild parent.now.value before }
+        requires begin { BeginsAt parent.now.value (before + 1) begin }
+        ensures { IfOk result (λ r. r ≡ found_below (λ t. later_from t (before + 1)) parent.now.value) }
     {
         let node = parent.get();
         let children = node.child_slice();
-        for index in start..children.len() {
+        for index in before + 1..children.len() {
             let next = &children[index];
             if !next.kind().is_trivia() {
                 if is_good_leaf(next) {
@@ -213,8 +207,6 @@ fn is_good_leaf(node: &SyntaxNode) -> bool
     ensures good { IsTrue result ↔ (is_good node.now ≡ true) }
     ensures childless { IsTrue result → trees node.now.children ≡ [] }
 {
-    // Read for the proof: only an inner node has children, and an inner node is neither a leaf nor an error.
-    let _children = node.child_slice();
     node.is_leaf() && !node.kind().is_trivia()
 }
 

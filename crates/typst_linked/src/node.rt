@@ -1,5 +1,5 @@
 //! A node of a borrowed tree with its parents.
-ghost use Rattle.std.specs.Prelude.{◌≡◌, ◌+◌, ◌<◌, ◌≤◌, [], length, take, Some, MatchOption, IfOk};
+ghost use Rattle.std.specs.Prelude.{◌≡◌, ◌+◌, ◌<◌, ◌≤◌, [], length, take, Some, MatchOption, IfOk, IsSome};
 ghost use Rattle.typst_node.specs.Tree.{Tree, trees};
 ghost use Rattle.typst_node.specs.Text.{text, text_of_all, offset};
 ghost use Rattle.typst_linked.specs.Place.{subtree, child_place, last_step, HasChild, BeginsAt};
@@ -127,8 +127,9 @@ impl<'a> LinkedNode<'a> {
 impl<'a> LinkedNode<'a> {
     /// The parent, which its children share.
     pub(crate) fn shared_parent(&self) -> Option<&Rc<LinkedNode<'a>>>
-        ensures { MatchOption result (self.now.path ≡ []) (λ p. self.now
+        ensures parent { MatchOption result (self.now.path ≡ []) (λ p. self.now
             ≡ child_place p.now.value (last_step self.now.path)) }
+        ensures there { IsSome (subtree self.now) }
     {
         self.parent.as_ref()
     }

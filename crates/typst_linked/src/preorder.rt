@@ -68,13 +68,12 @@ impl<'a> LinkedNode<'a> {
         ensures { IfOk result (λ next. MatchOption next (places_behind self.now ≡ []) (λ place. places_behind self.now
             ≡ places_from place)) }
     {
-        // Read for the proof: the index is at most the number of siblings, so the next one is a usize too.
-        let _siblings = self.siblings();
         let Some(parent) = self.shared_parent() else {
             return Ok(None);
         };
+        let siblings = parent.get().child_slice();
         let index = self.index() + 1;
-        if index < parent.get().child_slice().len() {
+        if index < siblings.len() {
             return Ok(Some(LinkedNode::nth_child(parent, index)?));
         }
         parent.beyond()

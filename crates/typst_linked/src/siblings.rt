@@ -31,9 +31,8 @@ impl<'a> LinkedNode<'a> {
     pub fn prev_sibling_with_trivia(&self) -> Result<Option<Self>, AllocError>
         ensures { IfOk result (λ r. r ≡ sibling before_it self.now) }
     {
-        // Read for the proof: the index is at most the number of siblings, so there is a sibling before it.
-        let _siblings = self.siblings();
-        self.sibling_at(self.index().checked_sub(1))
+        let (before, _) = self.siblings().split_at(self.index());
+        self.sibling_at(before.len().checked_sub(1))
     }
 
     /// The sibling directly after this node, trivia or not.

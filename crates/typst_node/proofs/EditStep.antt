@@ -1,20 +1,24 @@
 -- One step of an edit at a path.
-use Rattle.std.proofs.Common.{◌≡◌, ◌<◌, ◌≤◌, ℕ, List, [], ◌∷◌, length, map, set, get_or, refl, sym, ap, subst, ◌∙◌, arith}
+use Rattle.std.proofs.Common.{◌≡◌, ◌+◌, ◌<◌, ◌≤◌, ℕ, List, [], ◌∷◌, length, map, set, get_or, refl, sym, ap, subst, ◌∙◌, arith}
 use Rattle.std.specs.Prelude.{◌↔◌, Option, None, Some, Result, Ok, Err, OnErr, IfNone, IfSome, IsSome}
 use Rattle.std.proofs.lemmas.List.{set-get_or}
 use Rattle.std.specs.List.{splice}
 use Rattle.typst_node.specs.Tree.{Tree, Forest, forest, trees}
-use Rattle.typst_node.specs.Count.{SumsFit}
+use Rattle.typst_node.specs.Text.{text}
+use Rattle.typst_node.specs.Count.{count, SumsFit}
 use Rattle.typst_node.specs.Plain.{plain, plain_forest}
 use Rattle.typst_node.specs.PlainEdit.{edited, edited_at, FitsInner}
-use Rattle.typst_node.specs.Paths.{no_tree, tree_at, with_children}
+use Rattle.typst_node.specs.Paths.{IsPath, no_tree, tree_at, with_children}
+use Rattle.typst_node.specs.Growth.{ChildrenCanGrow}
 use Rattle.typst_node.specs.EditBelow.{IsReplacement}
+use Rattle.typst_node.specs.declared.node.replace.Growth.{Growth}
 use Rattle.typst_node.specs.declared.node.replace.Renumbered.{Renumbered}
 use Rattle.typst_node.specs.declared.node.replace.ReplaceError.{ReplaceError}
 use Rattle.typst_node.proofs.Trees.{trees_of_forest, forest-trees}
 use Rattle.typst_node.proofs.Plain.{forest_plain}
 use Rattle.typst_node.proofs.Trimmed.{fits_same}
 use Rattle.typst_node.proofs.EditsBelow.{plain_kids, set_plain}
+use Rattle.typst_node.proofs.WholeTreeEdited.{grow_within, sums_set, whole_grows}
 
 pub frame_nil : (path : List ℕ) (t u : Tree) → length path ≡ 0 → u.label ≡ t.label → u ≡ with_children path (trees (tree_at path u).children) t
 frame_nil [] t u h e = λ i. record { label = e i; children = sym (forest-trees u.children) i }
@@ -49,13 +53,13 @@ fits_not path n rest from to t olds is kids out h =
     let there : n < length (trees t.children) = (subst (λ (p : List ℕ). FitsInner p from to t) is h).0.0 in
     omega (arith, subst (λ (ts : List Tree). n < length ts) kids there, out)
 
-pub at_cons : (path : List ℕ) (n : ℕ) (rest : List ℕ) (from to : ℕ) (others : List Tree) (t u : Tree) (olds news : List Tree) (o : Option (Result Renumbered ReplaceError)) → path ≡ n ∷ rest → trees t.children ≡ olds → u.children ≡ forest news
-    → IfSome o (IsReplacement from to others (tree_at rest (get_or olds n no_tree)) (tree_at rest (get_or news n no_tree))) → IfSome o (IsReplacement from to others (tree_at path t) (tree_at path u))
-at_cons path n rest from to others t u olds news o is kids children h =
+pub at_cons : (path : List ℕ) (n : ℕ) (rest : List ℕ) (from to : ℕ) (others : List Tree) (g : Growth) (t u : Tree) (olds news : List Tree) (o : Option (Result Renumbered ReplaceError)) → path ≡ n ∷ rest → trees t.children ≡ olds → u.children ≡ forest news
+    → IfSome o (IsReplacement from to others g (tree_at rest (get_or olds n no_tree)) (tree_at rest (get_or news n no_tree))) → IfSome o (IsReplacement from to others g (tree_at path t) (tree_at path u))
+at_cons path n rest from to others g t u olds news o is kids children h =
     let now : news ≡ trees u.children = sym (ap trees children ∙ trees_of_forest news) in
-    let whole : IfSome o (IsReplacement from to others (tree_at (n ∷ rest) t) (tree_at (n ∷ rest) u)) =
-    coe 0 1 (i. IfSome o (IsReplacement from to others (tree_at rest (get_or (sym kids i) n no_tree)) (tree_at rest (get_or (now i) n no_tree)))) h in
-    subst (λ (p : List ℕ). IfSome o (IsReplacement from to others (tree_at p t) (tree_at p u))) (sym is) whole
+    let whole : IfSome o (IsReplacement from to others g (tree_at (n ∷ rest) t) (tree_at (n ∷ rest) u)) =
+    coe 0 1 (i. IfSome o (IsReplacement from to others g (tree_at rest (get_or (sym kids i) n no_tree)) (tree_at rest (get_or (now i) n no_tree)))) h in
+    subst (λ (p : List ℕ). IfSome o (IsReplacement from to others g (tree_at p t) (tree_at p u))) (sym is) whole
 
 -- the plain trees of children
 plain_trees : (f : Forest) → map plain (trees f) ≡ trees (plain_forest f)
@@ -72,18 +76,23 @@ plain_at path from to others t u frame e =
     ap plain frame ∙ plain_kids path (trees (tree_at path u).children) new t kids
 
 -- the sums of the children fit afterwards
-fits_done : (path : List ℕ) (from to : ℕ) (others ts : List Tree) (n : ℕ) (old new : Tree) (r : Result Renumbered ReplaceError) → old ≡ get_or ts n no_tree → SumsFit ts → OnErr r (new ≡ old)
-    → new ≡ with_children path (trees (tree_at path new).children) old → IsReplacement from to others (tree_at path old) (tree_at path new) r → SumsFit (set ts n (edited_at path from to others (get_or ts n no_tree))) → SumsFit (set ts n new)
-fits_done path from to others ts n old new (Ok x) is fits err frame at sums =
-    let same : plain (edited_at path from to others (get_or ts n no_tree)) ≡ plain new = sym (plain_at path from to others old new frame at.plain ∙ ap (λ (t : Tree). plain (edited_at path from to others t)) is) in
-    fits_same (set ts n (edited_at path from to others (get_or ts n no_tree))) (set ts n new) (set_plain ts n (edited_at path from to others (get_or ts n no_tree)) new same) sums
-fits_done path from to others ts n old new (Err e) is fits err frame at sums =
-    subst SumsFit (sym (ap (set ts n) (err ∙ is) ∙ set-get_or ts n no_tree)) fits
+fits_done : (path : List ℕ) (from to : ℕ) (others : List Tree) (g : Growth) (ts : List Tree) (n : ℕ) (old new : Tree) (r : Result Renumbered ReplaceError) → old ≡ get_or ts n no_tree → n < length ts → ChildrenCanGrow g ts → OnErr r (new ≡ old)
+    → new ≡ with_children path (trees (tree_at path new).children) old → IsReplacement from to others g (tree_at path old) (tree_at path new) r → IsPath path old → SumsFit (set ts n new)
+fits_done path from to others g ts n old new (Ok x) is there can err frame at path_is =
+    let edit = edited_at path from to others old in
+    let same : plain edit ≡ plain new = sym (plain_at path from to others old new frame at.plain) in
+    let grow = whole_grows g path (splice (trees (tree_at path old).children) from to others) old path_is (grow_within from to others g (tree_at path old) (tree_at path new) (Ok x) at (λ none. cc)) in
+    let len : length (text edit) ≤ length (text (get_or ts n no_tree)) + g.len = omega (arith, grow.0, ap (λ (t : Tree). length (text t)) is) in
+    let descendants : count edit ≤ count (get_or ts n no_tree) + g.descendants = omega (arith, grow.1, ap count is) in
+    fits_same (set ts n edit) (set ts n new) (set_plain ts n edit new same) (sums_set g ts n edit there can len descendants)
+fits_done path from to others g ts n old new (Err e) is there can err frame at path_is =
+    let same : set ts n new ≡ ts = ap (set ts n) (err ∙ is) ∙ set-get_or ts n no_tree in
+    subst SumsFit (sym same) (omega (arith, can.0), omega (arith, can.1))
 
-pub fits_after : (path : List ℕ) (from to : ℕ) (others ts : List Tree) (n : ℕ) (old new : Tree) (o : Option (Result Renumbered ReplaceError)) → old ≡ get_or ts n no_tree → SumsFit ts → IfNone o (new ≡ old) → IfSome o (λ r. OnErr r (new ≡ old))
-    → new ≡ with_children path (trees (tree_at path new).children) old → IfSome o (IsReplacement from to others (tree_at path old) (tree_at path new)) → (IsSome o → FitsInner path from to old)
-    → (FitsInner path from to (get_or ts n no_tree) → SumsFit (set ts n (edited_at path from to others (get_or ts n no_tree)))) → SumsFit (set ts n new)
-fits_after path from to others ts n old new (Some r) is fits misfit err frame at inner sums =
-    fits_done path from to others ts n old new r is fits err frame at (sums (subst (FitsInner path from to) is (inner refl)))
-fits_after path from to others ts n old new None is fits misfit err frame at inner sums =
-    subst SumsFit (sym (ap (set ts n) (misfit ∙ is) ∙ set-get_or ts n no_tree)) fits
+pub fits_after : (path : List ℕ) (from to : ℕ) (others : List Tree) (g : Growth) (ts : List Tree) (n : ℕ) (old new : Tree) (o : Option (Result Renumbered ReplaceError)) → old ≡ get_or ts n no_tree → n < length ts → ChildrenCanGrow g ts → IfNone o (new ≡ old) → IfSome o (λ r. OnErr r (new ≡ old))
+    → new ≡ with_children path (trees (tree_at path new).children) old → IfSome o (IsReplacement from to others g (tree_at path old) (tree_at path new)) → (IsSome o → FitsInner path from to old) → SumsFit (set ts n new)
+fits_after path from to others g ts n old new (Some r) is there can misfit err frame at inner =
+    fits_done path from to others g ts n old new r is there can err frame at (inner refl).0
+fits_after path from to others g ts n old new None is there can misfit err frame at inner =
+    let same : set ts n new ≡ ts = ap (set ts n) (misfit ∙ is) ∙ set-get_or ts n no_tree in
+    subst SumsFit (sym same) (omega (arith, can.0), omega (arith, can.1))

@@ -1,19 +1,14 @@
 -- Edits below a node.
 use Rattle.std.proofs.Common.{◌≡◌, ℕ, suc, zero, ◌+◌, ◌<◌, ◌≤◌, ◌⊎◌, inl, inr, List, [], ◌∷◌, length, map, set, get_or, refl, sym, ap, subst, ◌∙◌, arith, length-append}
-use Rattle.std.proofs.lemmas.List.{get_or-set_same, length-set}
 use Rattle.typst_node.specs.Tree.{Tree, Forest, none, tree, forest, trees}
 use Rattle.typst_node.specs.Text.{joined, own_text, text, text_of_all}
-use Rattle.typst_node.specs.Count.{count, SumsFit}
 use Rattle.typst_node.specs.Labels.{number, bound}
 use Rattle.typst_node.specs.Preorder.{preorder}
 use Rattle.typst_node.specs.Plain.{plain, plain_label}
 use Rattle.typst_node.specs.Interval.{IsWithin, IsTreeWithin}
 use Rattle.typst_node.specs.Numbered.{IsNumbered}
-use Rattle.typst_node.specs.PlainEdit.{edited_at, TreeFits}
-use Rattle.typst_node.specs.Edit.{IsUnfiled}
-use Rattle.typst_node.specs.Paths.{no_tree, tree_at, with_children}
-use Rattle.typst_node.specs.EditBelow.{IsEdit}
-use Rattle.typst_node.proofs.Trees.{forest-trees, count_at, length-text_of_all-cons}
+use Rattle.typst_node.specs.Paths.{no_tree, with_children}
+use Rattle.typst_node.proofs.Trees.{forest-trees, length-text_of_all-cons}
 use Rattle.typst_node.proofs.Plain.{forest_plain}
 use Rattle.typst_node.proofs.Within.{within_le, within_wider}
 use Rattle.typst_node.proofs.Ordered.{within_from_numbered, numbered_from_within}
@@ -49,28 +44,9 @@ child_numbered t i h n =
     let kids : IsWithin n.0 (number t.label + 1) (bound t.label) (forest (trees t.children)) = subst (IsWithin n.0 (number t.label + 1) (bound t.label)) (sym (forest-trees t.children)) w.2 in
     (n.0, n.1, numbered_from_within n.0 (number t.label + 1) (bound t.label) (get_or (trees t.children) i no_tree) (omega (arith, w.1)) (omega (arith, w.3)) (child_within n.0 (number t.label + 1) (bound t.label) (trees t.children) i no_tree h kids))
 
-numbered_below : (P : Type 0) (t : Tree) (i : ℕ) → i < length (trees t.children) → P ⊎ IsNumbered t → P ⊎ IsNumbered (get_or (trees t.children) i no_tree)
+pub numbered_below : (P : Type 0) (t : Tree) (i : ℕ) → i < length (trees t.children) → P ⊎ IsNumbered t → P ⊎ IsNumbered (get_or (trees t.children) i no_tree)
 numbered_below P t i h (inl p) = inl p
 numbered_below P t i h (inr n) = inr (child_numbered t i h n)
-
--- the sums of the children after an edit below them
-pub edit_sums : (i : ℕ) (path : List ℕ) (from to : ℕ) (others : List Tree) (t : Tree) → TreeFits (edited_at (i ∷ path) from to others t) → SumsFit (set (trees t.children) i (edited_at path from to others (get_or (trees t.children) i no_tree)))
-edit_sums i path from to others t h = (omega (arith, h.0, own_shorter (edited_at (i ∷ path) from to others t)), h.1)
-
-pub edit_below : (i : ℕ) (path : List ℕ) (from to : ℕ) (others : List Tree) (t : Tree) → IsEdit (i ∷ path) from to others t → IsEdit path from to others (get_or (trees t.children) i no_tree)
-edit_below i path from to others t e =
-    let sums = edit_sums i path from to others t e.sums in
-    let new = edited_at path from to others (get_or (trees t.children) i no_tree) in
-    let at : get_or (set (trees t.children) i new) i no_tree ≡ new = get_or-set_same (trees t.children) i new no_tree e.path.0 in
-    let many : i < length (set (trees t.children) i new) = omega (arith, length-set (trees t.children) i new, e.path.0) in
-    record {
-      path = e.path.1;
-      inner = e.inner;
-      order = e.order;
-      inside = e.inside;
-      numbered = numbered_below (IsUnfiled (tree_at (i ∷ path) t)) t i e.path.0 e.numbered;
-      sums = (omega (arith, sums.0, text_at (set (trees t.children) i new) i no_tree many, ap (λ (u : Tree). length (text u)) at), omega (arith, sums.1, count_at (set (trees t.children) i new) i no_tree many, ap count at));
-    }
 
 -- the plain tree, with other children that are the same
 pub plain_kids : (path : List ℕ) (ts us : List Tree) (t : Tree) → map plain ts ≡ map plain us → plain (with_children path ts t) ≡ plain (with_children path us t)

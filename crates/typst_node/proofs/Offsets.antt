@@ -1,6 +1,7 @@
 -- Where the text of a node begins, one step at a time.
 use Rattle.std.proofs.Common.{◌≡◌, ℕ, suc, zero, ◌+◌, ◌≤◌, List, [], ◌∷◌, ◌++◌, length, map, take, refl, sym, ap, ◌∙◌, arith, add-one, Option, None, Some, slice_get, length-append}
 use Rattle.std.specs.List.{flat_map, before_first}
+use Rattle.std.proofs.lemmas.List.Folds.{flat_map-map}
 use Rattle.std.proofs.lemmas.Grind.{flat_map-append}
 use Rattle.typst_node.specs.Tree.{Forest, none, tree, Tree, trees}
 use Rattle.typst_node.specs.Preorder.{preorder, paths_from, paths, subtrees, at, if_some}
@@ -12,15 +13,11 @@ use Rattle.typst_node.proofs.EqualPaths.{same_below, none_below, any_below}
 use Rattle.typst_node.proofs.PathSteps.{if_some_value, at-push}
 use Rattle.typst_node.proofs.ListedPaths.{listed}
 
-flat_map_map : {A B C : Type 0} (f : B → List C) (g : A → B) (xs : List A) → flat_map f (map g xs) ≡ flat_map (λ x. f (g x)) xs
-flat_map_map f g [] = refl
-flat_map_map f g (x ∷ xs) = ap (λ ys. f (g x) ++ ys) (flat_map_map f g xs)
-
 -- the texts at all paths are the text
 texts_at : (t : Tree) → flat_map (λ q. text_there (at q t)) (paths t) ≡ text t
 texts_at t =
-    sym (flat_map_map text_there (λ q. at q t) (paths t))
-    ∙ (ap (flat_map text_there) (at-paths t) ∙ (flat_map_map text_there Some (subtrees t) ∙ (sym (flat_map_map own_text (λ (s : Tree). s.label) (subtrees t)) ∙ ap (flat_map own_text) (labels-subtrees t))))
+    sym (flat_map-map text_there (λ q. at q t) (paths t))
+    ∙ (ap (flat_map text_there) (at-paths t) ∙ (flat_map-map text_there Some (subtrees t) ∙ (sym (flat_map-map own_text (λ (s : Tree). s.label) (subtrees t)) ∙ ap (flat_map own_text) (labels-subtrees t))))
 
 -- the texts before a path that goes on below a node with this index are those before the rest of the path below the node
 before_here : (d : Option Tree) (ts : List Tree) (i : ℕ) (t : Tree) (path : List ℕ) (s : Tree) (rest : List (List ℕ)) → slice_get ts i ≡ Some t → at path t ≡ Some s
@@ -31,7 +28,7 @@ before_here d ts i t path s rest there leads =
     before-append_hit (is_same_path (i ∷ path)) (map (λ q. i ∷ q) (paths t)) rest (any_below i path (paths t) ∙ listed path t s leads)
     ∙ (before-map (is_same_path (i ∷ path)) (λ q. i ∷ q) (paths t) ∙ (λ k. map (λ q. i ∷ q) (before_first (λ q. same_below i path q k) (paths t)))) in
     ap (λ qs. length (texts qs)) first
-    ∙ (ap length (flat_map_map (λ q. text_there (at_among d ts q)) (λ q. i ∷ q) (before_first (is_same_path path) (paths t)))
+    ∙ (ap length (flat_map-map (λ q. text_there (at_among d ts q)) (λ q. i ∷ q) (before_first (is_same_path path) (paths t)))
     ∙ (λ k. length (flat_map (λ q. text_there (if_some (at q) (there k))) (before_first (is_same_path path) (paths t)))))
 
 before_among : (d : Option Tree) (ts : List Tree) (i j : ℕ) (f : Forest) (path : List ℕ) (t s : Tree) → StandFrom ts i f → slice_get (trees f) j ≡ Some t → at path t ≡ Some s
@@ -52,7 +49,7 @@ before_among d ts i (suc j) (tree l c r) path t s stand there leads =
     before-append_miss (is_same_path ((i + suc j) ∷ path)) block (paths_from (i + 1) r) (none_below (i + suc j) i path (paths x) (λ e. omega (arith, e)))
     ∙ ap (λ k. block ++ before_first (is_same_path (k ∷ path)) (paths_from (i + 1) r)) place in
     let first : texts block ≡ text x =
-    flat_map_map (λ q. text_there (at_among d ts q)) (λ q. i ∷ q) (paths x)
+    flat_map-map (λ q. text_there (at_among d ts q)) (λ q. i ∷ q) (paths x)
     ∙ ((λ k. flat_map (λ q. text_there (if_some (at q) (stand_first ts i l c r stand k))) (paths x)) ∙ texts_at x) in
     let rest = before_among d ts (i + 1) j r path t s (stand_rest ts i l c r stand) there leads in
     ap (λ qs. length (texts qs)) later

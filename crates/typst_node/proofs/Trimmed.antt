@@ -6,7 +6,9 @@ use Rattle.std.specs.Prelude.{slice_range}
 use Rattle.std.specs.List.{splice}
 use Rattle.typst_node.specs.Tree.{Tree}
 use Rattle.typst_node.specs.Count.{SumsFit}
+use Rattle.typst_node.specs.Growth.{GrowWithin}
 use Rattle.typst_node.specs.Plain.{plain}
+use Rattle.typst_node.specs.declared.node.replace.Growth.{Growth}
 use Rattle.typst_node.specs.Equal.{tree_eq, tree_same, tree_eq_same}
 use Rattle.typst_node.specs.ChangedChildren.{IsCommonBeginning, StaysLongest, common_first, common_last, kept_first, kept_last}
 use Rattle.typst_node.proofs.Plain.{same_text_of_all, same_count_of_all}
@@ -164,5 +166,8 @@ trimmed_plain xs ys a b order inside =
     ∙ ap (λ zs. map plain (take a xs ++ (zs ++ drop b xs))) (sym split))
 
 -- sums fit of lists that are the same apart from spans and bounds
+pub within_same : (g : Growth) (olds ts us : List Tree) → map plain ts ≡ map plain us → GrowWithin g olds ts → GrowWithin g olds us
+within_same g olds ts us same h = (omega (arith, ap length (same_text_of_all ts us same), h.0), omega (arith, same_count_of_all ts us same, h.1))
+
 pub fits_same : (ts us : List Tree) → map plain ts ≡ map plain us → SumsFit ts → SumsFit us
 fits_same ts us same h = (omega (arith, ap length (same_text_of_all ts us same), h.0), omega (arith, same_count_of_all ts us same, h.1))

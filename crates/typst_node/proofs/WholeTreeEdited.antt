@@ -1,6 +1,7 @@
 -- The whole tree after an edit at a path.
 use Rattle.std.proofs.Common.{◌≡◌, ℕ, suc, zero, ◌+◌, ◌<◌, ◌≤◌, ◌^◌, inl, inr, List, [], ◌∷◌, length, set, get_or, refl, sym, ap, subst, ◌∙◌, arith, length-append}
-use Rattle.std.specs.Prelude.{Result, Ok, Err, OnOk, slice_range}
+use Rattle.std.specs.Prelude.{Result, Ok, Err, OnOk}
+use Rattle.std.proofs.lemmas.Bool.{cases_lt}
 use Rattle.std.specs.List.{splice}
 use Rattle.typst_node.specs.Tree.{Tree, forest, trees}
 use Rattle.typst_node.specs.Text.{text, text_of_all, own_text, joined}
@@ -10,14 +11,16 @@ use Rattle.typst_node.specs.Labels.{number, bound}
 use Rattle.typst_node.specs.Interval.{IsWithin, IsTreeWithin}
 use Rattle.typst_node.specs.Numbered.{IsNumberedFor}
 use Rattle.typst_node.specs.Paths.{no_tree, IsPath, tree_at, with_children}
-use Rattle.typst_node.specs.PlainEdit.{edited_at}
+use Rattle.typst_node.specs.PlainEdit.{TreeFits}
 use Rattle.typst_node.specs.Edit.{IsNumberedOrUnfiled}
-use Rattle.typst_node.specs.EditBelow.{IsEdit, IsReplacement}
+use Rattle.typst_node.specs.Growth.{CanGrow, ChildrenCanGrow, GrowWithin, IsLargestGrowth}
+use Rattle.typst_node.specs.EditBelow.{IsReplacement}
+use Rattle.typst_node.specs.declared.node.replace.Growth.{Growth}
+use Rattle.typst_node.specs.declared.node.replace.ReplaceError.TheVariants.{Overflow}
 use Rattle.typst_node.specs.declared.node.replace.Renumbered.{Renumbered}
 use Rattle.typst_node.specs.declared.node.replace.ReplaceError.{ReplaceError}
 use Rattle.typst_node.proofs.Trees.{forest-trees, count_at, count_of_all-cons, length-text_of_all-cons, count_of_trees}
-use Rattle.typst_node.proofs.Opens.{splice_count, splice_text}
-use Rattle.typst_node.proofs.EditsBelow.{edit_below, child_within, text_at}
+use Rattle.typst_node.proofs.EditsBelow.{child_within, text_at}
 use Rattle.typst_node.proofs.Ordered.{within_from_numbered, numbered_from_within}
 use Rattle.typst_node.proofs.Edited.{below_within, file_within}
 
@@ -54,26 +57,44 @@ text_kids (i ∷ path) ks t h =
     let new = set (trees t.children) i (with_children path ks old) in
     omega (arith, text_tree t, text_forest t new, text_set (trees t.children) i (with_children path ks old) no_tree h.0, text_kids path ks old h.1)
 
-pub count_edited : (path : List ℕ) (from to : ℕ) (others : List Tree) (t : Tree) → IsPath path t → from ≤ to → count (edited_at path from to others t) + count_of_all (slice_range (trees (tree_at path t).children) from to) ≡ count t + count_of_all others
-count_edited path from to others t h order =
-    omega (arith, count_kids path (splice (trees (tree_at path t).children) from to others) t h, splice_count (trees (tree_at path t).children) others from to order)
+-- a child, and the children together, may grow as much as their node
+pub children_can_grow : (g : Growth) (t : Tree) → CanGrow g t → ChildrenCanGrow g (trees t.children)
+children_can_grow g t can = (omega (arith, can.0, text_tree t), omega (arith, can.1, count_tree t))
 
-pub text_edited : (path : List ℕ) (from to : ℕ) (others : List Tree) (t : Tree) → IsPath path t → from ≤ to → length (text (edited_at path from to others t)) + length (text_of_all (slice_range (trees (tree_at path t).children) from to)) ≡ length (text t) + length (text_of_all others)
-text_edited path from to others t h order =
-    omega (arith, text_kids path (splice (trees (tree_at path t).children) from to others) t h, splice_text (trees (tree_at path t).children) others from to order)
+pub child_can_grow : (g : Growth) (t : Tree) (i : ℕ) → i < length (trees t.children) → CanGrow g t → CanGrow g (get_or (trees t.children) i no_tree)
+child_can_grow g t i h can =
+    (omega (arith, can.0, text_tree t, text_at (trees t.children) i no_tree h), omega (arith, can.1, count_tree t, count_at (trees t.children) i no_tree h))
 
-pub count_below : (path : List ℕ) (t : Tree) → IsPath path t → suc (count_of_all (trees (tree_at path t).children)) ≤ count t
-count_below [] t h = omega (arith, count_tree t)
-count_below (i ∷ path) t h = omega (arith, count_tree t, count_at (trees t.children) i no_tree h.0, count_below path (get_or (trees t.children) i no_tree) h.1)
+-- the whole grows as the children of the edited node do
+pub whole_grows : (g : Growth) (path : List ℕ) (ks : List Tree) (t : Tree) → IsPath path t → GrowWithin g (trees (tree_at path t).children) ks → (length (text (with_children path ks t)) ≤ length (text t) + g.len) × (count (with_children path ks t) ≤ count t + g.descendants)
+whole_grows g path ks t h grow = (omega (arith, text_kids path ks t h, grow.0), omega (arith, count_kids path ks t h, grow.1))
 
-pub text_below : (path : List ℕ) (t : Tree) → IsPath path t → length (text_of_all (trees (tree_at path t).children)) ≤ length (text t)
-text_below [] t h = omega (arith, text_tree t)
-text_below (i ∷ path) t h = omega (arith, text_tree t, text_at (trees t.children) i no_tree h.0, text_below path (get_or (trees t.children) i no_tree) h.1)
+pub fits_grown : (g : Growth) (path : List ℕ) (ks : List Tree) (t : Tree) → IsPath path t → IsLargestGrowth g t → GrowWithin g (trees (tree_at path t).children) ks → TreeFits (with_children path ks t)
+fits_grown g path ks t h largest grow =
+    let whole = whole_grows g path ks t h grow in
+    (omega (arith, whole.0, largest.0), omega (arith, whole.1, largest.1))
 
--- the sums of the edited node fit where those of the whole do
-pub edit_at : (path : List ℕ) (from to : ℕ) (others : List Tree) (t : Tree) → IsEdit path from to others t → SumsFit (splice (trees (tree_at path t).children) from to others)
-edit_at [] from to others t e = (omega (arith, e.sums.0, text_forest t (splice (trees t.children) from to others)), e.sums.1)
-edit_at (i ∷ path) from to others t e = edit_at path from to others (get_or (trees t.children) i no_tree) (edit_below i path from to others t e)
+pub grown_fits : (g : Growth) (path : List ℕ) (ks : List Tree) (t : Tree) → IsPath path t → IsLargestGrowth g t → TreeFits (with_children path ks t) → GrowWithin g (trees (tree_at path t).children) ks
+grown_fits g path ks t h largest fits =
+    (omega (arith, text_kids path ks t h, largest.0, fits.0), omega (arith, count_kids path ks t h, largest.1, fits.1))
+
+-- the children with one of them changed
+pub sums_set : (g : Growth) (ts : List Tree) (i : ℕ) (new : Tree) → i < length ts → ChildrenCanGrow g ts → length (text new) ≤ length (text (get_or ts i no_tree)) + g.len → count new ≤ count (get_or ts i no_tree) + g.descendants → SumsFit (set ts i new)
+sums_set g ts i new h can len descendants =
+    (omega (arith, can.0, text_set ts i new no_tree h, len), omega (arith, can.1, count_set ts i new no_tree h, descendants))
+
+-- two numbers are at most two others, unless they aren't
+within_unless_not : (a b c d : ℕ) → ¬ (¬ ((a ≤ b) × (c ≤ d))) → (a ≤ b) × (c ≤ d)
+within_unless_not a b c d h = (
+  elim (cases_lt b a) [ inl more ↦ absurd (h (λ both. omega (arith, both.0, more))) | inr not_more ↦ not_more ],
+  elim (cases_lt d c) [ inl more ↦ absurd (h (λ both. omega (arith, both.1, more))) | inr not_more ↦ not_more ],
+)
+
+-- what isn't refused for its size grows within bounds
+pub grow_within : (from to : ℕ) (others : List Tree) (g : Growth) (old new : Tree) (r : Result Renumbered ReplaceError) → IsReplacement from to others g old new r → ¬ (r ≡ Err Overflow) → GrowWithin g (trees old.children) (splice (trees old.children) from to others)
+grow_within from to others g old new r at none =
+    let ks = splice (trees old.children) from to others in
+    within_unless_not (length (text_of_all ks)) (length (text_of_all (trees old.children)) + g.len) (count_of_all ks) (count_of_all (trees old.children) + g.descendants) (λ no. none (at.overflow.1 no))
 
 -- numbers
 within_set : (file a b : ℕ) (ts : List Tree) (i : ℕ) (new d : Tree) → i < length ts → new.label ≡ (get_or ts i d).label → IsWithin file (number new.label + 1) (bound new.label) new.children → IsWithin file a b (forest ts) → IsWithin file a b (forest (set ts i new))
@@ -113,13 +134,14 @@ numbered_kids path file t u h n frame same at =
     let whole : IsTreeWithin file 2 (2 ^ 47) (with_children path ks t) = coe 1 0 (i. let l = label_kids path ks t i in (l.span.file ≡ file) × (2 ≤ number l) × IsWithin file (number l + 1) (bound l) (with_children path ks t).children × (bound l ≤ 2 ^ 47)) (w.0, w.1, below, w.3) in
     subst (IsNumberedFor file) (sym frame) (numbered_from_within file 2 (2 ^ 47) (with_children path ks t) (omega arith) (omega arith) whole)
 
-numbered_ok : (path : List ℕ) (from to : ℕ) (others : List Tree) (t u : Tree) (x : Renumbered) → IsPath path t → IsReplacement from to others (tree_at path t) (tree_at path u) (Ok x) → SumsFit (splice (trees (tree_at path t).children) from to others)
+numbered_ok : (path : List ℕ) (from to : ℕ) (others : List Tree) (g : Growth) (t u : Tree) (x : Renumbered) → IsPath path t → IsReplacement from to others g (tree_at path t) (tree_at path u) (Ok x)
     → u ≡ with_children path (trees (tree_at path u).children) t → IsNumberedOrUnfiled path t → IsNumberedFor t.label.span.file u
-numbered_ok path from to others t u x h at fit frame (inl z) = let e = at.unnumberable.1 (fit, inl z) in cc
-numbered_ok path from to others t u x h at fit frame (inr n) =
+numbered_ok path from to others g t u x h at frame (inl z) =
+    let e = at.unnumberable.1 (grow_within from to others g (tree_at path t) (tree_at path u) (Ok x) at (λ is. cc), inl z) in cc
+numbered_ok path from to others g t u x h at frame (inr n) =
     numbered_kids path t.label.span.file t u h (subst (λ f. IsNumberedFor f t) (sym (file_within n.0 t n.2)) n.2) frame at.label at.numbered
 
-pub numbered_whole : (path : List ℕ) (from to : ℕ) (others : List Tree) (t u : Tree) (r : Result Renumbered ReplaceError) → IsPath path t → IsReplacement from to others (tree_at path t) (tree_at path u) r → SumsFit (splice (trees (tree_at path t).children) from to others)
+pub numbered_whole : (path : List ℕ) (from to : ℕ) (others : List Tree) (g : Growth) (t u : Tree) (r : Result Renumbered ReplaceError) → IsPath path t → IsReplacement from to others g (tree_at path t) (tree_at path u) r
     → u ≡ with_children path (trees (tree_at path u).children) t → IsNumberedOrUnfiled path t → OnOk r (IsNumberedFor t.label.span.file u)
-numbered_whole path from to others t u (Ok x) h at fit frame n = numbered_ok path from to others t u x h at fit frame n
-numbered_whole path from to others t u (Err e) h at fit frame n = tt
+numbered_whole path from to others g t u (Ok x) h at frame n = numbered_ok path from to others g t u x h at frame n
+numbered_whole path from to others g t u (Err e) h at frame n = tt

@@ -27,6 +27,7 @@ pub mod FirstWindow
 pub mod Renumbering
 pub mod Edit
 pub mod Refusals
+pub mod Growth
 pub mod EditBelow
 pub mod Errand
 pub mod Sites

@@ -238,7 +238,8 @@ impl SyntaxNode {
 
     /// Whether this is a leaf, or an error whose text is not empty: a place where an editor stops.
     pub fn is_leaf(&self) -> bool
-        ensures { IsTrue result ↔ IsLeaf self.now.label.content }
+        ensures leaf { IsTrue result ↔ IsLeaf self.now.label.content }
+        ensures childless { IsTrue result → trees self.now.children ≡ [] }
     {
         match &self.node {
             Node::Short(..) | Node::Long(..) | Node::Leaf(..) => true,

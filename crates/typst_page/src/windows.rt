@@ -1,5 +1,9 @@
 //! The windows that were tried when the nodes of an edit were numbered.
-ghost use Rattle.std.specs.Prelude.{◌≡◌, IfSome};
+ghost use Rattle.std.specs.Prelude.{◌≡◌, ◌-◌, ◌^◌, ◌≤◌, ◌↔◌, IfSome, IsSome, length, min, slice_range};
+ghost use Rattle.typst_node.specs.ChangedChildren.{common_first, common_last};
+ghost use Rattle.typst_node.specs.Tree.{trees};
+ghost use Rattle.typst_node.specs.Window.{reach};
+ghost use Rattle.typst_page.specs.Change.{BeginBefore, EndBy, IsChange, IsLastWindow, window_end, window_start};
 
 use std::ops::Range;
 use typst_node::SyntaxNode;
@@ -17,31 +21,37 @@ pub struct Change {
 impl Change {
     /// The change that an edit made between two trees: the children whose text was parsed anew, except those at the
     /// beginning and at the end that are what they were.
-    pub fn between(old: &SyntaxNode, new: &SyntaxNode, reparsed: &Range<usize>) -> Change {
+    pub fn between(old: &SyntaxNode, new: &SyntaxNode, reparsed: &Range<usize>) -> Change
+        ensures { IsChange (trees old.now.children) (trees new.now.children) reparsed.now.start reparsed.now.end result }
+    {
         let old_children = old.child_slice();
         let new_children = new.child_slice();
-        let before = ending_by(new_children, reparsed.start);
-        let kept = beginning_before(new_children, reparsed.end);
-        let behind = new_children.len().saturating_sub(kept);
-        let old_parsed = between(old_children, before, behind);
-        let new_parsed = between(new_children, before, behind);
+        let from = ending_by(new, reparsed.start);
+        let to = beginning_before(new, reparsed.end);
+        let behind = new_children.len() - to;
+        let old_parsed = part(
+            old_children,
+            from,
+            old_children.len().saturating_sub(behind),
+        );
+        let new_parsed = part(new_children, from, to);
         let first = alike_first(old_parsed, new_parsed);
-        let old_rest = between(old_parsed, first, 0);
-        let new_rest = between(new_parsed, first, 0);
+        let old_rest = &old_parsed[first..];
+        let new_rest = &new_parsed[first..];
         let last = alike_last(old_rest, new_rest);
         Change {
-            before: before.saturating_add(first),
-            changed: new_rest.len().saturating_sub(last),
-            behind: behind.saturating_add(last),
+            before: from + first,
+            changed: new_rest.len() - last,
+            behind: behind + last,
         }
     }
 
     /// The window that is tried at a turn, from 0. It includes 0, 1, 2, 4, .. neighbours on each side.
-    pub fn window(&self, turn: usize) -> Range<usize> {
-        let reach = match turn.checked_sub(1) {
-            None => 0,
-            Some(doublings) => reach_after(doublings),
-        };
+    pub fn window(&self, turn: usize) -> Range<usize>
+        ensures start { result.start ≡ window_start self.now turn }
+        ensures end { result.end ≡ window_end self.now turn }
+    {
+        let reach = reach_at(turn);
         let end = self.before.saturating_add(self.changed);
         self.before.saturating_sub(reach)..end.saturating_add(reach.min(self.behind))
     }
@@ -49,6 +59,8 @@ impl Change {
     /// The turns of all windows that were tried. The last of them had room. None if the last isn't the window that the
     /// edit returned.
     pub fn tried(&self, report: &EditReport) -> Option<Range<usize>>
+        ensures found { IsSome result
+            ↔ IsLastWindow self.now report.now.tried report.now.window.start report.now.window.end }
         ensures first { IfSome result (λ turns. turns.start ≡ 0) }
         ensures last { IfSome result (λ turns. turns.end ≡ report.now.tried) }
     {
@@ -61,62 +73,84 @@ impl Change {
     }
 }
 
-/// 1, doubled `doublings` times.
-fn reach_after(doublings: usize) -> usize {
-    match u32::try_from(doublings) {
-        Ok(doublings) => 1usize.checked_shl(doublings).unwrap_or(usize::MAX),
-        Err(_) => usize::MAX,
+/// 0 at the first turn, then 1, 2, 4, .., or the largest number that there is.
+fn reach_at(turn: usize) -> usize
+    ensures { result ≡ min (reach turn) (2 ^ 64 - 1) }
+{
+    match turn.checked_sub(1) {
+        None => 0,
+        Some(doublings) => match u32::try_from(doublings) {
+            Ok(doublings) => 2usize.saturating_pow(doublings),
+            Err(_) => usize::MAX,
+        },
     }
 }
 
-/// The children without the first `before` and the last `behind` ones.
-fn between(children: &[SyntaxNode], before: usize, behind: usize) -> &[SyntaxNode] {
-    children
-        .get(before..children.len().saturating_sub(behind))
-        .unwrap_or(&[])
+/// The children from one index up to another, and none if there are no such children.
+fn part(children: &[SyntaxNode], from: usize, to: usize) -> &[SyntaxNode]
+    requires { to ≤ length children.now }
+    ensures { result.now ≡ slice_range children.now from to }
+{
+    children.get(from..to).unwrap_or(&[])
 }
 
-/// How many children end at or before a byte.
-fn ending_by(children: &[SyntaxNode], byte: usize) -> usize {
-    let mut end = 0usize;
-    let mut count = 0usize;
-    for child in children {
-        end = end.saturating_add(child.len());
+/// How many children of a node end at or before a byte.
+fn ending_by(node: &SyntaxNode, byte: usize) -> usize
+    ensures { EndBy byte (trees node.now.children) result }
+{
+    // Read for the proof: the text of all children is no longer than a usize tells.
+    let _bytes = node.len();
+    let children = node.child_slice();
+    let mut end = 0;
+    for i in 0..children.len() {
+        end += children[i].len();
         if end > byte {
-            break;
+            return i;
         }
-        count = count.saturating_add(1);
     }
-    count
+    children.len()
 }
 
-/// How many children begin before a byte.
-fn beginning_before(children: &[SyntaxNode], byte: usize) -> usize {
-    let mut start = 0usize;
-    let mut count = 0usize;
-    for child in children {
-        if start >= byte {
-            break;
-        }
-        start = start.saturating_add(child.len());
-        count = count.saturating_add(1);
+/// How many children of a node begin before a byte.
+fn beginning_before(node: &SyntaxNode, byte: usize) -> usize
+    ensures { BeginBefore byte (trees node.now.children) result }
+{
+    match byte.checked_sub(1) {
+        // Each child after the first begins where the child before it ends.
+        Some(last) => node
+            .child_slice()
+            .len()
+            .min(ending_by(node, last).saturating_add(1)),
+        None => 0,
     }
-    count
 }
 
 /// How many trees at the beginning are the same in both lists apart from their numbers.
-fn alike_first(old: &[SyntaxNode], new: &[SyntaxNode]) -> usize {
-    old.iter()
-        .zip(new.iter())
-        .take_while(|(old, new)| old.spanless_eq(new))
-        .count()
+fn alike_first(nodes: &[SyntaxNode], others: &[SyntaxNode]) -> usize
+    ensures is { result ≡ common_first nodes.now others.now }
+    ensures within { result ≤ length nodes.now }
+    ensures within_others { result ≤ length others.now }
+{
+    let most = nodes.len().min(others.len());
+    for i in 0..most {
+        if !nodes[i].spanless_eq(&others[i]) {
+            return i;
+        }
+    }
+    most
 }
 
 /// How many trees at the end are the same in both lists apart from their numbers.
-fn alike_last(old: &[SyntaxNode], new: &[SyntaxNode]) -> usize {
-    old.iter()
-        .rev()
-        .zip(new.iter().rev())
-        .take_while(|(old, new)| old.spanless_eq(new))
-        .count()
+fn alike_last(nodes: &[SyntaxNode], others: &[SyntaxNode]) -> usize
+    ensures is { result ≡ common_last nodes.now others.now }
+    ensures within { result ≤ length nodes.now }
+    ensures within_others { result ≤ length others.now }
+{
+    let most = nodes.len().min(others.len());
+    for i in 0..most {
+        if !nodes[nodes.len() - 1 - i].spanless_eq(&others[others.len() - 1 - i]) {
+            return i;
+        }
+    }
+    most
 }

@@ -1,7 +1,7 @@
 //! Shows the syntax tree that a script or a look builds to a person, as a drawing in the terminal with errors and
 //! warnings below it, with what the view of each node answers or without, or as a page for a browser.
 //!
-//! `typst_shown` has the words of the command line, what is read, and drawings, and `typst_page` has what views answer.
+//! `typst_shown` has what is read, and drawings, and `typst_page` has what views answer.
 //! This crate builds the tree by `typst_looker`, and says what is wrong with a line.
 #![tactic(auto)]
 
@@ -24,29 +24,17 @@ use typst_shown::carets::write_reports;
 use typst_shown::drawing::draw;
 use typst_shown::plain::write_plain;
 use typst_shown::reading::read;
-use typst_shown::words::{status_of, words_of};
-use typst_shown::{Asked, Problem, Program, Shown};
+use typst_shown::start::{end, start};
+use typst_shown::{Asked, Form, Problem, Shown};
 
-/// Does what the words ask for.
+/// Shows what is asked.
 fn main(rt: HostRuntime) -> ExitCode {
-    let status = match words_of(&rt) {
-        Ok(words) => match answer(&rt, &words) {
-            Ok(()) => 0,
-            Err(ScriptProblem::Shared(problem)) => status_of(&rt, Err(problem)),
-            Err(problem) => {
-                let _ = eprintln!(&rt; "{problem}");
-                problem.status()
-            }
-        },
-        Err(problem) => status_of(&rt, Err(problem)),
-    };
-    ExitCode::from(status)
+    start(&rt, "typst_show_script", |asked| end(&rt, show(&rt, asked)))
 }
 
-/// Shows what the words ask for.
-fn answer<'a>(rt: &HostRuntime, words: &'a [String]) -> Result<(), ScriptProblem<'a>> {
+/// Builds a tree, and shows it.
+fn show<'a>(rt: &HostRuntime, asked: &Asked<'a>) -> Result<(), ScriptProblem<'a>> {
     let alloc = rt.alloc();
-    let asked = Asked::parse(words, Program::Script)?;
     let file = asked.file;
     if asked.edits.is_some() {
         return Err(ScriptProblem::NoText { file });
@@ -62,21 +50,21 @@ fn answer<'a>(rt: &HostRuntime, words: &'a [String]) -> Result<(), ScriptProblem
         text: &text,
         root,
     };
-    show(rt, &asked, &shown)?;
+    show_tree(rt, asked.form, &shown)?;
     Ok(())
 }
 
-/// Shows a tree, as a page or in the terminal.
-fn show<'a>(rt: &HostRuntime, asked: &Asked<'a>, shown: &Shown<'_>) -> Result<(), Problem<'a>> {
+/// Shows a tree, on a page or in the terminal.
+fn show_tree<'a>(rt: &HostRuntime, form: Form<'a>, shown: &Shown<'_>) -> Result<(), Problem<'a>> {
     let alloc = rt.alloc();
-    if let Some(page) = asked.page {
+    if let Form::Page(page) = form {
         // The page is made whole before any of it is written.
         let mut bytes: Vec<u8> = Vec::new(alloc);
         write_page(alloc, &mut bytes, shown)?;
         return save(rt, page, &bytes);
     }
     let mut out = BufWriter::new(alloc, io::writer(rt))?;
-    let done = write_tree(alloc, &mut out, asked, shown);
+    let done = write_tree(alloc, &mut out, form, shown);
     let flushed = out.flush();
     done?;
     flushed?;
@@ -94,16 +82,13 @@ fn write_page<W: Write>(alloc: Global, out: &mut W, shown: &Shown<'_>) -> io::Re
 fn write_tree<W: Write>(
     alloc: Global,
     out: &mut W,
-    asked: &Asked<'_>,
+    form: Form<'_>,
     shown: &Shown<'_>,
 ) -> io::Result<()> {
-    if asked.is_plain {
-        return write_plain(alloc, out, shown);
-    }
-    if asked.has_views {
-        draw_with_answers(alloc, out, shown, None)?;
-    } else {
-        draw(alloc, out, shown, None)?;
+    match form {
+        Form::Plain => return write_plain(alloc, out, shown),
+        Form::Tree => draw(alloc, out, shown, None)?,
+        Form::Views | Form::Page(_) => draw_with_answers(alloc, out, shown, None)?,
     }
     write_reports(alloc, out, shown)
 }

@@ -3,6 +3,7 @@
 use crate::bad_line::BadLine;
 use thiserror::Error;
 use typst_shown::Problem;
+use typst_shown::start::Report;
 
 /// Why the tree of a script isn't shown.
 #[derive(Debug, Drop, Error)]
@@ -36,9 +37,9 @@ pub(crate) enum ScriptProblem<'a> {
     },
 }
 
-impl<'a> ScriptProblem<'a> {
-    /// The status of a problem of the script itself: 1 if its tree is too large, and 2 if a line is wrong.
-    pub(crate) fn status(&self) -> u8 {
+impl<'a> Report for ScriptProblem<'a> {
+    /// The status of a problem of the script itself is 1 if its tree is too large, and 2 if a line is wrong.
+    fn status(&self) -> u8 {
         match self {
             ScriptProblem::Shared(problem) => problem.status(),
             ScriptProblem::NoText { .. }

@@ -1,16 +1,15 @@
-//! What the programs of `./show` share: the words of the command line, what they read, what they draw in a terminal, and
+//! What the programs of `./show` share: how they learn what is asked, what they read, what they draw in a terminal, and
 //! the problems that they report.
 //!
 //! No code here asks for a view. So this crate doesn't build on the crates with the views, and neither does the program
-//! that shows the tree of a text. Nor does it build on `clap`: `typst_show_words` has that, and explains wrong words.
+//! that shows the tree of a text. Nor does it read the words of `./show`: `typst_show_words` does.
 //! `typst_rows`, on which it builds, says in its contracts that the rows are those of all nodes in preorder, and that the
 //! report of an edit is what the edit returned.
 #![tactic(auto)]
 
-pub use asked::Asked;
+pub use asked::{Asked, Form};
 pub use edits::NumberedEdit;
 pub use problem::Problem;
-pub use program::Program;
 pub use shown::Shown;
 pub use text::Text;
 
@@ -22,11 +21,11 @@ mod edits;
 mod misfit;
 pub mod plain;
 mod problem;
-mod program;
 pub mod quoted;
 pub mod reading;
 pub mod report;
 mod shown;
+pub mod start;
+pub mod terminal;
 mod text;
 pub mod trail;
-pub mod words;

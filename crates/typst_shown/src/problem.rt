@@ -1,7 +1,7 @@
 //! What can go wrong, as it is reported on standard error.
 
 use crate::misfit::Misfit;
-use crate::program::Program;
+use crate::start::Report;
 use std::alloc::{AllocError, AllocFailed};
 use std::io;
 use std::io::ErrorKind;
@@ -11,12 +11,9 @@ use typst_source::SourceError;
 /// Why nothing more is shown.
 #[derive(Debug, Drop, Error)]
 pub enum Problem<'a> {
-    #[error("standard input can't be both the text and its edits: name a file for one of them")]
-    TwoInputs,
-    #[error("{program} doesn't do these words, which are for {other}: run ./show, which picks the program by the words")]
-    OtherProgram {
-        program: Program,
-        other: Program,
+    #[error("{program} can't do what its arguments ask: run ./show, which starts it with the right ones")]
+    NotAsked {
+        program: &'static str,
     },
     #[error("{file}: there is no such file")]
     NoFile {
@@ -70,14 +67,11 @@ pub enum Problem<'a> {
     Write(io::Error),
 }
 
-impl<'a> Problem<'a> {
-    /// The status: 1 for files and memory, and 2 for words and edits.
-    pub fn status(&self) -> u8 {
+impl<'a> Report for Problem<'a> {
+    /// The status: 1 for files and memory, and 2 for what is asked and for edits.
+    fn status(&self) -> u8 {
         match self {
-            Problem::TwoInputs
-            | Problem::OtherProgram { .. }
-            | Problem::BadEdit { .. }
-            | Problem::Misfit { .. } => 2,
+            Problem::NotAsked { .. } | Problem::BadEdit { .. } | Problem::Misfit { .. } => 2,
             Problem::NoFile { .. }
             | Problem::Folder { .. }
             | Problem::Read { .. }
@@ -89,18 +83,9 @@ impl<'a> Problem<'a> {
             | Problem::Write(_) => 1,
         }
     }
+}
 
-    /// The words of the command line can't be read.
-    pub fn of_words(error: io::Error) -> Problem<'a> {
-        match error.kind() {
-            ErrorKind::OutOfMemory => Problem::Memory,
-            _ => Problem::Read {
-                file: "the command line",
-                error,
-            },
-        }
-    }
-
+impl<'a> Problem<'a> {
     /// A file can't be opened or read.
     pub fn of_reading(file: &'a str, error: io::Error) -> Problem<'a> {
         match error.kind() {

@@ -1,12 +1,13 @@
 -- Texts whose trees have too many nodes.
-use Rattle.std.proofs.Common.{◌≡◌, ℕ, ◌<◌, ◌≤◌, List, ◌∷◌, ◌++◌, length, map, take, drop, refl, sym, ap, ◌∙◌, arith, length-append}
+use Rattle.std.proofs.Common.{◌≡◌, ℕ, ◌<◌, ◌≤◌, List, [], ◌∷◌, ◌++◌, length, map, take, drop, refl, sym, ap, ◌∙◌, arith, length-append}
 use Rattle.std.specs.Prelude.{Result, Ok, Err, IsErrAnd, IsErrOf}
 use Rattle.typst_base.specs.declared.kind.SyntaxKind.TheVariants as kinds
 use Rattle.typst_node.specs.Count.{count, count_of_all, SumsFit}
 use Rattle.typst_node.specs.Plain.{plain}
-use Rattle.typst_node.specs.PlainEdit.{edited, spliced}
-use Rattle.typst_node.specs.Text.{text, text_of_all}
-use Rattle.typst_node.specs.Tree.{Tree, inner_tree}
+use Rattle.typst_node.specs.Paths.{with_children}
+use Rattle.typst_node.specs.PlainEdit.{edited, spliced, TreeFits}
+use Rattle.typst_node.specs.Text.{own_text, text, text_of_all}
+use Rattle.typst_node.specs.Tree.{AsError, AsInner, AsLeaf, Content, Tree, IsInner, inner_tree}
 use Rattle.typst_node.specs.declared.node.build.InnerError.{InnerError}
 use Rattle.typst_node.specs.declared.node.build.InnerError.TheVariants as inner
 use Rattle.typst_node.specs.declared.node.replace.ReplaceError.{ReplaceError}
@@ -14,6 +15,7 @@ use Rattle.typst_node.specs.declared.node.replace.ReplaceError.TheVariants as re
 use Rattle.typst_node.proofs.Opens.{count_append}
 use Rattle.typst_node.proofs.Plain.{count_plain, text_plain}
 use Rattle.typst_node.proofs.Trees.{trees_of_forest}
+use Rattle.typst_node.proofs.WholeTreeEdited.{text_forest}
 use Rattle.typst_source.specs.Blocks.{Block, blocks, bytes_of, trees_of, document}
 use Rattle.typst_source.specs.Errors.{of_inner, of_replace}
 use Rattle.typst_source.specs.Source.{IsTooLarge}
@@ -24,6 +26,15 @@ use Rattle.typst_source.proofs.Blocks.{blocks_step, drop_blocks}
 use Rattle.typst_source.proofs.Kids.{kids_are, text-append, trees_parts, new_fresh}
 use Rattle.typst_source.proofs.Laws.{AreLaws}
 use Rattle.typst_source.proofs.SoFar.{IsSoFar}
+
+own_empty : (content : Content) → IsInner content → (t : Tree) → t.label.content ≡ content → length (own_text t.label) ≡ 0
+own_empty (AsLeaf kind text) inner t is = absurd inner
+own_empty (AsError text message hints) inner t is = absurd inner
+own_empty (AsInner kind bound) inner t is = ap (λ c. length (own_text record t.label { content = c })) is
+
+-- the sums of an inner node fit a usize where those of its children do
+pub whole_fits : (t : Tree) (ts : List Tree) → IsInner t.label.content → SumsFit ts → TreeFits (with_children [] ts t)
+whole_fits t ts inner fit = (omega (arith, text_forest t ts, own_empty t.label.content inner t refl, fit.0), fit.1)
 
 -- the error that an inner node's becomes is an overflow only where that was
 pub inner_overflow : {A : Type 0} (r : Result A SourceError) (e : InnerError) → IsErrAnd r (λ s. s ≡ of_inner e) → IsErrOf r Overflow → e ≡ inner.Overflow

@@ -1,12 +1,12 @@
 -- Edits that fit no inner node, one step of a path at a time.
-use Rattle.std.proofs.Common.{◌≡◌, ◌∙◌, ℕ, suc, ◌+◌, ◌<◌, ◌^◌, List, [], ◌∷◌, length, take, get_or, Some, ap, sym, subst, arith}
+use Rattle.std.proofs.Common.{◌≡◌, ◌∙◌, ℕ, suc, ◌+◌, ◌<◌, List, ◌∷◌, length, get_or, Some, ap, sym, subst, arith}
 use Rattle.std.specs.Prelude.{slice_get}
 use Rattle.std.proofs.lemmas.Option.{slice_get_within, get_or_from_slice_get}
 use Rattle.typst_node.specs.Tree.{Tree, trees}
 use Rattle.typst_node.specs.Paths.{no_tree}
 use Rattle.typst_node.specs.PlainEdit.{FitsInner}
 use Rattle.typst_node.proofs.EditStep.{fits_cons}
-use Rattle.typst_tree.specs.Edits.{IsMisfitBelow, LacksChild}
+use Rattle.typst_tree.specs.Edits.{IsMisfitBelow}
 use Rattle.typst_tree.specs.declared.edit.EditError.{EditError}
 use Rattle.typst_tree.specs.declared.edit.EditError.TheVariants.{NoNode, Leaf, Range, Refused}
 

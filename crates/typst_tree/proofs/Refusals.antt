@@ -1,5 +1,5 @@
 -- In a numbered tree each node has a file id.
-use Rattle.std.proofs.Common.{◌≡◌, ℕ, ◌<◌, ◌≤◌, List, [], ◌∷◌, get_or, arith}
+use Rattle.std.proofs.Common.{ℕ, List, [], ◌∷◌, get_or, arith}
 use Rattle.typst_node.specs.Tree.{Tree, trees}
 use Rattle.typst_node.specs.Numbered.{IsNumbered}
 use Rattle.typst_node.specs.Paths.{IsPath, tree_at, no_tree}

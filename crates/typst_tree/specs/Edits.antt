@@ -1,6 +1,6 @@
 -- What an edit of a numbered tree does, and why it isn't done.
 use Rattle.std.specs.Prelude.{ℕ, ◌≡◌, ◌+◌, ◌≤◌, List, length, take, slice_get, Some, Result, Ok, Err}
-use Rattle.typst_node.specs.Tree.{Tree, trees, IsInner}
+use Rattle.typst_node.specs.Tree.{Tree, IsInner}
 use Rattle.typst_node.specs.Paths.{IsPath, tree_at, trees_at}
 use Rattle.typst_node.specs.Edit.{Edit, IsUnfiled}
 use Rattle.typst_node.specs.Accepted.{IsAccepted}

@@ -148,11 +148,11 @@ impl NumberedTree {
     /// Serves one request as [`session::run`] does. A replacement that is refused or doesn't fit changes nothing.
     ///
     /// It takes as long as [`SyntaxNode::replace_at`], or for a search as long as `LinkedNode::find`.
-    pub fn serve(&mut self, alloc: Global, request: Request) -> Reply
+    pub fn serve(&mut self, alloc: Global, mut request: Request) -> Reply
         ensures step { Step self.old request result self.new }
         ensures numbered { IsNumberedFor self.old.label.span.file self.new }
     {
-        session::serve(alloc, &mut self.root, request)
+        session::serve(alloc, &mut self.root, &mut request)
     }
 
     /// Serves the requests in order as [`session::run`] does. Each `Ask` becomes the `Told` of its reply.

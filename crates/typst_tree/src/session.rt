@@ -111,17 +111,17 @@ fn answer(alloc: Global, root: &mut SyntaxNode, slot: &mut Slot)
     requires { IsNumbered root.old }
     ensures { Answers root.old slot.old slot.new root.new }
 {
-    *slot = match mem::replace(slot, Slot::Told(Reply::NoMemory)) {
-        Slot::Ask(request) => Slot::Told(serve(alloc, root, request)),
-        told => told,
-    };
+    if let Slot::Ask(request) = slot {
+        let reply = serve(alloc, root, request);
+        *slot = Slot::Told(reply);
+    }
 }
 
-/// Serves one request: changes the tree, and answers the reply.
+/// Serves one request: changes the tree, and answers the reply. The nodes of a replacement are taken out of the request.
 #[tactic(auto, using(crate::proofs::Runs::step_numbered))]
-pub(crate) fn serve(alloc: Global, root: &mut SyntaxNode, request: Request) -> Reply
+pub(crate) fn serve(alloc: Global, root: &mut SyntaxNode, request: &mut Request) -> Reply
     requires { IsNumbered root.old }
-    ensures step { Step root.old request result root.new }
+    ensures step { Step root.old request.old result root.new }
     ensures numbered { IsNumberedFor root.old.label.span.file root.new }
 {
     match request {
@@ -129,8 +129,11 @@ pub(crate) fn serve(alloc: Global, root: &mut SyntaxNode, request: Request) -> R
             path,
             range,
             replacement,
-        } => replace(alloc, root, path, range, replacement),
-        Request::Find(span) => find(alloc, root, span),
+        } => {
+            let replacement = mem::replace(replacement, Vec::new(alloc));
+            replace(alloc, root, path, range.start..range.end, replacement)
+        }
+        Request::Find(span) => find(alloc, root, *span),
     }
 }
 
@@ -138,14 +141,14 @@ pub(crate) fn serve(alloc: Global, root: &mut SyntaxNode, request: Request) -> R
 fn replace(
     alloc: Global,
     root: &mut SyntaxNode,
-    path: Vec<usize>,
+    path: &Vec<usize>,
     range: Range<usize>,
     replacement: Vec<SyntaxNode>,
 ) -> Reply
     requires { IsNumbered root.old }
-    ensures { Step root.old (Replace path range replacement) result root.new }
+    ensures { Step root.old (Replace path.now range replacement) result root.new }
 {
-    match root.try_replace_at(alloc, &path, range, replacement) {
+    match root.try_replace_at(alloc, path, range, replacement) {
         Some(Ok(renumbered)) => Reply::Renumbered(renumbered),
         Some(Err(error)) => Reply::Refused(error),
         None => Reply::Misfit,

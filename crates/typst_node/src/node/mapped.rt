@@ -1,5 +1,5 @@
 //! Trees whose nodes get the places of mapped bytes.
-ghost use Rattle.std.specs.Prelude.{◌≡◌, ◌+◌, ◌<◌, ◌≤◌, ◌↔◌, length, map, IsErr, IsErrOf, OnErr, OnOk};
+ghost use Rattle.std.specs.Prelude.{◌≡◌, ◌+◌, ◌<◌, ◌≤◌, ◌↔◌, length, map, IsErr, IsErrOf, OnErr, OnOk, ◌^◌};
 ghost use Rattle.typst_base.specs.SubRange.{interval};
 ghost use Rattle.typst_node.specs.Mapped.{IsMapped, mapped_hint, mapped_part, mapped_warning};
 ghost use Rattle.typst_node.specs.MappedForest.{mapped_tree, mapped_trees, mapped_warnings};
@@ -60,11 +60,10 @@ impl SyntaxNode {
     /// Gives each node of the tree the place of its bytes. The bytes begin at this offset of the mapped text.
     #[cycle(map_places)]
     fn map_places(&mut self, id: FileId, mapper: &RangeMapper, at: usize)
-        requires { at + length (text self.old) ≤ length mapper.now.positions }
+        requires inside { at + length (text self.old) ≤ length mapper.now.positions }
+        requires fits { length mapper.now.positions < 2 ^ 64 }
         ensures { self.new ≡ mapped_tree mapper.now id at self.old }
     {
-        // Read for the proof: the mapper's length is a usize, so no offset below it overflows.
-        let _total = mapper.total_len();
         let end = at + self.len();
         let span = Span::from_range(id, mapper.map(at..end));
         match &mut self.node {
@@ -93,6 +92,7 @@ impl InnerNode {
         requires end { end ≡ at + length (text_of_all self.old.children.items) }
         requires measured { IsMeasured self.old }
         requires inside { end ≤ length mapper.now.positions }
+        requires fits { length mapper.now.positions < 2 ^ 64 }
         ensures measured { IsMeasured self.new }
         ensures len { length (text_of_all self.new.children.items) ≡ length (text_of_all self.old.children.items) }
         ensures upper { self.new.upper ≡ self.old.upper }
@@ -100,8 +100,6 @@ impl InnerNode {
         ensures warnings { shown_warnings self.new.extras.warnings
             ≡ mapped_warnings mapper.now (interval at (at + length (text_of_all self.old.children.items))) self.old.extras.warnings }
     {
-        // Read for the proof: the mapper's length is a usize, so no offset below it overflows.
-        let _total = mapper.total_len();
         self.extras.map_parts(mapper, at, end);
         let mut at = at;
         for child in self.children.iter_mut() {

@@ -1,7 +1,7 @@
 //! Replacements of children.
-ghost use Rattle.std.specs.Prelude.{[], ◌≡◌, ◌+◌, ◌-◌, ◌^◌, ◌<◌, ◌≤◌, ◌↔◌, length, IfSome, IfNone, IsSome, Ok, IsOk, IfErr, IfOk, IsTrue, OnOk, OnErr, IsErrOf, MatchOption};
+ghost use Rattle.std.specs.Prelude.{[], List, ◌≡◌, ◌+◌, ◌-◌, ◌^◌, ◌<◌, ◌≤◌, ◌↔◌, length, IfSome, IfNone, IsSome, Ok, IsOk, IfErr, IfOk, IsTrue, OnOk, OnErr, IsErrOf, MatchOption};
 ghost use Rattle.std.specs.List.{splice};
-ghost use Rattle.typst_node.specs.Tree.{forest, trees, IsInner};
+ghost use Rattle.typst_node.specs.Tree.{Tree, forest, trees, IsInner};
 ghost use Rattle.typst_node.specs.Text.{text_of_all};
 ghost use Rattle.typst_node.specs.Count.{SumsFit};
 ghost use Rattle.typst_node.specs.Interval.{IsWithin};
@@ -16,6 +16,7 @@ ghost use Rattle.typst_node.specs.FirstWindow.{HasNoFirst};
 ghost use Rattle.typst_node.specs.Renumbering.{no_window};
 ghost use Rattle.typst_node.specs.Sites.{IsFound};
 ghost use Rattle.typst_node.specs.Change.{IsChange};
+ghost use Rattle.typst_node.specs.Growth.{GrowWithin, CanGrow, ChildrenCanGrow, IsLargestGrowth};
 ghost use Rattle.typst_node.specs.EditBelow.{AreReplaced, IsReplacement};
 ghost use Rattle.typst_node.specs.declared.node.replace.ReplaceError.TheVariants.{Memory};
 
@@ -61,7 +62,15 @@ pub struct Renumbered {
     pub tried: usize,
 }
 
-/// Other nodes in place of some children. The call passes it down to where the children move.
+/// The bytes and nodes that the whole tree may gain, so that its sums still fit a usize.
+#[derive(Clone, Copy)]
+pub(super) struct Growth {
+    pub(super) len: usize,
+    pub(super) descendants: usize,
+}
+
+/// Other nodes in place of some children, and how much the tree may grow. The call passes it down to where the children
+/// move.
 #[derive(Drop)]
 pub(super) struct Splice {
     // The indices of the children that go.
@@ -69,6 +78,7 @@ pub(super) struct Splice {
     pub(super) to: usize,
     // The nodes that come.
     pub(super) others: Vec<SyntaxNode>,
+    pub(super) growth: Growth,
 }
 
 /// The source of the children's numbers: the node's file id, if it has one, and the node's own number.
@@ -79,31 +89,23 @@ struct Owner {
 }
 
 impl InnerNode {
-    /// The change that replaces some children by others, if the node's own sums fit a usize then. It reads only these
-    /// children and the others.
+    /// The change that replaces some children by others, if the tree may grow so much. It reads only these children and
+    /// the others.
     #[tactic(auto, using(crate::proofs::Opens::splice_count, crate::proofs::Opens::splice_text))]
-    fn change(&self, len: usize, edit: &Splice) -> Option<Change>
-        requires len { len ≡ length (text_of_all self.now.children.items) }
+    fn change(&self, edit: &Splice) -> Option<Change>
         requires measured { IsMeasured self.now }
         requires window { edit.now.from ≤ edit.now.to }
         requires inside { edit.now.to ≤ length self.now.children.items }
-        ensures { MatchOption result
-            (¬ (SumsFit (splice self.now.children.items edit.now.from edit.now.to edit.now.others.items)))
-            (IsChange edit.now.from edit.now.to self.now.children.items edit.now.others.items) }
+        requires growth { ChildrenCanGrow edit.now.growth self.now.children.items }
+        ensures { let new : List Tree = splice self.now.children.items edit.now.from edit.now.to edit.now.others.items in
+            MatchOption result (¬ (GrowWithin edit.now.growth self.now.children.items new))
+            (λ change. GrowWithin edit.now.growth self.now.children.items new
+            × IsChange edit.now.from edit.now.to self.now.children.items edit.now.others.items change) }
     {
-        let descendants = self.descendants;
-        let Some(gone) = sums_of(&self.children[edit.from..edit.to]) else {
-            return None;
-        };
-        let Some(added) = sums_of(&edit.others) else {
-            return None;
-        };
-        if (len - gone.len).checked_add(added.len).is_none() {
-            return None;
-        }
-        if (descendants - gone.descendants)
-            .checked_add(added.descendants)
-            .is_none()
+        let gone = sums_of(&self.children[edit.from..edit.to])?;
+        let added = sums_of(&edit.others)?;
+        if added.len > gone.len + edit.growth.len
+            || added.descendants > gone.descendants + edit.growth.descendants
         {
             return None;
         }
@@ -179,16 +181,17 @@ impl InnerNode {
         requires measured { IsMeasured self.old }
         requires window { edit.from ≤ edit.to }
         requires inside { edit.to ≤ length self.old.children.items }
+        requires growth { ChildrenCanGrow edit.growth self.old.children.items }
         requires number { (2 ≤ owner.number + 1) × (owner.number < 2 ^ 48) }
         requires upper { IfSome owner.id (λ file. self.old.upper ≤ 2 ^ 47) }
         requires within { IfSome owner.id (λ file.
             IsWithin file (owner.number + 1) self.old.upper (forest self.old.children.items)) }
         ensures made { let site : Site = site_at (owner.number + 1) self.old.upper
             edit.from edit.to edit.others.items self.old.children.items in
-            AreReplaced site owner.id self.old self.new len.new result }
+            AreReplaced site edit.growth owner.id self.old self.new len.new result }
         ensures memory { length edit.others.items ≤ edit.to - edit.from → ¬ (IsErrOf result Memory) }
     {
-        let Some(change) = self.change(*len, &edit) else {
+        let Some(change) = self.change(&edit) else {
             return Err(ReplaceError::Overflow);
         };
         let Some(id) = owner.id else {
@@ -228,19 +231,21 @@ impl InnerNode {
         requires measured { IsMeasured self.old }
         requires window { edit.from ≤ edit.to }
         requires inside { edit.to ≤ length self.old.children.items }
+        requires growth { ChildrenCanGrow edit.growth self.old.children.items }
         requires number { (2 ≤ owner.number + 1) × (owner.number < 2 ^ 48) }
         requires upper { IfSome owner.id (λ file. self.old.upper ≤ 2 ^ 47) }
         requires within { IfSome owner.id (λ file.
             IsWithin file (owner.number + 1) self.old.upper (forest self.old.children.items)) }
         ensures made { let site : Site = site_among (owner.number + 1) self.old.upper
             edit.from edit.to edit.others.items self.old.children.items in
-            AreReplaced site owner.id self.old self.new len.new result }
+            AreReplaced site edit.growth owner.id self.old self.new len.new result }
         ensures memory { length edit.others.items ≤ edit.to - edit.from → ¬ (IsErrOf result Memory) }
     {
         let Splice {
             from,
             to,
             mut others,
+            growth,
         } = edit;
         let first = count_common_first(&self.children[from..to], &others);
         let (_, left) = others.split_at(first);
@@ -250,20 +255,32 @@ impl InnerNode {
             from: from + first,
             to: to - last,
             others,
+            growth,
         };
         self.replace_changed(len, owner, rest)
     }
 }
 
 impl SyntaxNode {
+    /// How much this tree may grow, if it is the whole tree.
+    pub(super) fn growth(&self) -> Growth
+        ensures { IsLargestGrowth result self.now }
+    {
+        Growth {
+            len: usize::MAX - self.len(),
+            descendants: usize::MAX - self.descendants(),
+        }
+    }
+
     /// Replaces the children in a range, if this is an inner node and the range lies within its children.
     #[inline(never)]
     pub(super) fn replace_range(&mut self, edit: Splice) -> Option<Result<Renumbered, ReplaceError>>
         requires numbered { FitsInner [] edit.from edit.to self.old → IsNumberedOrUnfiled [] self.old }
+        requires growth { CanGrow edit.growth self.old }
         ensures fits { IsSome result ↔ FitsInner [] edit.from edit.to self.old }
         ensures misfit { IfNone result (self.new ≡ self.old) }
         ensures err { IfSome result (λ answer. OnErr answer (self.new ≡ self.old)) }
-        ensures made { IfSome result (IsReplacement edit.from edit.to edit.others.items self.old self.new) }
+        ensures made { IfSome result (IsReplacement edit.from edit.to edit.others.items edit.growth self.old self.new) }
     {
         let id = self.span.id();
         let number = self.span.number();
@@ -321,6 +338,7 @@ impl SyntaxNode {
             from: range.start,
             to: range.end,
             others: replacement,
+            growth: self.growth(),
         };
         if let Some(answer) = self.replace_range(edit) {
             return answer;

@@ -8,14 +8,15 @@ ghost use Rattle.typst_node.specs.Stale.{IsStale};
 ghost use Rattle.typst_node.specs.Paths.{IsInnerAt, IsPath, StaysBeside, tree_at, trees_at};
 ghost use Rattle.typst_node.specs.PlainEdit.{edited_at, EditFits, FitsInner, TreeFits};
 ghost use Rattle.typst_node.specs.Renumbering.{no_window};
+ghost use Rattle.typst_node.specs.Growth.{ChildrenCanGrow};
 ghost use Rattle.typst_node.specs.ChangedChildren.{StaysLongest};
 ghost use Rattle.typst_node.specs.Edit.{Fits, IsNumberedOrUnfiled, edit_of};
 ghost use Rattle.typst_node.specs.Accepted.{IsAccepted};
 ghost use Rattle.typst_node.specs.Refusals.{IsRefusedBy};
 ghost use Rattle.typst_node.specs.EditBelow.{child_of};
-ghost use Rattle.typst_node.specs.Errand.{FitsAt, IsCarriedOut, IsErrand, edited_by};
+ghost use Rattle.typst_node.specs.Errand.{FitsAt, IsCarriedOut, IsErrand};
 
-use crate::node::inner::{Sums, sums_of};
+use crate::node::inner::Sums;
 use crate::node::replace::{Renumbered, ReplaceError, Splice};
 use crate::node::settle::Change;
 use crate::node::{InnerNode, Node, SyntaxNode};
@@ -43,27 +44,26 @@ impl Errand {
         ensures label { node.new.label ≡ node.old.label }
         ensures done { IsCarriedOut self.old self.new node.old node.new }
     {
-        let (from, to) = (self.edit.from, self.edit.to);
         let empty = Vec::new(*self.edit.others.allocator());
         let others = mem::replace(&mut self.edit.others, empty);
-        self.answer = node.replace_range(Splice { from, to, others });
+        let Splice {
+            from,
+            to,
+            growth,
+            ..
+        } = self.edit;
+        self.answer = node.replace_range(Splice {
+            from,
+            to,
+            others,
+            growth,
+        });
     }
 }
 
 impl SyntaxNode {
-    /// The node that a path of child indices leads to.
-    fn node_at(&self, path: &[usize]) -> &SyntaxNode
-        requires { IsPath path.now self.now }
-        ensures { result.now ≡ tree_at path.now self.now }
-    {
-        match path.split_first() {
-            None => self,
-            Some((index, rest)) => self.child_slice()[*index].node_at(rest),
-        }
-    }
-
-    /// Replaces the children in a range of the node that a path leads to. It does so only if that is an inner node, the
-    /// range lies within its children, and the sums of this node fit then.
+    /// Replaces the children in a range of the node that a path leads to. It does so only if that is an inner node and
+    /// the range lies within its children.
     #[cycle(at)]
     fn replace_below(&mut self, path: &[usize], errand: &mut Errand)
         requires { IsErrand path.now errand.old self.old }
@@ -80,8 +80,6 @@ impl SyntaxNode {
                     if *index >= inner.children.len() {
                         return;
                     }
-                    // Read for the proof: the node count is a usize, as the length is.
-                    let _count = inner.descendants;
                     let beside = *len - inner.children[*index].len();
                     inner.replace_in(*index, rest, errand);
                     *len = beside + inner.children[*index].len();
@@ -97,11 +95,9 @@ impl InnerNode {
     #[cycle(at)]
     fn replace_in(&mut self, index: usize, path: &[usize], errand: &mut Errand)
         requires measured { IsMeasured self.old }
-        requires fits { SumsFit self.old.children.items }
+        requires growth { ChildrenCanGrow errand.old.edit.growth self.old.children.items }
         requires index { index < length self.old.children.items }
         requires edit { IsErrand path.now errand.old (child_of self.old.children.items index) }
-        requires sums { let child = child_of self.old.children.items index in
-            FitsAt path.now errand.old child → SumsFit (set self.old.children.items index (edited_by path.now errand.old child)) }
         ensures measured { IsMeasured self.new }
         ensures sums { SumsFit self.new.children.items }
         ensures upper { self.new.upper ≡ self.old.upper }
@@ -142,69 +138,6 @@ impl InnerNode {
             gone,
             added,
         });
-    }
-}
-
-impl SyntaxNode {
-    /// Whether the length and the node count of this node and of others together fit a usize.
-    fn fits_with(&self, others: &[SyntaxNode]) -> bool
-        ensures { IsTrue result ↔ ((length (text self.now) + length (text_of_all others.now) < 2 ^ 64)
-            × (count self.now + count_of_all others.now < 2 ^ 64)) }
-    {
-        match sums_of(others) {
-            Some(added) => {
-                self.len().checked_add(added.len).is_some()
-                    && self.descendants().checked_add(added.descendants).is_some()
-            }
-            None => false,
-        }
-    }
-
-    /// Whether the length and the node count of this node fit a usize after an edit at a path.
-    #[tactic(auto, using(crate::proofs::WholeTreeEdited::count_edited, crate::proofs::WholeTreeEdited::text_edited))]
-    fn sums_fit(&self, path: &[usize], edit: &Splice) -> bool
-        requires path { IsPath path.now self.now }
-        requires range { (edit.now.from ≤ edit.now.to) × (edit.now.to ≤ length
-            (trees (tree_at path.now self.now).children)) }
-        ensures { IsTrue result ↔ TreeFits (edited_at path.now edit.now.from edit.now.to edit.now.others.items
-            self.now) }
-    {
-        let len = self.len();
-        let count = self.descendants();
-        let Some(added) = sums_of(&edit.others) else {
-            return false;
-        };
-        let children = self.node_at(path).child_slice();
-        let Some(gone) = sums_of(&children[edit.from..edit.to]) else {
-            return false;
-        };
-        if (len - gone.len).checked_add(added.len).is_none() {
-            return false;
-        }
-        (count - gone.descendants)
-            .checked_add(added.descendants)
-            .is_some()
-    }
-
-    /// Whether an edit at a path fits, but the length or the node count of this node would pass a usize after it.
-    /// Mostly the sums fit even with the nodes that come added and none removed. Then it need not look at the nodes
-    /// that go.
-    #[tactic(auto, using(crate::proofs::WholeTreeEdited::count_edited, crate::proofs::WholeTreeEdited::text_edited))]
-    fn overflows(&self, path: &[usize], edit: &Splice) -> bool
-        ensures over { IsTrue result
-            → FitsInner path.now edit.now.from edit.now.to self.now
-            × ¬ (TreeFits (edited_at path.now edit.now.from edit.now.to edit.now.others.items self.now)) }
-        ensures fits { result ≡ false
-            → FitsInner path.now edit.now.from edit.now.to self.now
-            → TreeFits (edited_at path.now edit.now.from edit.now.to edit.now.others.items self.now) }
-    {
-        if self.fits_with(&edit.others)
-            || !self.edit_fits(path, edit.from..edit.to)
-            || !self.node_at(path).is_inner()
-        {
-            return false;
-        }
-        !self.sums_fit(path, edit)
     }
 }
 
@@ -258,14 +191,8 @@ impl SyntaxNode {
             from: range.start,
             to: range.end,
             others: replacement,
+            growth: self.growth(),
         };
-        if path.is_empty() {
-            // The sums of this node are those of the whole tree, so the replacement tests them itself.
-            return self.replace_range(edit);
-        }
-        if self.overflows(path, &edit) {
-            return Some(Err(ReplaceError::Overflow));
-        }
         let mut errand = Errand { edit, answer: None };
         self.replace_below(path, &mut errand);
         errand.answer

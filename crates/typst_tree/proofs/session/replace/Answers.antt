@@ -17,7 +17,7 @@ returns-in-Some-Err c =
     let old = c.args.root.now in
     let why = c.in-Some-Err.error in
     let fit : Fits (edit_of c.deref.result.now c.args.range c.args.replacement.items) old = c.in-Some-Err.ensures.fits.0 refl in
-    let there : IsPath c.args.path.items old = subst (λ (p : List ℕ). IsPath p old) c.deref.ensures.value fit.0 in
-    let refused : IsRefusedBy why (edit_of c.args.path.items c.args.range c.args.replacement.items) old =
+    let there : IsPath c.args.path.now.items old = subst (λ (p : List ℕ). IsPath p old) c.deref.ensures.value fit.0 in
+    let refused : IsRefusedBy why (edit_of c.args.path.now.items c.args.range c.args.replacement.items) old =
     subst (λ (p : List ℕ). IsRefusedBy why (edit_of p c.args.range c.args.replacement.items) old) c.deref.ensures.value (rw c.in-Some-Err.field-0-is at c.in-Some-Err.ensures.refused) in
-    (refused, filed_at c.args.path.items old there c.requires, subst (λ r. OnErr r (c.try_replace_at.new.self ≡ old)) c.in-Some-Err.field-0-is c.in-Some-Err.ensures.err)
+    (refused, filed_at c.args.path.now.items old there c.requires, subst (λ r. OnErr r (c.try_replace_at.new.self ≡ old)) c.in-Some-Err.field-0-is c.in-Some-Err.ensures.err)

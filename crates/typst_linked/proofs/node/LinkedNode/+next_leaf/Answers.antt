@@ -1,4 +1,5 @@
-use Rattle.std.proofs.Common.{◌≡◌, ◌+◌, ◌∙◌, length, take, Some, None, ap, sym}
+use Rattle.std.proofs.Common.{◌≡◌, ◌+◌, ◌∙◌, length, take, Some, None, ap, sym, arith}
+use Rattle.typst_linked.proofs.Places.{child_within}
 use Rattle.std.proofs.lemmas.Result.{IfOk-weaker}
 use Rattle.typst_node.specs.Tree.{trees}
 use Rattle.typst_node.specs.Text.{text_of_all}
@@ -6,36 +7,47 @@ use Rattle.typst_linked.specs.Place.{subtree, child_place, last_step}
 use Rattle.typst_linked.specs.Search.{found_below}
 use Rattle.typst_linked.specs.Leaves.{later_from, stop_behind, elsewhere}
 use Rattle.typst_linked.proofs.Stops.{next_hit, next_miss, root_stop, parent_there}
+use Rattle.typst_linked.proofs.Places.{some_of}
 use Rattle.typst_linked.proofs.node.LinkedNode.+next_leaf.Goals as goal
 
 pub returns-in_default : goal.returns-in_default
-returns-in_default t c = root_stop c.args.self.now c.in_default.ensures
+returns-in_default t c = root_stop c.args.self.now c.in_default.ensures.parent
 
 pub returns-in-Some-2 : goal.returns-in-Some-2
 returns-in-Some-2 t c =
     let p = c.in-Some.parent.now.value in
     let i = last_step c.args.self.now.path in
-    let place : c.args.self.now ≡ child_place p i = c.in-Some.ensures in
-    let node = c.get-node.result.now in
-    let there : subtree (child_place p i) ≡ Some node = ap subtree (sym place) ∙ c.get-node.ensures in
+    let place : c.args.self.now ≡ child_place p i = c.in-Some.ensures.parent in
+    let found = some_of (subtree c.args.self.now) c.in-Some.ensures.there in
+    let node = found.0 in
+    let there : subtree (child_place p i) ≡ Some node = ap subtree (sym place) ∙ found.1 in
     let x = parent_there p.path i p.root node there in
     let e : Some c.in-Some-2.leaf ≡ found_below (λ t. later_from t (i + 1)) p =
-    sym c.in-Some-2.is ∙ c.in_ok-leaf.ensures ∙ ap (λ k. found_below (λ t. later_from t (k + 1)) p) c.index-start.ensures in
+    sym c.in-Some-2.is ∙ c.in_ok-leaf.ensures ∙ ap (λ k. found_below (λ t. later_from t (k + 1)) p) c.index.ensures in
     next_hit p i x.0 node c.in-Some-2.leaf x.1 x.2 e ∙ sym (ap (elsewhere stop_behind) place)
 
 pub returns : goal.returns
 returns t c =
     let p = c.in-Some.parent.now.value in
     let i = last_step c.args.self.now.path in
-    let place : c.args.self.now ≡ child_place p i = c.in-Some.ensures in
-    let node = c.get-node.result.now in
-    let there : subtree (child_place p i) ≡ Some node = ap subtree (sym place) ∙ c.get-node.ensures in
+    let place : c.args.self.now ≡ child_place p i = c.in-Some.ensures.parent in
+    let found = some_of (subtree c.args.self.now) c.in-Some.ensures.there in
+    let node = found.0 in
+    let there : subtree (child_place p i) ≡ Some node = ap subtree (sym place) ∙ found.1 in
     let x = parent_there p.path i p.root node there in
     let e : None ≡ found_below (λ t. later_from t (i + 1)) p =
-    sym c.in_default-2.is ∙ c.in_ok-leaf.ensures ∙ ap (λ k. found_below (λ t. later_from t (k + 1)) p) c.index-start.ensures in
+    sym c.in_default-2.is ∙ c.in_ok-leaf.ensures ∙ ap (λ k. found_below (λ t. later_from t (k + 1)) p) c.index.ensures in
     let outward : elsewhere stop_behind c.deref-2.result.now ≡ elsewhere stop_behind c.args.self.now =
     ap (elsewhere stop_behind) c.deref-2.ensures ∙ next_miss p i x.0 node x.1 x.2 e ∙ sym (ap (elsewhere stop_behind) place) in
     IfOk-weaker c.next_leaf.result (λ r. r ≡ elsewhere stop_behind c.deref-2.result.now) (λ r. r ≡ elsewhere stop_behind c.args.self.now) (λ r h. h ∙ outward) c.next_leaf.ensures
 
-pub leaf_from-requires : goal.leaf_from-requires
-leaf_from-requires t c = λ s hs. c.end_below-begin.ensures s (ap subtree c.deref.ensures ∙ hs) ∙ ap (λ k. length (text_of_all (take (k + 1) (trees s.children)))) (sym c.index-start.ensures)
+pub leaf_behind-requires-clause-child : goal.leaf_behind-requires-clause-child
+leaf_behind-requires-clause-child t c = λ m hm.
+    let p = c.in-Some.parent.now.value in
+    let i = last_step c.args.self.now.path in
+    let place : c.args.self.now ≡ child_place p i = c.in-Some.ensures.parent in
+    let found = some_of (subtree c.args.self.now) c.in-Some.ensures.there in
+    omega (arith, c.index.ensures, child_within p i m found.0 hm (ap subtree (sym place) ∙ found.1))
+
+pub leaf_behind-requires-clause-begin : goal.leaf_behind-requires-clause-begin
+leaf_behind-requires-clause-begin t c = λ s hs. c.end_below-begin.ensures s (ap subtree c.deref.ensures ∙ hs) ∙ ap (λ k. length (text_of_all (take (k + 1) (trees s.children)))) (sym c.index.ensures)

@@ -8,18 +8,20 @@ use Rattle.typst_linked.specs.Search.{found_below}
 use Rattle.typst_linked.specs.Leaves.{earlier_up, stop_before, elsewhere}
 use Rattle.typst_linked.proofs.Stops.{parent_there}
 use Rattle.typst_linked.proofs.StopsBefore.{prev_hit, prev_miss, root_start}
+use Rattle.typst_linked.proofs.Places.{some_of}
 use Rattle.typst_linked.proofs.node.LinkedNode.+prev_leaf.Goals as goal
 
 pub returns-in_default : goal.returns-in_default
-returns-in_default t c = root_start c.args.self.now c.in_default.ensures
+returns-in_default t c = root_start c.args.self.now c.in_default.ensures.parent
 
 pub returns-in-Some-2 : goal.returns-in-Some-2
 returns-in-Some-2 t c =
     let p = c.in-Some.parent.now.value in
     let i = last_step c.args.self.now.path in
-    let place : c.args.self.now ≡ child_place p i = c.in-Some.ensures in
-    let node = c.get-node.result.now in
-    let there : subtree (child_place p i) ≡ Some node = ap subtree (sym place) ∙ c.get-node.ensures in
+    let place : c.args.self.now ≡ child_place p i = c.in-Some.ensures.parent in
+    let found = some_of (subtree c.args.self.now) c.in-Some.ensures.there in
+    let node = found.0 in
+    let there : subtree (child_place p i) ≡ Some node = ap subtree (sym place) ∙ found.1 in
     let x = parent_there p.path i p.root node there in
     let e : Some c.in-Some-2.leaf ≡ found_below (λ t. earlier_up t i) p =
     sym c.in-Some-2.is ∙ c.in_ok-leaf.ensures ∙ ap (λ k. found_below (λ t. earlier_up t k) p) c.index-end.ensures in
@@ -29,9 +31,10 @@ pub returns : goal.returns
 returns t c =
     let p = c.in-Some.parent.now.value in
     let i = last_step c.args.self.now.path in
-    let place : c.args.self.now ≡ child_place p i = c.in-Some.ensures in
-    let node = c.get-node.result.now in
-    let there : subtree (child_place p i) ≡ Some node = ap subtree (sym place) ∙ c.get-node.ensures in
+    let place : c.args.self.now ≡ child_place p i = c.in-Some.ensures.parent in
+    let found = some_of (subtree c.args.self.now) c.in-Some.ensures.there in
+    let node = found.0 in
+    let there : subtree (child_place p i) ≡ Some node = ap subtree (sym place) ∙ found.1 in
     let x = parent_there p.path i p.root node there in
     let e : None ≡ found_below (λ t. earlier_up t i) p =
     sym c.in_default-2.is ∙ c.in_ok-leaf.ensures ∙ ap (λ k. found_below (λ t. earlier_up t k) p) c.index-end.ensures in
@@ -43,9 +46,10 @@ pub leaf_before-requires-clause-within : goal.leaf_before-requires-clause-within
 leaf_before-requires-clause-within t c = λ m hm.
     let p = c.in-Some.parent.now.value in
     let i = last_step c.args.self.now.path in
-    let place : c.args.self.now ≡ child_place p i = c.in-Some.ensures in
-    let there : subtree (child_place p i) ≡ Some c.get-node.result.now = ap subtree (sym place) ∙ c.get-node.ensures in
-    omega (arith, c.index-end.ensures, child_within p i m c.get-node.result.now hm there)
+    let place : c.args.self.now ≡ child_place p i = c.in-Some.ensures.parent in
+    let found = some_of (subtree c.args.self.now) c.in-Some.ensures.there in
+    let there : subtree (child_place p i) ≡ Some found.0 = ap subtree (sym place) ∙ found.1 in
+    omega (arith, c.index-end.ensures, child_within p i m found.0 hm there)
 
 pub leaf_before-requires-clause-begin : goal.leaf_before-requires-clause-begin
 leaf_before-requires-clause-begin t c = λ s hs. c.begin_below-begin.ensures s (ap subtree c.deref.ensures ∙ hs) ∙ ap (λ k. length (text_of_all (take k (trees s.children)))) (sym c.index-end.ensures)

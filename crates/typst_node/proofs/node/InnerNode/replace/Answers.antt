@@ -17,4 +17,4 @@ returns-clause-made c =
     let q : c.trim.new.nodes.items ≡ slice_range ys (kept_first a b ys xs) (length ys - kept_last a b ys xs) = c.trim.ensures ∙ (λ i. slice_range ys (p i) (length ys - e i)) in
     let at : site_at (c.args.owner.number + 1) c.args.self.now.upper (a + c.count_common_first-first.result) (b - c.count_common_last-last.result) c.trim.new.nodes.items xs ≡ site_among (c.args.owner.number + 1) c.args.self.now.upper a b ys xs =
     λ i. site_at (c.args.owner.number + 1) c.args.self.now.upper (a + p i) (b - e i) (q i) xs in
-    subst (λ (s : Site). AreReplaced s c.args.owner.id c.args.self.now c.replace_changed.new.self c.replace_changed.new.len c.replace_changed.result) at c.replace_changed.ensures.made
+    subst (λ (s : Site). AreReplaced s c.args.edit.growth c.args.owner.id c.args.self.now c.replace_changed.new.self c.replace_changed.new.len c.replace_changed.result) at c.replace_changed.ensures.made

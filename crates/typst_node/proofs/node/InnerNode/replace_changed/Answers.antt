@@ -43,13 +43,13 @@ renumber-requires-clause-high c =
 
 pub overflow_sub-len-2 : goal.overflow_sub-len-2
 overflow_sub-len-2 c =
-    let change = c.in-Some.ensures in
+    let change = c.in-Some.ensures.1 in
     (len_after c.args.self.now.children.items c.args.edit.others.items c.args.edit.from c.args.edit.to c.args.len.now c.in-Some.change.gone.len c.in-Some.change.added.len
     c.requires.window c.requires.len change.gone.len change.added.len).0
 
 pub overflow_add-len : goal.overflow_add-len
 overflow_add-len c =
-    let change = c.in-Some.ensures in
+    let change = c.in-Some.ensures.1 in
     let after = len_after c.args.self.now.children.items c.args.edit.others.items c.args.edit.from c.args.edit.to c.args.len.now c.in-Some.change.gone.len c.in-Some.change.added.len
     c.requires.window c.requires.len change.gone.len change.added.len in
     omega (arith, after.1, change.fits.0)
@@ -69,7 +69,7 @@ returns-clause-made c =
     let new = c.renumber.new.self.children.items in
     let within = if_some c.args.owner.id c.in-Some-id.id (λ file. IsWithin file (c.args.owner.number + 1) c.args.self.now.upper (forest xs)) c.in-Some-id.is c.requires.within in
     let put = c.put.new.self.children.items in
-    let change = c.in-Some.ensures in
+    let change = c.in-Some.ensures.1 in
     record {
       len =
           let after = len_after xs ys c.args.edit.from c.args.edit.to c.args.len.now c.in-Some.change.gone.len c.in-Some.change.added.len c.requires.window c.requires.len change.gone.len change.added.len in

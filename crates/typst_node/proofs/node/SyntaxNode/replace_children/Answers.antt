@@ -1,8 +1,7 @@
 use Rattle.std.proofs.Common.{[], refl}
 use Rattle.typst_node.specs.Edit.{Fits, edit_of}
-use Rattle.typst_node.specs.PlainEdit.{spliced}
 use Rattle.typst_node.proofs.Edited.{whole_frame, IfOk_map}
-use Rattle.typst_node.proofs.Decided.{accepted, refused, whole_fits, kids_fit}
+use Rattle.typst_node.proofs.Decided.{accepted, refused}
 use Rattle.typst_node.proofs.node.SyntaxNode.replace_children.Goals as goal
 
 pub returns-in-Some-clause-accepted : goal.returns-in-Some-clause-accepted
@@ -10,9 +9,8 @@ returns-in-Some-clause-accepted c =
     let t = c.args.self.now in
     let new = c.replace_range.new.self in
     let e = edit_of [] c.args.range c.args.replacement.items in
-    let kids = spliced c.args.range.start c.args.range.end c.args.replacement.items t in
     let fit : Fits e t = c.in-Some.ensures.fits.0 refl in
-    let made = accepted e t new fit (kids_fit t kids) (whole_fits t kids fit.1) c.in-Some.answer c.in-Some.ensures.made c.requires.numbered_ask_is_numbered
+    let made = accepted e c.growth.result t new fit c.growth.ensures c.in-Some.answer c.in-Some.ensures.made c.requires.numbered_ask_is_numbered
     (whole_frame t new c.in-Some.ensures.made.label) in
     IfOk_map c.in-Some.answer made (λ x h is. h)
 
@@ -20,6 +18,5 @@ pub returns-in-Some-clause-refused : goal.returns-in-Some-clause-refused
 returns-in-Some-clause-refused c =
     let t = c.args.self.now in
     let e = edit_of [] c.args.range c.args.replacement.items in
-    let kids = spliced c.args.range.start c.args.range.end c.args.replacement.items t in
     let fit : Fits e t = c.in-Some.ensures.fits.0 refl in
-    refused e t c.replace_range.new.self fit (kids_fit t kids) (whole_fits t kids fit.1) c.in-Some.answer c.in-Some.ensures.made
+    refused e c.growth.result t c.replace_range.new.self fit c.growth.ensures c.in-Some.answer c.in-Some.ensures.made

@@ -1,10 +1,10 @@
-use Rattle.std.proofs.Common.{◌≡◌, ◌+◌, ◌≤◌, [], length, map, refl, sym, ap, subst, ◌∙◌, arith, rules, None}
+use Rattle.std.proofs.Common.{◌≡◌, ◌+◌, ◌≤◌, List, [], length, map, refl, sym, ap, subst, ◌∙◌, arith, rules, None}
 use Rattle.std.specs.List.{splice}
 use Rattle.std.specs.Box.{with_value}
 use Rattle.std.proofs.lemmas.Result.{IfOk-weaker}
 use Rattle.typst_node.specs.View.{tree_of}
 use Rattle.typst_node.specs.declared.node.Node.TheVariants.{Inner}
-use Rattle.typst_node.specs.Tree.{trees, forest}
+use Rattle.typst_node.specs.Tree.{Tree, trees, forest}
 use Rattle.typst_node.specs.Labels.{number, bound}
 use Rattle.typst_node.specs.Plain.{plain}
 use Rattle.typst_node.specs.PlainEdit.{spliced, FitsInner}
@@ -12,9 +12,11 @@ use Rattle.typst_node.specs.Edit.{IsNumberedOrUnfiled}
 use Rattle.typst_node.specs.Window.{Site, site_of, site_among}
 use Rattle.typst_node.specs.Renumbering.{IsRenumbering}
 use Rattle.typst_node.specs.FirstWindow.{HasNoFirst}
+use Rattle.typst_node.specs.Growth.{ChildrenCanGrow, GrowWithin}
 use Rattle.typst_node.specs.EditBelow.{AreReplaced, all_at}
 use Rattle.typst_node.proofs.Trees.{trees_of_forest}
-use Rattle.typst_node.proofs.Trimmed.{trimmed_plain, fits_same}
+use Rattle.typst_node.proofs.Trimmed.{trimmed_plain, within_same}
+use Rattle.typst_node.proofs.WholeTreeEdited.{children_can_grow}
 use Rattle.typst_node.proofs.Edited.{inner_kids, inner_forest, inner_bound, inner_number, inner_file, is_inner, if_numbered, inner_label, inner_edited, numbered_after, none_file, file_none, or_left}
 use Rattle.typst_node.proofs.node.SyntaxNode.replace_range.Goals as goal
 
@@ -26,6 +28,11 @@ replace-requires-clause-number c =
     (tt, is_inner c.self.inside _ _ c.in-Inner.inner c.args.self.now c.in-Inner.is c.self.view_is, range.0, omega (arith, range.1, ap length kids, ap (λ b. length b.children.items) c.deref.ensures)) in
     let numbered : IsNumberedOrUnfiled [] c.args.self.now = c.requires.numbered fit in
     search (rules, numbered)
+
+pub replace-requires-clause-growth : goal.replace-requires-clause-growth
+replace-requires-clause-growth c =
+    let kids : trees c.args.self.now.children ≡ c.deref_mut.result.now.children.items = inner_kids c.self.inside _ _ c.in-Inner.inner c.args.self.now c.in-Inner.is c.self.view_is ∙ sym (ap (λ b. b.children.items) c.deref_mut.ensures.value) in
+    subst (ChildrenCanGrow c.args.edit.growth) kids (children_can_grow c.args.edit.growth c.args.self.now c.requires.growth)
 
 pub replace-requires-clause-upper : goal.replace-requires-clause-upper
 replace-requires-clause-upper c =
@@ -80,10 +87,13 @@ returns-in-Inner-clause-made c =
     let b = c.args.edit.to in
     let ys = c.args.edit.others.items in
     let s = site_of a b ys t in
+    let g = c.args.edit.growth in
     let result = c.replace.result in
     let new = c.replace.new.self in
+    let into : (ts : List Tree) → GrowWithin g c.deref_mut.result.now.children.items ts → GrowWithin g (trees t.children) ts = λ ts. subst (λ olds. GrowWithin g olds ts) (sym kids) in
+    let from : (ts : List Tree) → GrowWithin g (trees t.children) ts → GrowWithin g c.deref_mut.result.now.children.items ts = λ ts. subst (λ olds. GrowWithin g olds ts) kids in
     let at : site_among (c.number-number.result + 1) c.deref_mut.result.now.upper a b ys c.deref_mut.result.now.children.items ≡ s = λ i. site_among (sym num i + 1) (sym up i) a b ys (sym kids i) in
-    let e : AreReplaced s c.id-id.result c.deref_mut.result.now new c.replace.new.len result = subst (λ (z : Site). AreReplaced z c.id-id.result c.deref_mut.result.now new c.replace.new.len result) at c.replace.ensures.made in
+    let e : AreReplaced s c.args.edit.growth c.id-id.result c.deref_mut.result.now new c.replace.new.len result = subst (λ (z : Site). AreReplaced z c.args.edit.growth c.id-id.result c.deref_mut.result.now new c.replace.new.len result) at c.replace.ensures.made in
     let numbered = c.requires.numbered fit in
     let alike : map plain (all_at s) ≡ map plain (spliced a b ys t) = trimmed_plain (trees t.children) ys a b fit.2 fit.3 in
     let label = inner_label c.self.inside _ _ c.in-Inner.inner t c.in-Inner.is c.self.view_is new
@@ -92,17 +102,17 @@ returns-in-Inner-clause-made c =
       unnumberable = (
         λ h.
             let r = e.unnumberable.0 h in (
-              fits_same (all_at s) (spliced a b ys t) alike r.0,
+              within_same g (trees t.children) (all_at s) (spliced a b ys t) alike (into (all_at s) r.0),
               or_left (c.id-id.result ≡ None) (t.label.span.file ≡ 0) (HasNoFirst s) (none_file c.id-id.result t.label.span.file id) r.1,
             ),
-        λ g. e.unnumberable.1 (
-          fits_same (spliced a b ys t) (all_at s) (sym alike) g.0,
-          or_left (t.label.span.file ≡ 0) (c.id-id.result ≡ None) (HasNoFirst s) (file_none c.id-id.result t.label.span.file id) g.1,
+        λ h. e.unnumberable.1 (
+          from (all_at s) (within_same g (trees t.children) (spliced a b ys t) (all_at s) (sym alike) h.0),
+          or_left (t.label.span.file ≡ 0) (c.id-id.result ≡ None) (HasNoFirst s) (file_none c.id-id.result t.label.span.file id) h.1,
         ),
       );
       overflow = (
-        λ h fits. e.overflow.0 h (fits_same (spliced a b ys t) (all_at s) (sym alike) fits),
-        λ n. e.overflow.1 (λ fits. n (fits_same (all_at s) (spliced a b ys t) alike fits)),
+        λ h fits. e.overflow.0 h (from (all_at s) (within_same g (trees t.children) (spliced a b ys t) (all_at s) (sym alike) fits)),
+        λ n. e.overflow.1 (λ fits. n (within_same g (trees t.children) (all_at s) (spliced a b ys t) alike (into (all_at s) fits))),
       );
       memory = c.replace.ensures.memory;
       ok = IfOk-weaker result _ _ (λ r h. coe 0 1 (i. IsRenumbering s r (sym (trees_of_forest new.children.items) i)) h) e.ok;

@@ -8,12 +8,11 @@ use Rattle.typst_node.specs.Edit.{edit_of}
 use Rattle.typst_node.specs.Refusals.{IsRefusedBy}
 use Rattle.typst_node.specs.declared.node.replace.ReplaceError.{ReplaceError}
 use Rattle.typst_node.specs.declared.node.replace.ReplaceError.TheVariants as replace
-use Rattle.typst_node.proofs.Decided.{whole_fits}
 use Rattle.typst_node.proofs.Plain.{count_plain}
 use Rattle.typst_source.specs.Blocks.{document}
 use Rattle.typst_source.specs.Reparsed.{AreSeams}
 use Rattle.typst_source.proofs.Laws.{AreLaws}
-use Rattle.typst_source.proofs.TooLarge.{replace_overflow, unfit_edit}
+use Rattle.typst_source.proofs.TooLarge.{replace_overflow, unfit_edit, whole_fits}
 use Rattle.typst_source.proofs.Kids.{fresh_text}
 use Rattle.typst_source.proofs.Trees.{numbered_for, still_roomy, crowded, refused_by, is_parsed}
 use Rattle.typst_source.proofs.parsed.Parsed.reparse.Given as given

@@ -1,0 +1,101 @@
+//! Texts that are shown in the terminal.
+
+use crate::asked::{Asked, Form};
+use crate::carets::write_reports;
+use crate::drawing::draw;
+use crate::edits::NumberedEdit;
+use crate::plain::write_plain;
+use crate::problem::Problem;
+use crate::report::told_of;
+use crate::shown::Shown;
+use crate::text::Text;
+use std::alloc::Global;
+use std::io;
+use std::io::{BufWriter, Write};
+use std::rt::Files;
+use typst_rows::EditReport;
+
+/// A way to draw trees.
+pub trait Drawing {
+    /// Draws a tree, one node per line, and marks the nodes that an edit numbered anew.
+    fn draw<W: Write>(
+        alloc: Global,
+        out: &mut W,
+        shown: &Shown<'_>,
+        report: Option<&EditReport>,
+    ) -> io::Result<()>;
+}
+
+/// The drawing with kinds, ranges, numbers and texts.
+pub struct Branches;
+
+impl Drawing for Branches {
+    fn draw<W: Write>(
+        alloc: Global,
+        out: &mut W,
+        shown: &Shown<'_>,
+        report: Option<&EditReport>,
+    ) -> io::Result<()> {
+        draw(alloc, out, shown, report)
+    }
+}
+
+/// Shows a text and its edits in the terminal, as a drawing or plainly.
+pub fn show_text<'a, D: Drawing, R: Files + Input + Print + AllocGlobal>(
+    rt: &R,
+    asked: &Asked<'a>,
+) -> Result<(), Problem<'a>> {
+    let alloc = rt.alloc();
+    let (mut text, edits) = Text::read(rt, asked)?;
+    let mut out = BufWriter::new(alloc, io::writer(rt))?;
+    let done = match asked.form {
+        Form::Plain => write_last(alloc, &mut out, &mut text, &edits),
+        _ => write_all::<D, _>(alloc, &mut out, &mut text, &edits),
+    };
+    let flushed = out.flush();
+    done?;
+    flushed?;
+    Ok(())
+}
+
+/// Writes a text plainly, after all its edits.
+fn write_last<'a, W: Write>(
+    alloc: Global,
+    out: &mut W,
+    text: &mut Text<'a>,
+    edits: &[NumberedEdit],
+) -> Result<(), Problem<'a>> {
+    for edit in edits {
+        let _ = text.edit(alloc, edit)?;
+    }
+    write_plain(alloc, out, &text.shown())?;
+    Ok(())
+}
+
+/// Draws a text, and draws it again after each edit.
+fn write_all<'a, D: Drawing, W: Write>(
+    alloc: Global,
+    out: &mut W,
+    text: &mut Text<'a>,
+    edits: &[NumberedEdit],
+) -> Result<(), Problem<'a>> {
+    write_tree::<D, _>(alloc, out, &text.shown(), None)?;
+    for edit in edits {
+        let report = text.edit(alloc, edit)?;
+        let told = told_of(alloc, edit, &report)?;
+        writeln!(out, "\n{told}\n")?;
+        write_tree::<D, _>(alloc, out, &text.shown(), Some(&report))?;
+    }
+    Ok(())
+}
+
+/// Draws a tree, and writes its errors and warnings below it.
+fn write_tree<D: Drawing, W: Write>(
+    alloc: Global,
+    out: &mut W,
+    shown: &Shown<'_>,
+    report: Option<&EditReport>,
+) -> io::Result<()> {
+    D::draw(alloc, out, shown, report)?;
+    write_reports(alloc, out, shown)
+}
