@@ -7,6 +7,8 @@ use Rattle.typst_node.specs.Tree.{Content, AsLeaf, AsError, AsInner, Tree, trees
 use Rattle.typst_node.specs.Text.{content_text, own_text, text, text_of_all}
 use Rattle.typst_linked.specs.Place.{Place, child_place}
 use Rattle.typst_linked.specs.Linked.{IsAt, place_below}
+use Rattle.typst_linked.specs.Part.{HasNoOwnText}
+use Rattle.typst_linked.proofs.Nearest.{parent_tree-child}
 use Rattle.typst_node.proofs.PathSteps.{at-push, pushed}
 use Rattle.typst_node.proofs.Offsets.{offset-push, length-text, text_of_all-more, text_of_all-take}
 
@@ -26,6 +28,8 @@ child_is_at p n c o at i kids own s same inner e =
     record {
       node_is = at-push p.path i p.root n c own.node_is s;
       offset_is = omega (arith, e, own.offset_is, offset-push p.path i p.root n c own.node_is s);
+      bare = λ t h. let is : Some n ≡ Some t = sym own.node_is ∙ sym (parent_tree-child p i) ∙ h in let same_tree : n ≡ t = cc in
+          subst (λ (u : Tree). HasNoOwnText u) same_tree (λ j u there. no_own_text n u j kids same inner there);
       within = omega (arith, e, own.within, length-text n, text_of_all-more (trees n.children) i c s, text_of_all-take (trees n.children) (i + 1));
       fits = own.fits;
       counted = own.counted;
@@ -39,15 +43,13 @@ pub place_with : (node : Tree) (i : ℕ) (o : Option (Rc Place Global)) (parent 
 place_with node i o parent e = ap (place_below node i) e
 
 -- where the text of a child begins, from where both stand
-pub begin_in : (p : Place) (n c : Tree) (o at i : ℕ) (kids : List Tree) → IsAt p n o → IsAt (child_place p i) c at → kids ≡ trees n.children → (¬ (IsInner n.label.content) → kids ≡ []) →
-    at ≡ o + length (text_of_all (take i (trees n.children)))
-begin_in p n c o at i kids own child same inner =
+pub begin_in : (p : Place) (n c : Tree) (o at i : ℕ) → IsAt p n o → IsAt (child_place p i) c at → at ≡ o + length (text_of_all (take i (trees n.children)))
+begin_in p n c o at i own child =
     let s = pushed p.path i p.root n c own.node_is child.node_is in
-    omega (arith, no_own_text n c i kids same inner s, own.offset_is, child.offset_is, offset-push p.path i p.root n c own.node_is s)
+    omega (arith, child.bare n (parent_tree-child p i ∙ own.node_is) i c s, own.offset_is, child.offset_is, offset-push p.path i p.root n c own.node_is s)
 
 -- and where it ends
-pub end_in : (p : Place) (n c : Tree) (o at i : ℕ) (kids : List Tree) → IsAt p n o → IsAt (child_place p i) c at → kids ≡ trees n.children → (¬ (IsInner n.label.content) → kids ≡ []) →
-    at + length (text c) ≡ o + length (text_of_all (take (i + 1) (trees n.children)))
-end_in p n c o at i kids own child same inner =
+pub end_in : (p : Place) (n c : Tree) (o at i : ℕ) → IsAt p n o → IsAt (child_place p i) c at → at + length (text c) ≡ o + length (text_of_all (take (i + 1) (trees n.children)))
+end_in p n c o at i own child =
     let s = pushed p.path i p.root n c own.node_is child.node_is in
-    omega (arith, begin_in p n c o at i kids own child same inner, text_of_all-more (trees n.children) i c s)
+    omega (arith, begin_in p n c o at i own child, text_of_all-more (trees n.children) i c s)

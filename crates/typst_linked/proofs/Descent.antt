@@ -62,6 +62,7 @@ descent_start root wanted looks len many n l is low long lf all mf = (
     stands = record {
       node_is = refl;
       offset_is = sym (offset-root root);
+      bare = λ t e. absurd (let no : None ≡ Some t = e in cc);
       within = omega arith;
       fits = omega (arith, long);
       counted = omega (arith, all);

@@ -154,8 +154,6 @@ impl<'a> LinkedNode<'a> {
         requires { self.now ≡ child_place parent.now (last_step self.now.path) }
         ensures { BeginsAt parent.now (last_step self.now.path) result }
     {
-        // Read for the proof: a node that has children has no text of its own.
-        let _siblings = parent.node.child_slice();
         self.offset - parent.offset
     }
 
@@ -164,8 +162,6 @@ impl<'a> LinkedNode<'a> {
         requires { self.now ≡ child_place parent.now (last_step self.now.path) }
         ensures { BeginsAt parent.now (last_step self.now.path + 1) result }
     {
-        // Read for the proof: a node that has children has no text of its own.
-        let _siblings = parent.node.child_slice();
         self.offset - parent.offset + self.node.len()
     }
 }

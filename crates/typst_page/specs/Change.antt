@@ -1,26 +1,22 @@
 -- Where the list of a node's children changed, and the windows of children around the change.
-use Rattle.std.specs.Prelude.{ℕ, ◌≡◌, ◌+◌, ◌-◌, ◌^◌, ◌<◌, ◌≤◌, List, length, take, min, slice_range}
+use Rattle.std.specs.Prelude.{ℕ, ◌≡◌, ◌+◌, ◌-◌, ◌^◌, ◌<◌, ◌≤◌, List, length, min, slice_range}
 use Rattle.typst_node.specs.Tree.{Tree}
-use Rattle.typst_node.specs.Text.{text_of_all}
 use Rattle.typst_node.specs.ChangedChildren.{kept_first, kept_last}
 use Rattle.typst_node.specs.Window.{reach}
+use Rattle.typst_linked.specs.Part.{begin_at}
 use Rattle.typst_page.specs.declared.windows.Change.{Change}
-
--- how many bytes the first n trees have
-abbrev pub bytes_before : ℕ → List Tree → ℕ
-bytes_before n ts = length (text_of_all (take n ts))
 
 -- the first n trees are all that end at or before a byte
 pub record EndBy (byte : ℕ) (ts : List Tree) (n : ℕ) : Type 0 where
   pub within : n ≤ length ts
-  pub ends : bytes_before n ts ≤ byte
-  pub most : (m : ℕ) → m ≤ length ts → bytes_before m ts ≤ byte → m ≤ n
+  pub ends : begin_at ts n ≤ byte
+  pub most : (m : ℕ) → m ≤ length ts → begin_at ts m ≤ byte → m ≤ n
 
 -- the first n trees are all that begin before a byte
 pub record BeginBefore (byte : ℕ) (ts : List Tree) (n : ℕ) : Type 0 where
   pub within : n ≤ length ts
-  pub begins : (m : ℕ) → m < n → bytes_before m ts < byte
-  pub most : n < length ts → byte ≤ bytes_before n ts
+  pub begins : (m : ℕ) → m < n → begin_at ts m < byte
+  pub most : n < length ts → byte ≤ begin_at ts n
 
 -- where the old children end that are in place of the new ones before an index: as many come after them
 abbrev pub old_end : List Tree → List Tree → ℕ → ℕ

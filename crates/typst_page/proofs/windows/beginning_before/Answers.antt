@@ -1,8 +1,8 @@
 use Rattle.std.proofs.Common.{length, ap, arith, inl, inr}
 use Rattle.typst_node.specs.Tree.{trees}
-use Rattle.typst_page.specs.Change.{bytes_before}
+use Rattle.typst_linked.specs.Part.{begin_at}
 use Rattle.std.proofs.lemmas.Bool.{cases_lt}
-use Rattle.typst_page.proofs.Bytes.{bytes_before-le}
+use Rattle.typst_linked.proofs.Covers.{begin_at-le}
 use Rattle.typst_page.proofs.windows.beginning_before.Goals as goal
 
 pub returns-in-Some : goal.returns-in-Some
@@ -12,9 +12,9 @@ returns-in-Some c =
     let all = ap length c.child_slice.ensures.children in
     record {
       within = omega (arith, all);
-      begins = λ m h. omega (arith, all, c.ending_by.ensures.ends, bytes_before-le ts m last (omega (arith, all)));
+      begins = λ m h. omega (arith, all, c.ending_by.ensures.ends, begin_at-le ts m last (omega (arith, all)));
       most = λ h.
-          elim (cases_lt (bytes_before c.min.result ts) c.args.byte) [
+          elim (cases_lt (begin_at ts c.min.result) c.args.byte) [
             | inl soon ↦ absurd (omega (arith, all, c.ending_by.ensures.most c.min.result (omega (arith, all)) (omega arith)))
             | inr late ↦ omega arith
           ];

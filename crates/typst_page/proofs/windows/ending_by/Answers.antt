@@ -4,7 +4,7 @@ use Rattle.std.proofs.lemmas.Bool.{cases_lt}
 use Rattle.std.proofs.lemmas.Option.{slice_get_read}
 use Rattle.typst_node.specs.Tree.{trees}
 use Rattle.typst_node.proofs.Offsets.{length-text, text_of_all-more, text_of_all-take}
-use Rattle.typst_page.proofs.Bytes.{bytes_before-le}
+use Rattle.typst_linked.proofs.Covers.{begin_at-le}
 use Rattle.typst_page.proofs.windows.ending_by.Goals as goal
 
 pub overflow_add-end : goal.overflow_add-end
@@ -26,7 +26,7 @@ returns-then-end-byte c =
       ends = omega arith;
       most = λ m h by.
           elim (cases_lt i m) [
-            | inl late ↦ absurd (omega (arith, text_of_all-more ts i child s, bytes_before-le ts (i + 1) m (omega arith)))
+            | inl late ↦ absurd (omega (arith, text_of_all-more ts i child s, begin_at-le ts (i + 1) m (omega arith)))
             | inr soon ↦ omega arith
           ];
     }

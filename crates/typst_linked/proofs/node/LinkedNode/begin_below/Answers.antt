@@ -10,7 +10,7 @@ pub overflow_sub-result : goal.overflow_sub-result
 overflow_sub-result c =
     let above = at_place _ _ _ _ c.parent.view_is c.parent.invariant.0 in
     let own = at_place _ _ _ _ (c.self.view_is ∙ c.requires) c.self.invariant.0 in
-    omega (arith, begin_in c.args.parent.now _ _ _ _ (last_step c.args.self.now.path) c.child_slice-siblings.result.now above own c.child_slice-siblings.ensures.children c.child_slice-siblings.ensures.inner_only)
+    omega (arith, begin_in c.args.parent.now _ _ _ _ (last_step c.args.self.now.path) above own)
 
 pub returns : goal.returns
 returns c = λ t ht.
@@ -18,4 +18,4 @@ returns c = λ t ht.
     let above = at_place _ _ _ _ c.parent.view_is c.parent.invariant.0 in
     let own = at_place _ _ _ _ (c.self.view_is ∙ c.requires) c.self.invariant.0 in
     let same = same_node t c.parent.inside.node.now c.args.parent.now ht above.node_is in
-    omega (arith, begin_in c.args.parent.now _ _ _ _ i c.child_slice-siblings.result.now above own c.child_slice-siblings.ensures.children c.child_slice-siblings.ensures.inner_only, ap (λ (u : Tree). length (text_of_all (take i (trees u.children)))) same)
+    omega (arith, begin_in c.args.parent.now _ _ _ _ i above own, ap (λ (u : Tree). length (text_of_all (take i (trees u.children)))) same)
