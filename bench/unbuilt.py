@@ -4,10 +4,13 @@
     bench/unbuilt.py [--programs FOLDER]
 
 In a fresh clone `bench/start_words` begins to build the program that it guesses while typst_show_words reads the words. Here the
-scripts stand in a folder of their own, without builds. In place of `rt try` runs a script that waits a little and then starts the
-proved build, in another folder, as `rt try` does. For each list of words the output, the status and standard error must be those of the
-proved builds, but for the line that says which builds run; the programs that were begun must be those of the table; and none may be
-left. It takes the proved builds, or the programs in the given folder.
+scripts stand in a folder of their own, without builds. In place of `rt try` runs a script that starts the proved build, in another
+folder, as `rt try` does. For each list of words the output, the status and standard error must be those of the proved builds, but for
+the line that says which builds run; the programs that were begun must be those of the table; and none may be left. It takes the proved
+builds, or the programs in the given folder.
+
+No verdict depends on how busy the machine is: typst_show_words waits here until the guessed program has begun, and a program notes that
+it has begun once it can be ended in an orderly way.
 """
 import argparse
 import os
@@ -24,9 +27,13 @@ SCRIPTS = ["show", "bench/start_words", "bench/builds", "crates.txt"]
 STAND_IN = """#!/usr/bin/env python3
 import os, signal, subprocess, sys, tempfile, time
 name, words = os.path.basename(os.getcwd()), sys.argv[sys.argv.index("--") + 1 :]
-print(name, file=open("{begun}", "a"))
 signal.signal(signal.SIGTERM, lambda *_: sys.exit(143))
+with open("{begun}", "a") as begun:
+    print(name, file=begun)
 given = sys.stdin.buffer.read()
+until = time.monotonic() + 30
+while name == "typst_show_words" and len(open("{begun}").readlines()) < int(os.environ["BEGUN"]) and time.monotonic() < until:
+    time.sleep(0.01)
 time.sleep(float(os.environ.get("SLOW_" + name, 0)))
 if os.environ.get("BROKEN") == name:
     sys.exit("error: it doesn't compile\\nrun=none proved=no")
@@ -90,13 +97,12 @@ class Place:
         stand_in.chmod(0o755)
         self.settings = {**os.environ, "PATH": f"{room / 'bin'}:{os.environ['PATH']}", "TMPDIR": str(self.kept)}
 
-    def show(self, words, settings):
+    def show(self, words, settings, guesses=True):
         """What ./show does without builds: its output, its standard error without the lines that say what is built, and its status; which
         programs were begun; and how many such lines there are."""
         self.begun.write_text("")
-        ran = subprocess.run(
-            [self.top / "show", *words], cwd=self.work, input=GIVEN, capture_output=True, env=self.settings | settings, timeout=60, check=False
-        )
+        settings = self.settings | {"BEGUN": str(1 + guesses)} | settings
+        ran = subprocess.run([self.top / "show", *words], cwd=self.work, input=GIVEN, capture_output=True, env=settings, timeout=300, check=False)
         lines = ran.stderr.splitlines(keepends=True)
         rest = [line for line in lines if not line.startswith(b"run: rt try, ")]
         return (ran.stdout, b"".join(rest), ran.returncode), sorted(self.begun.read_text().split()), len(lines) - len(rest)
@@ -120,7 +126,7 @@ def wanted(programs, work, words):
 
 def differences(place, programs):
     for words, begun, settings in RUNS:
-        did, programs_begun, told = place.show(words, settings)
+        did, programs_begun, told = place.show(words, settings, bool(begun))
         want = wanted(programs, place.work, words)
         if did != want:
             yield f"{words}: {did}, and the builds: {want}"
