@@ -121,14 +121,17 @@ def arm(patterns, value):
     return line if len(line) <= WIDTH else indent + f"\n{indent}| ".join(patterns) + f" => {value},"
 
 
+def arms(by_mode):
+    """The arms of `mode_after`. The mode that most kinds have comes last, for all other kinds."""
+    most = max(MODES, key=lambda letter: len(by_mode[letter]))
+    some = [arm(by_mode[letter], MODES[letter][0]) for letter in MODES if by_mode[letter] and letter != most]
+    return "\n".join([*some, arm(["_"], MODES[most][0])])
+
+
 def viewed_arm(kind):
     """The arm of `from_untyped` for a kind, in one line, or broken where `rt fmt` breaks it."""
-    head, view = f"            SyntaxKind::{kind.name} => Some(Expr::{kind.name}(", f"of::{kind.name}::of_kind("
-    if len(f"{head}{view}node))),") <= WIDTH:
-        return f"{head}{view}node))),"
-    if len(head + view) <= WIDTH:
-        return f"{head}{view}\n                node,\n            ))),"
-    return f"{head}\n                {view}node),\n            )),"
+    head, view = f"            SyntaxKind::{kind.name} => ", f"Expr::{kind.name}(of::{kind.name}::of_kind(node))"
+    return f"{head}{view}," if len(f"{head}{view},") <= WIDTH else f"{head}{{\n                {view}\n            }}"
 
 
 def cases(function, kinds, value):
@@ -161,7 +164,7 @@ def tables_of_kinds(table):
     return {
         "variants": lines(kinds, lambda kind: f"    /// {kind.doc}\n    {kind.name},"),
         "paths": lines(kinds, lambda kind: f"    SyntaxKind::{kind.name},"),
-        "arms of mode_after": "\n".join(arm(by_mode[letter], MODES[letter][0]) for letter in MODES if by_mode[letter]),
+        "arms of mode_after": arms(by_mode),
         "arms of name": lines(kinds, lambda kind: f'            SyntaxKind::{kind.name} => "{kind.printed}",'),
         "names in specs": ", ".join(kind.imported() for kind in kinds),
         "number_of": cases("number_of", kinds, lambda kind: kind.number),
@@ -213,7 +216,7 @@ def tables_of_views(table):
         "views of atoms": "\n\n".join(map(view, table.viewed("atoms"))),
         "views of ast": "\n\n".join(map(view, table.viewed("ast"))),
         "names of views of atoms": filled(sorted(f"{kind.name}," for kind in table.viewed("atoms")), WIDTH - 1),
-        "exports": "\n".join(sorted(f"pub use typst_ast::views::{kind.name};" for kind in viewed)),
+        "names of views": filled(sorted(f"{kind.name}," for kind in viewed), WIDTH - 1),
     }
 
 
@@ -225,8 +228,7 @@ def tables_of_expr(table):
         "cases of is_expr": f"{first_cases}\n    is kinds.{exprs[-1].name} refl{')' * (len(exprs) - 1)}",
         "expr variants": lines(variants, lambda kind: f"    /// {kind.doc}\n    {kind.name}(of::{kind.name}<'a>),"),
         "arms of from_untyped": lines(exprs, viewed_arm),
-        "arms of to_untyped": lines(variants, lambda kind: f"            Expr::{kind.name}(view) => view.to_untyped(),"),
-        "arms of kind": lines(variants, lambda kind: f"            Expr::{kind.name}(_) => SyntaxKind::{kind.name},"),
+        "arms of parts": lines(variants, lambda kind: f"            Expr::{kind.name}(view) => Parts::of(view),"),
         "arms of hash": lines(table.of("hash"), lambda kind: f"            Expr::{kind.name}(_) => true,"),
         "expr_node": by_variant("expr_node", variants, lambda kind: "atom_node v" if kind.view == "atoms" else "node_of v"),
         "expr_kind": by_variant("expr_kind", variants, lambda kind: f"kinds.{kind.name}"),

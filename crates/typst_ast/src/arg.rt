@@ -75,10 +75,7 @@ impl<'a> AstNode<'a> for Arg<'a> {
         match node.kind() {
             SyntaxKind::Named => Some(Arg::Named(Named::of_kind(node))),
             SyntaxKind::Spread => Some(Arg::Spread(Spread::of_kind(node))),
-            _ => match Expr::from_untyped(node) {
-                Some(expr) => Some(Arg::Pos(expr)),
-                None => None,
-            },
+            _ => Some(Arg::Pos(Expr::from_untyped(node)?)),
         }
     }
 

@@ -71,10 +71,7 @@ impl<'a> AstNode<'a> for ArrayItem<'a> {
     fn from_untyped(node: &'a SyntaxNode) -> Option<Self> {
         match node.kind() {
             SyntaxKind::Spread => Some(ArrayItem::Spread(Spread::of_kind(node))),
-            _ => match Expr::from_untyped(node) {
-                Some(expr) => Some(ArrayItem::Pos(expr)),
-                None => None,
-            },
+            _ => Some(ArrayItem::Pos(Expr::from_untyped(node)?)),
         }
     }
 

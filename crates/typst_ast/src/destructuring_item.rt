@@ -78,10 +78,7 @@ impl<'a> AstNode<'a> for DestructuringItem<'a> {
         match node.kind() {
             SyntaxKind::Named => Some(DestructuringItem::Named(Named::of_kind(node))),
             SyntaxKind::Spread => Some(DestructuringItem::Spread(Spread::of_kind(node))),
-            _ => match Pattern::from_untyped(node) {
-                Some(pattern) => Some(DestructuringItem::Pattern(pattern)),
-                None => None,
-            },
+            _ => Some(DestructuringItem::Pattern(Pattern::from_untyped(node)?)),
         }
     }
 

@@ -87,10 +87,8 @@ impl<'a> LetBinding<'a> {
     {
         let pattern: Pattern<'a> = cast_first(self.node());
         if pattern.kind() == SyntaxKind::Closure {
-            match first_ident(children(pattern.to_untyped())) {
-                Some(name) => LetBindingKind::Closure(name),
-                None => LetBindingKind::Closure(Ident::placeholder()),
-            }
+            let name = first_ident(children(pattern.to_untyped()));
+            LetBindingKind::Closure(name.unwrap_or(Ident::placeholder()))
         } else {
             LetBindingKind::Normal(pattern)
         }

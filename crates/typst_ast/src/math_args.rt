@@ -135,10 +135,7 @@ fn item_of<'a>(node: &'a SyntaxNode) -> Option<MathArgItem<'a>>
         SyntaxKind::Comma => Some(MathArgItem::Comma(',', node)),
         SyntaxKind::LeftParen => Some(MathArgItem::LeftParen('(', node)),
         SyntaxKind::RightParen => Some(MathArgItem::RightParen(')', node)),
-        _ => match Arg::from_untyped(node) {
-            Some(arg) => Some(MathArgItem::Arg(arg)),
-            None => None,
-        },
+        _ => Some(MathArgItem::Arg(Arg::from_untyped(node)?)),
     }
 }
 
@@ -158,10 +155,7 @@ impl<'a> Iterator for MathArgItems<'a> {
     ghost remaining = { item_count items_left };
 
     fn next(&mut self) -> Option<MathArgItem<'a>> {
-        match self.nodes.next() {
-            Some(node) => item_of(node),
-            None => None,
-        }
+        item_of(self.nodes.next()?)
     }
 
     /// At least 0, and at most the number of nodes that it hasn't passed yet.
@@ -178,10 +172,7 @@ impl<'a> DoubleEndedIterator for MathArgItems<'a> {
     ghost next_back_gives = { YieldsLastBy (told item_node item_kind is_proper_item) told_items_left };
 
     fn next_back(&mut self) -> Option<MathArgItem<'a>> {
-        match self.nodes.next_back() {
-            Some(node) => item_of(node),
-            None => None,
-        }
+        item_of(self.nodes.next_back()?)
     }
 }
 
@@ -197,10 +188,7 @@ pub struct MathArgList<'a> {
 fn cast_arg<'a>(node: &'a SyntaxNode) -> Option<Arg<'a>>
     ensures { MatchOption result (is_arg_kind (node_kind node.now) ≡ false) (IsProperArgOf node.now) }
 {
-    match Arg::from_untyped(node) {
-        Some(arg) => Some(arg),
-        None => None,
-    }
+    Arg::from_untyped(node)
 }
 
 impl<'a> Iterator for MathArgList<'a> {

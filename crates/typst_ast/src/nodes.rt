@@ -22,10 +22,7 @@ use typst_node::{AstNode, SyntaxNode};
 pub(crate) fn is_of_kind(node: Option<&SyntaxNode>, kind: SyntaxKind) -> bool
     ensures { result ≡ is_of_kind kind (option_copied node.entry) }
 {
-    match node {
-        Some(node) => node.kind() == kind,
-        None => false,
-    }
+    node.is_some_and(|node| node.kind() == kind)
 }
 
 /// The second node.

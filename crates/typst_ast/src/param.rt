@@ -77,10 +77,7 @@ impl<'a> AstNode<'a> for Param<'a> {
         match node.kind() {
             SyntaxKind::Named => Some(Param::Named(Named::of_kind(node))),
             SyntaxKind::Spread => Some(Param::Spread(Spread::of_kind(node))),
-            _ => match Pattern::from_untyped(node) {
-                Some(pattern) => Some(Param::Pos(pattern)),
-                None => None,
-            },
+            _ => Some(Param::Pos(Pattern::from_untyped(node)?)),
         }
     }
 

@@ -77,19 +77,12 @@ impl<'a> AstNode<'a> for Pattern<'a> {
     ghost kind_is_node_kind = { pattern_kind_is_node_kind };
 
     fn from_untyped(node: &'a SyntaxNode) -> Option<Self> {
-        let kind = node.kind();
-        if kind == SyntaxKind::Underscore {
-            Some(Pattern::Placeholder(of::Underscore::of_kind(node)))
-        } else if kind == SyntaxKind::Parenthesized {
-            Some(Pattern::Parenthesized(of::Parenthesized::of_kind(node)))
-        } else if kind == SyntaxKind::Destructuring {
-            Some(Pattern::Destructuring(of::Destructuring::of_kind(node)))
-        } else {
-            match Expr::from_untyped(node) {
-                Some(expr) => Some(Pattern::Normal(expr)),
-                None => None,
-            }
-        }
+        Some(match node.kind() {
+            SyntaxKind::Underscore => Pattern::Placeholder(of::Underscore::of_kind(node)),
+            SyntaxKind::Parenthesized => Pattern::Parenthesized(of::Parenthesized::of_kind(node)),
+            SyntaxKind::Destructuring => Pattern::Destructuring(of::Destructuring::of_kind(node)),
+            _ => Pattern::Normal(Expr::from_untyped(node)?),
+        })
     }
 
     fn to_untyped(self) -> Option<&'a SyntaxNode> {

@@ -1,26 +1,10 @@
 //! Equality, hashes and `Debug` of expressions by their kind and node.
 ghost use Rattle.std.specs.Prelude.{◌≡◌, ◌↔◌, IsTrue};
-ghost use Rattle.std.specs.Option.{option_copied};
 ghost use Rattle.typst_ast.specs.ExprTable.{expr_kind, expr_node};
 
 use crate::expr::Expr;
 use std::fmt;
 use std::hash::{Hash, Hasher};
-use typst_atoms::same_views::Parts;
-use typst_node::AstNode;
-
-impl<'a> Expr<'a> {
-    /// The kind and the node, which determine the expression.
-    fn parts(self) -> Parts<'a>
-        ensures kind { result.kind ≡ expr_kind self.entry }
-        ensures node { option_copied result.node ≡ expr_node self.entry }
-    {
-        Parts {
-            kind: self.kind(),
-            node: self.to_untyped(),
-        }
-    }
-}
 
 /// Two expressions are equal if they are of one kind, and of the same tree, spans and bounds included, or both
 /// placeholders. A comparison takes time at most in proportion to the smaller tree, and no memory.

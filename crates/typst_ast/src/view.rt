@@ -80,11 +80,7 @@ impl<'a, M: Kind> fmt::Debug for View<'a, M> {
     /// Writes the name of the kind and the node, as `Heading(Heading: 3 [..])`. Without a node it writes
     /// `Heading(placeholder)`.
     fn fmt<W: fmt::Write>(&self, f: &mut fmt::Formatter<W>) -> fmt::Result {
-        let parts = Parts {
-            kind: M::KIND,
-            node: self.node,
-        };
-        parts.show(f)
+        Parts::of(*self).show(f)
     }
 }
 

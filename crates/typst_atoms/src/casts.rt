@@ -38,10 +38,7 @@ pub fn cast_first<'a, T: AstNode<'a>>(node: Option<&'a SyntaxNode>) -> T
     ensures { IsViewOf T.node_of T.view_kind T.proper T.blank
         (first_child T.class (option_copied node.entry)) result }
 {
-    match try_cast_first(node) {
-        Some(view) => view,
-        None => T::placeholder(),
-    }
+    try_cast_first(node).unwrap_or(T::placeholder())
 }
 
 /// The view of the last child that has a view of this type, or else a placeholder.
@@ -49,8 +46,5 @@ pub fn cast_last<'a, T: AstNode<'a>>(node: Option<&'a SyntaxNode>) -> T
     ensures { IsViewOf T.node_of T.view_kind T.proper T.blank
         (last_child T.class (option_copied node.entry)) result }
 {
-    match try_cast_last(node) {
-        Some(view) => view,
-        None => T::placeholder(),
-    }
+    try_cast_last(node).unwrap_or(T::placeholder())
 }

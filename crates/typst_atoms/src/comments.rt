@@ -12,10 +12,7 @@ impl<'a> LineComment<'a> {
         ensures { IsLineCommentText (text_in (node_of self.entry)) result.now }
     {
         let text = self.leaf_text();
-        match text.strip_prefix("//") {
-            Some(rest) => rest,
-            None => text,
-        }
+        text.strip_prefix("//").unwrap_or(text)
     }
 }
 
@@ -26,10 +23,7 @@ impl<'a> BlockComment<'a> {
     {
         let text = self.leaf_text();
         match text.strip_prefix("/*") {
-            Some(rest) => match rest.strip_suffix("*/") {
-                Some(body) => body,
-                None => text,
-            },
+            Some(rest) => rest.strip_suffix("*/").unwrap_or(text),
             None => text,
         }
     }

@@ -1,6 +1,5 @@
 //! Equality and hashes of views by their kind and node.
 ghost use Rattle.std.specs.Prelude.{◌≡◌, ◌↔◌, IsTrue};
-ghost use Rattle.std.specs.Option.{option_copied};
 ghost use Rattle.typst_atoms.specs.ImportItem.{import_item_kind, import_item_node};
 ghost use Rattle.typst_atoms.specs.MathAccess.{math_access_kind, math_access_node};
 ghost use Rattle.typst_atoms.specs.SameViews.{by_node_input, same_by_node, same_by_node_alike, same_by_node_equivalence, same_by_node_laws, same_views, same_views_alike, same_views_equivalence, same_views_laws, view_input};
@@ -12,7 +11,6 @@ use crate::math_access::MathAccess;
 use crate::same_views::{Parts, are_same_nodes, feed_node};
 use crate::view::View;
 use std::hash::{Hash, Hasher};
-use typst_node::AstNode;
 
 /// Two views of one kind are equal if they are of the same tree, spans and bounds included, or if both are
 /// placeholders. A comparison takes time at most in proportion to the smaller tree, and no memory.
@@ -43,19 +41,6 @@ impl<'a, M: Kind> Hash for View<'a, M> {
     }
 }
 
-impl<'a> MathAccess<'a> {
-    /// The kind and the node, which determine the view.
-    fn parts(self) -> Parts<'a>
-        ensures kind { result.kind ≡ math_access_kind self.entry }
-        ensures node { option_copied result.node ≡ math_access_node self.entry }
-    {
-        Parts {
-            kind: self.kind(),
-            node: self.to_untyped(),
-        }
-    }
-}
-
 /// Two accesses are equal if they are of one kind, and of the same tree, spans and bounds included, or both
 /// placeholders. A comparison takes time at most in proportion to the smaller tree, and no memory.
 impl<'a> PartialEq for MathAccess<'a> {
@@ -69,7 +54,7 @@ impl<'a> PartialEq for MathAccess<'a> {
             ↔ (math_access_kind self.now ≡ math_access_kind other.now
             × math_access_node self.now ≡ math_access_node other.now) }
     {
-        self.parts().are_same(other.parts())
+        Parts::of(*self).are_same(Parts::of(*other))
     }
 }
 
@@ -83,20 +68,7 @@ impl<'a> Hash for MathAccess<'a> {
     ghost respects_eq = { same_views_alike math_access_kind math_access_node };
 
     fn hash<H: Hasher>(&self, state: &mut H) {
-        self.parts().feed(state);
-    }
-}
-
-impl<'a> ImportItem<'a> {
-    /// The kind and the node, which determine the view.
-    fn parts(self) -> Parts<'a>
-        ensures kind { result.kind ≡ import_item_kind self.entry }
-        ensures node { option_copied result.node ≡ import_item_node self.entry }
-    {
-        Parts {
-            kind: self.kind(),
-            node: self.to_untyped(),
-        }
+        Parts::of(*self).feed(state);
     }
 }
 
@@ -113,7 +85,7 @@ impl<'a> PartialEq for ImportItem<'a> {
             ↔ (import_item_kind self.now ≡ import_item_kind other.now
             × import_item_node self.now ≡ import_item_node other.now) }
     {
-        self.parts().are_same(other.parts())
+        Parts::of(*self).are_same(Parts::of(*other))
     }
 }
 
@@ -127,6 +99,6 @@ impl<'a> Hash for ImportItem<'a> {
     ghost respects_eq = { same_views_alike import_item_kind import_item_node };
 
     fn hash<H: Hasher>(&self, state: &mut H) {
-        self.parts().feed(state);
+        Parts::of(*self).feed(state);
     }
 }

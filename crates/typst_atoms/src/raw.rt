@@ -91,10 +91,8 @@ impl<'a> Raw<'a> {
     fn is_fenced(self) -> bool
         ensures { result ≡ is_fenced (node_of self.entry) }
     {
-        match first_of_kind(self.node(), SyntaxKind::RawDelim) {
-            Some(delimiter) => delimiter.len() >= 3,
-            None => false,
-        }
+        let delimiter = first_of_kind(self.node(), SyntaxKind::RawDelim);
+        delimiter.is_some_and(|delimiter| delimiter.len() >= 3)
     }
 
     /// The language tag, which only a text between delimiters of at least three backticks can have.

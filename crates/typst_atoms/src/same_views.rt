@@ -6,7 +6,7 @@ ghost use Rattle.typst_atoms.specs.SameViews.{node_input, parts_input, same_part
 use std::fmt;
 use std::hash::{Hash, Hasher};
 use typst_base::SyntaxKind;
-use typst_node::SyntaxNode;
+use typst_node::{AstNode, SyntaxNode};
 
 /// The kind of a view and its node. A placeholder has no node.
 #[derive(Clone, Copy)]
@@ -44,6 +44,17 @@ pub fn feed_node<H: Hasher>(node: Option<&SyntaxNode>, state: &mut H)
 }
 
 impl<'a> Parts<'a> {
+    /// The kind and the node of a view, which determine a view of a kind or of several kinds.
+    pub fn of<T: AstNode<'a>>(view: T) -> Parts<'a>
+        ensures kind { result.kind ≡ T.view_kind view }
+        ensures node { option_copied result.node ≡ T.node_of view }
+    {
+        Parts {
+            kind: view.kind(),
+            node: view.to_untyped(),
+        }
+    }
+
     /// Whether the kinds and the nodes are the same. It takes time at most in proportion to the smaller tree, and no
     /// memory.
     pub fn are_same(self, other: Parts<'a>) -> bool

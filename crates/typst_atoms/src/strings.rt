@@ -120,10 +120,7 @@ fn string_body(text: &str) -> &str
     ensures { IsStringBody text.now result.now }
 {
     match text.strip_prefix("\"") {
-        Some(rest) => match rest.strip_suffix("\"") {
-            Some(body) => body,
-            None => text,
-        },
+        Some(rest) => rest.strip_suffix("\"").unwrap_or(text),
         None => text,
     }
 }

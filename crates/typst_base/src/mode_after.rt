@@ -48,77 +48,6 @@ impl SyntaxKind {
             | SyntaxKind::Hat
             | SyntaxKind::Root
             | SyntaxKind::Bang => ModeAfter::Known(SyntaxMode::Math),
-            SyntaxKind::Hash
-            | SyntaxKind::LeftBrace
-            | SyntaxKind::RightBrace
-            | SyntaxKind::Plus
-            | SyntaxKind::Minus
-            | SyntaxKind::Eq
-            | SyntaxKind::EqEq
-            | SyntaxKind::ExclEq
-            | SyntaxKind::Lt
-            | SyntaxKind::LtEq
-            | SyntaxKind::Gt
-            | SyntaxKind::GtEq
-            | SyntaxKind::PlusEq
-            | SyntaxKind::HyphEq
-            | SyntaxKind::StarEq
-            | SyntaxKind::SlashEq
-            | SyntaxKind::Arrow
-            | SyntaxKind::Not
-            | SyntaxKind::And
-            | SyntaxKind::Or
-            | SyntaxKind::None
-            | SyntaxKind::Auto
-            | SyntaxKind::Let
-            | SyntaxKind::Set
-            | SyntaxKind::Show
-            | SyntaxKind::Context
-            | SyntaxKind::If
-            | SyntaxKind::Else
-            | SyntaxKind::For
-            | SyntaxKind::In
-            | SyntaxKind::While
-            | SyntaxKind::Break
-            | SyntaxKind::Continue
-            | SyntaxKind::Return
-            | SyntaxKind::Import
-            | SyntaxKind::Include
-            | SyntaxKind::As
-            | SyntaxKind::Code
-            | SyntaxKind::Bool
-            | SyntaxKind::Int
-            | SyntaxKind::Float
-            | SyntaxKind::Numeric
-            | SyntaxKind::CodeBlock
-            | SyntaxKind::Parenthesized
-            | SyntaxKind::Array
-            | SyntaxKind::Dict
-            | SyntaxKind::Keyed
-            | SyntaxKind::Unary
-            | SyntaxKind::Binary
-            | SyntaxKind::FieldAccess
-            | SyntaxKind::FuncCall
-            | SyntaxKind::Args
-            | SyntaxKind::Closure
-            | SyntaxKind::Params
-            | SyntaxKind::LetBinding
-            | SyntaxKind::SetRule
-            | SyntaxKind::ShowRule
-            | SyntaxKind::Contextual
-            | SyntaxKind::Conditional
-            | SyntaxKind::WhileLoop
-            | SyntaxKind::ForLoop
-            | SyntaxKind::ModuleImport
-            | SyntaxKind::ImportItems
-            | SyntaxKind::ImportItemPath
-            | SyntaxKind::RenamedImportItem
-            | SyntaxKind::ModuleInclude
-            | SyntaxKind::LoopBreak
-            | SyntaxKind::LoopContinue
-            | SyntaxKind::FuncReturn
-            | SyntaxKind::Destructuring
-            | SyntaxKind::DestructAssignment => ModeAfter::Known(SyntaxMode::Code),
             SyntaxKind::End
             | SyntaxKind::Shebang
             | SyntaxKind::LineComment
@@ -151,6 +80,7 @@ impl SyntaxKind {
             | SyntaxKind::Ident
             | SyntaxKind::Str
             | SyntaxKind::ContentBlock => ModeAfter::Embeddable,
+            _ => ModeAfter::Known(SyntaxMode::Code),
         }
     }
 }

@@ -34,11 +34,7 @@ pub fn place_of(root: &SyntaxNode, span: &DiagSpan) -> Option<Range<usize>>
         }
         DiagSpanKind::Range { id, range } => {
             let is_of_text = range.start <= range.end && range.end <= root.len();
-            if id == file && is_of_text {
-                Some(range)
-            } else {
-                None
-            }
+            (id == file && is_of_text).then_some(range)
         }
     }
 }

@@ -61,9 +61,7 @@ impl<'a> LinkedNode<'a> {
         ensures { result ≡ sibling_kind before_it self.now }
     {
         let siblings = self.siblings();
-        let Some(before) = self.index().checked_sub(1) else {
-            return None;
-        };
+        let before = self.index().checked_sub(1)?;
         Some(siblings[before].kind())
     }
 }

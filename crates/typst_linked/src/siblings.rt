@@ -46,10 +46,7 @@ impl<'a> LinkedNode<'a> {
     pub fn parent_kind(&self) -> Option<SyntaxKind>
         ensures { result ≡ parent_kind_of self.now }
     {
-        let Some(parent) = self.parent() else {
-            return None;
-        };
-        Some(parent.get().kind())
+        Some(self.parent()?.get().kind())
     }
 
     /// The kind of the nearest sibling before this node whose kind isn't trivia.
@@ -57,9 +54,7 @@ impl<'a> LinkedNode<'a> {
         ensures { result ≡ sibling_kind solid_before self.now }
     {
         let siblings = self.siblings();
-        let Some(index) = last_solid(siblings, self.index()) else {
-            return None;
-        };
+        let index = last_solid(siblings, self.index())?;
         Some(siblings[index].kind())
     }
 
@@ -68,9 +63,7 @@ impl<'a> LinkedNode<'a> {
         ensures { result ≡ sibling_kind solid_behind self.now }
     {
         let siblings = self.siblings();
-        let Some(index) = first_solid(siblings, self.index()) else {
-            return None;
-        };
+        let index = first_solid(siblings, self.index())?;
         Some(siblings[index].kind())
     }
 
@@ -92,11 +85,7 @@ fn next_index(nodes: &[SyntaxNode], index: usize) -> Option<usize>
     ensures index { result ≡ behind_it index nodes.now }
     ensures within { IfSome result (λ i. i < length nodes.now) }
 {
-    if index + 1 < nodes.len() {
-        Some(index + 1)
-    } else {
-        None
-    }
+    (index + 1 < nodes.len()).then_some(index + 1)
 }
 
 /// The index of the last node before an index whose kind isn't trivia.

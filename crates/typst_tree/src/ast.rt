@@ -3,114 +3,28 @@
 //!
 //! A view is a node of its kinds, or a placeholder for a missing node. So reading a tree never fails.
 
-pub use typst_ast::Arg;
-pub use typst_ast::ArrayItem;
-pub use typst_ast::BareImportError;
-pub use typst_ast::DestructuringItem;
-pub use typst_ast::DictItem;
-pub use typst_ast::Expr;
-pub use typst_ast::Exprs;
-pub use typst_ast::Imports;
-pub use typst_ast::LetBindingKind;
-pub use typst_ast::MathArg;
-pub use typst_ast::MathArgItem;
-pub use typst_ast::MathArgItems;
-pub use typst_ast::MathArgList;
-pub use typst_ast::Param;
-pub use typst_ast::Pattern;
-pub use typst_ast::View;
+// A view for each kind that has one.
+pub use typst_ast::views::{
+    Args, Array, Auto, Binary, BlockComment, Bool, Closure, Code, CodeBlock, Conditional,
+    ContentBlock, Contextual, DestructAssignment, Destructuring, Dict, Emph, EnumItem, Equation,
+    Escape, FieldAccess, Float, ForLoop, FuncCall, FuncReturn, Heading, Ident, ImportItemPath,
+    ImportItems, Int, Keyed, Label, LetBinding, LineComment, Linebreak, Link, ListItem, LoopBreak,
+    LoopContinue, Markup, Math, MathAlignPoint, MathArgs, MathAttach, MathCall, MathDelimited,
+    MathFieldAccess, MathFrac, MathIdent, MathPrimes, MathRoot, MathShorthand, MathText,
+    ModuleImport, ModuleInclude, Named, None, Numeric, Params, Parbreak, Parenthesized, Raw,
+    RawDelim, RawLang, Ref, RenamedImportItem, SetRule, Shorthand, ShowRule, SmartQuote, Space,
+    Spread, Str, Strong, TermItem, Text, Unary, Underscore, WhileLoop,
+};
+
+// Views of several kinds, lists of views, and what views answer.
 pub use typst_ast::bare_names::BareNameResult;
-pub use typst_ast::file_stem;
-pub use typst_ast::is_alike;
-pub use typst_ast::views::Args;
-pub use typst_ast::views::Array;
-pub use typst_ast::views::Auto;
-pub use typst_ast::views::Binary;
-pub use typst_ast::views::BlockComment;
-pub use typst_ast::views::Bool;
-pub use typst_ast::views::Closure;
-pub use typst_ast::views::Code;
-pub use typst_ast::views::CodeBlock;
-pub use typst_ast::views::Conditional;
-pub use typst_ast::views::ContentBlock;
-pub use typst_ast::views::Contextual;
-pub use typst_ast::views::DestructAssignment;
-pub use typst_ast::views::Destructuring;
-pub use typst_ast::views::Dict;
-pub use typst_ast::views::Emph;
-pub use typst_ast::views::EnumItem;
-pub use typst_ast::views::Equation;
-pub use typst_ast::views::Escape;
-pub use typst_ast::views::FieldAccess;
-pub use typst_ast::views::Float;
-pub use typst_ast::views::ForLoop;
-pub use typst_ast::views::FuncCall;
-pub use typst_ast::views::FuncReturn;
-pub use typst_ast::views::Heading;
-pub use typst_ast::views::Ident;
-pub use typst_ast::views::ImportItemPath;
-pub use typst_ast::views::ImportItems;
-pub use typst_ast::views::Int;
-pub use typst_ast::views::Keyed;
-pub use typst_ast::views::Label;
-pub use typst_ast::views::LetBinding;
-pub use typst_ast::views::LineComment;
-pub use typst_ast::views::Linebreak;
-pub use typst_ast::views::Link;
-pub use typst_ast::views::ListItem;
-pub use typst_ast::views::LoopBreak;
-pub use typst_ast::views::LoopContinue;
-pub use typst_ast::views::Markup;
-pub use typst_ast::views::Math;
-pub use typst_ast::views::MathAlignPoint;
-pub use typst_ast::views::MathArgs;
-pub use typst_ast::views::MathAttach;
-pub use typst_ast::views::MathCall;
-pub use typst_ast::views::MathDelimited;
-pub use typst_ast::views::MathFieldAccess;
-pub use typst_ast::views::MathFrac;
-pub use typst_ast::views::MathIdent;
-pub use typst_ast::views::MathPrimes;
-pub use typst_ast::views::MathRoot;
-pub use typst_ast::views::MathShorthand;
-pub use typst_ast::views::MathText;
-pub use typst_ast::views::ModuleImport;
-pub use typst_ast::views::ModuleInclude;
-pub use typst_ast::views::Named;
-pub use typst_ast::views::None;
-pub use typst_ast::views::Numeric;
-pub use typst_ast::views::Params;
-pub use typst_ast::views::Parbreak;
-pub use typst_ast::views::Parenthesized;
-pub use typst_ast::views::Raw;
-pub use typst_ast::views::RawDelim;
-pub use typst_ast::views::RawLang;
-pub use typst_ast::views::Ref;
-pub use typst_ast::views::RenamedImportItem;
-pub use typst_ast::views::SetRule;
-pub use typst_ast::views::Shorthand;
-pub use typst_ast::views::ShowRule;
-pub use typst_ast::views::SmartQuote;
-pub use typst_ast::views::Space;
-pub use typst_ast::views::Spread;
-pub use typst_ast::views::Str;
-pub use typst_ast::views::Strong;
-pub use typst_ast::views::TermItem;
-pub use typst_ast::views::Text;
-pub use typst_ast::views::Unary;
-pub use typst_ast::views::Underscore;
-pub use typst_ast::views::WhileLoop;
-pub use typst_atoms::Assoc;
-pub use typst_atoms::BinOp;
-pub use typst_atoms::ImportItem;
-pub use typst_atoms::MathAccess;
-pub use typst_atoms::MathTextKind;
-pub use typst_atoms::UnOp;
-pub use typst_atoms::Unit;
-pub use typst_atoms::cast_all;
-pub use typst_atoms::cast_first;
-pub use typst_atoms::cast_last;
-pub use typst_atoms::try_cast_first;
-pub use typst_atoms::try_cast_last;
-pub use typst_node::AstNode;
-pub use typst_node::Items;
+pub use typst_ast::{
+    Arg, ArrayItem, BareImportError, DestructuringItem, DictItem, Expr, Exprs, Imports,
+    LetBindingKind, MathArg, MathArgItem, MathArgItems, MathArgList, Param, Pattern, View,
+    file_stem, is_alike,
+};
+pub use typst_atoms::{
+    Assoc, BinOp, ImportItem, MathAccess, MathTextKind, UnOp, Unit, cast_all, cast_first,
+    cast_last, try_cast_first, try_cast_last,
+};
+pub use typst_node::{AstNode, Items};

@@ -9,11 +9,11 @@ use Rattle.typst_linked.proofs.node.LinkedNode.kind_before.Goals as goal
 
 pub returns : goal.returns
 returns c =
-    let k = c.in-Some.before in
+    let k = c.in_ok-before.before in
     let ts = siblings c.args.self.now in
     let i = last_step c.args.self.now.path in
-    let pick : before_it i ts ≡ Some k = before_is i k ts (omega (arith, c.in-Some.ensures, c.index.ensures)) (omega (arith, c.in-Some.ensures, c.index.ensures)) in
+    let pick : before_it i ts ≡ Some k = before_is i k ts (omega (arith, c.in_ok-before.ensures, c.index.ensures)) (omega (arith, c.in_ok-before.ensures, c.index.ensures)) in
     let s : slice_get c.siblings-siblings.result.now k ≡ Some c.index-siblings-before.result =
-    slice_get_read c.siblings-siblings.result.now (length c.siblings-siblings.result.now) k c.index-siblings-before.result refl (omega (arith, c.in-Some.ensures, c.index.ensures, c.siblings-siblings.ensures.within)) c.index-siblings-before.is in
+    slice_get_read c.siblings-siblings.result.now (length c.siblings-siblings.result.now) k c.index-siblings-before.result refl (omega (arith, c.in_ok-before.ensures, c.index.ensures, c.siblings-siblings.ensures.within)) c.index-siblings-before.is in
     ap Some c.kind.ensures.kind
     ∙ sym (ap (option_and_then (λ j. option_map kind_at (slice_get ts j))) pick ∙ ap (λ us. option_map kind_at (slice_get us k)) (sym c.siblings-siblings.ensures.siblings) ∙ ap (option_map kind_at) s)

@@ -8,4 +8,4 @@ use Rattle.typst_linked.proofs.node.LinkedNode.parent_kind.Goals as goal
 pub returns : goal.returns
 returns c =
     ap Some c.kind.ensures.kind
-    ∙ sym (ap (option_map kind_at) (ap parent_tree c.in-Some.ensures ∙ parent_tree-child c.in-Some.parent.now (last_step c.args.self.now.path) ∙ c.get.ensures))
+    ∙ sym (ap (option_map kind_at) (ap parent_tree c.in_ok-parent.ensures ∙ parent_tree-child c.in_ok-parent.field-0.now (last_step c.args.self.now.path) ∙ c.get.ensures))
