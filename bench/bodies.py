@@ -130,7 +130,7 @@ class Room:
 
     def __init__(self, top, name, place, jobs, proved=None, nice=0):
         self.source, self.crate, self.jobs, self.checks = top / "crates" / name, Path(place) / "crates" / name, jobs, 0
-        self.nice, self.least = nice, least_jobs(top / "crates" / name)
+        self.nice, self.proved = nice, proved
         needs = needs_of(top)
         kept = below(name, needs)
         for it in kept:
@@ -206,7 +206,7 @@ class Room:
             (self.crate / file).write_text(placed(text, [it for it in hunks if it.file == file]))
         self.checks += 1
         wait_for_memory()
-        jobs = max(self.least, min(self.jobs, idle_processors()))
+        jobs = 1 if self.proved and not self.proved.is_over else max(1, min(self.jobs, idle_processors()))
         words = ["nice", "-n", str(self.nice), "rt", "check", "--jobs", str(jobs)]
         words += [word for it in only for word in ("--only", it)]
         ran = subprocess.run(words, cwd=self.crate, capture_output=True, text=True)
@@ -216,14 +216,9 @@ class Room:
         return (said_in(self.text), errors) if reached else ({}, [])
 
 
-def least_jobs(crate):
-    """How many jobs a check of this crate gets at least: two if it has many edits and there are more than two processors. Such a crate
-    is judged longest, and at the end processors are idle."""
-    return 2 if len(edit_files(crate)) > MANY and len(os.sched_getaffinity(0)) > 2 else 1
-
-
 def idle_processors():
-    """How many processors are idle, without this process. Two jobs of one check take a quarter more processor time than one job."""
+    """How many processors are idle, without this process. Two jobs of one check take a quarter more processor time than one job, so
+    beside a run of `rt ci`, which has a use for each processor, a check gets one."""
     running = int(Path("/proc/loadavg").read_text().split()[3].partition("/")[0])
     return len(os.sched_getaffinity(0)) + 1 - running
 
@@ -624,11 +619,35 @@ class Proved:
             self.is_over = bool(ended)
             time.sleep(2)
 
+    def is_decided(self, names):
+        """Whether these are proved, or can't be any more."""
+        return names <= self.names or bool(names & self.lost) or self.is_over
+
     def has(self, names):
         """Waits until these are proved or can't be any more, and returns whether they are."""
-        while not names <= self.names and not names & self.lost and not self.is_over:
+        while not self.is_decided(names):
             time.sleep(2)
         return names <= self.names
+
+
+class Waiting:
+    """The crates that are still to be judged. Of those whose libraries are decided, the first is next."""
+
+    def __init__(self, names, proved):
+        self.names, self.proved, self.needs, self.alone = names, proved, needs_of(TOP), threading.Lock()
+
+    def __iter__(self):
+        """Gives crates to a lane, and waits where none is ready."""
+        while self.names:
+            with self.alone:
+                ready = (it for it in self.names if not self.proved or self.proved.is_decided(below(it, self.needs)))
+                name = next(ready, None)
+                if name:
+                    self.names.remove(name)
+            if name:
+                yield name
+            else:
+                time.sleep(2)
 
 
 def judged(top, name, given, say, proved=None, nice=0):
@@ -665,14 +684,16 @@ def report(name, given, proved, nice):
 
 
 def judge_all(given):
-    """Judges the crates, those with the most edits first, and returns whether all is well.
+    """Judges the crates, of those that are ready the ones with the most edits first, and returns whether all is well.
 
     Crates with many edits take longest, so the others run at a lower priority. Otherwise they would still run after all others."""
     edits = {it: len(edit_files(TOP / "crates" / it)) for it in given.crates}
     names = sorted(edits, key=lambda it: -edits[it])
     with tempfile.TemporaryDirectory(prefix="proved-") as place, ThreadPoolExecutor(given.lanes) as pool:
         proved = Proved(given.beside, place) if given.beside else None
-        bad = [*pool.map(lambda name: report(name, given, proved, 0 if edits[name] > MANY else 9), names)]
+        waiting = Waiting(names, proved)
+        lane = lambda _: [report(name, given, proved, 0 if edits[name] > MANY else 9) for name in waiting]
+        bad = [lines for some in pool.map(lane, range(given.lanes)) for lines in some]
         if proved:
             proved.is_over = True
     used = resource.getrusage(resource.RUSAGE_CHILDREN)
