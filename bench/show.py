@@ -15,7 +15,8 @@ what the programs must print, apart from them, from trees that no program here m
 - words must be read as the tables below say, by the rules that the documents of `clap` give;
 - a program must refuse arguments that it can't have from ./show;
 - where the builds are the proved ones, ./show itself must do as the runs here do;
-- a page must have the text and the answers as text, even where they are markup.
+- a page must have the text and the answers as text, even where they are markup;
+- the page of a large text must have few bytes for each node.
 
 It runs the proved builds, which `rt ci` and `rt run` make, or the programs in the given folder.
 """
@@ -37,6 +38,8 @@ TYPED = 16
 # A text of 12 bytes and 3 lines: `ä` takes two.
 TEXT = "= A\n\nHäuser"
 MOST_BYTES = 1 << 26
+# A text whose page is weighed: a paragraph of 23 nodes so many times, and the most bytes that the page may have for each node.
+PARAGRAPH, PARAGRAPHS, PAGE_BYTES = "= Trees\n\nEach *strong part* is a node, and `raw` too.\n\n", 900, 190
 FORMS = '; an edit is written 7..12 "text" or 2:5..2:9 "text"'
 BOUND = "the most that can be shown"
 ENDS = "there is no tree at the end: put `root` after the line that makes the last node"
@@ -372,7 +375,7 @@ def differing_views(programs):
             got = ran.stdout.decode().partition("\n\n")[0].rstrip("\n").split("\n")
             count += 1
             page = show_page.Page(run(programs, ["a.look", "--page", "-"], room).stdout.decode())
-            told = page.wrong + show_page.differing_step(page.steps[0], 0, root, shown.answers_of(root, answers, form_of))
+            told = page.wrong + show_page.differing_step(page.steps[0], root, shown.answers_of(root, answers, form_of))
             wrong += [f"look {name}: its page has {it}" for it in told]
             if got != wanted or ran.stderr or ran.returncode:
                 wrong.append(f"look {name}: --views gives {first_other(got, wanted)}, or ends with {ran.returncode}: {ran.stderr!r}")
@@ -397,7 +400,7 @@ def differing_pages(programs):
         told = [*page.wrong, *([] if not ran.returncode else [f"status {ran.returncode}, {ran.stderr!r}"])]
         windows = shown.edited(old, new, range(len(old.children)), range(len(new.children)))
         if len(page.steps) == 2:
-            told += show_page.differing_step(page.steps[0], 0, old) + show_page.differing_step(page.steps[1], 1, new)
+            told += show_page.differing_step(page.steps[0], old) + show_page.differing_step(page.steps[1], new)
             told += show_page.differing_drawing(page.steps[1], new, windows[-1], windows)
         else:
             told.append(f"{len(page.steps)} steps")
@@ -434,7 +437,7 @@ def differing_typing(programs):
     if not printed.endswith(wanted) or len(page.steps) != TYPED + 1:
         told.append(f"{printed!r} with {len(page.steps)} steps, and should end with {wanted!r}")
     for at, (step, (new, windows)) in enumerate(zip(page.steps[1:], steps)):
-        told += show_page.differing_step(step, at + 1, new) + show_page.differing_drawing(step, new, windows[-1], windows)
+        told += show_page.differing_step(step, new) + show_page.differing_drawing(step, new, windows[-1], windows)
         told += [] if step["title"] == titles[at] else [f"the title {step['title']!r}"]
     return [f"typing has {it}" for it in told]
 
@@ -448,10 +451,22 @@ def differing_paste(programs):
     with tempfile.TemporaryDirectory() as room:
         fill(room, {"a.typ": "a\n\n", "e": '0..3 "' + count * "a\\n\\n" + '"\n'})
         page = show_page.Page(run(programs, ["a.typ", "--edits", "e", "--page", "-"], room).stdout.decode())
-    told = [*page.wrong, *show_page.differing_step(page.steps[1], 1, new), *show_page.differing_drawing(page.steps[1], new, windows[-1], windows)]
+    told = [*page.wrong, *show_page.differing_step(page.steps[1], new), *show_page.differing_drawing(page.steps[1], new, windows[-1], windows)]
     if page.steps[1]["left_out"] != f"{2 * count - show_page.MOST} more children after these aren't drawn.":
         told.append(f"{page.steps[1]['left_out']!r} after its drawing")
     return [f"the paste has {it}" for it in told]
+
+
+def heavy(programs):
+    """Whether the page of a large text has too many bytes for a node, before an edit and after it. So it is written and opened fast."""
+    with tempfile.TemporaryDirectory() as room:
+        fill(room, {"a.typ": PARAGRAPH * PARAGRAPHS, "e": '2..7 "Leaves"\n'})
+        pages = [run(programs, ["a.typ", *edits, "--page", "-"], room).stdout for edits in ([], ["--edits", "e"])]
+    counts = [page.count(b"<details") for page in pages]
+    told = [f"{len(page)} bytes for {count} nodes" for page, count in zip(pages, counts) if len(page) > PAGE_BYTES * count]
+    if counts[0] < 20_000 or counts[1] != 2 * counts[0]:
+        told.append(f"{counts} nodes")
+    return [f"a large page has {it}, and may have {PAGE_BYTES} for each of 20,000 nodes or more" for it in told]
 
 
 def escaped(programs):
@@ -590,7 +605,8 @@ def main():
     different, views = differing_views(programs)
     wrong += misread(programs) + misgiven(programs) + ([] if folder else otherwise_shown(programs))
     wrong += differing_pairs(programs) + differing_edits(programs) + different
-    wrong += differing_pages(programs) + differing_typing(programs) + differing_paste(programs) + escaped(programs) + examples(programs)
+    wrong += differing_pages(programs) + differing_typing(programs) + differing_paste(programs) + heavy(programs) + escaped(programs)
+    wrong += examples(programs)
     pairs = len(list(PAIRS.glob("*.typ")))
     counts = f"{pairs} texts with their trees and edits, {views} trees with their answers, {len(WRONG)} wrong inputs"
     counts += f", {len(ASKED) + len(REFUSED) + len(EXPLAINED)} lists of words, {len(MISGIVEN)} of wrong arguments"

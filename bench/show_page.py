@@ -9,16 +9,21 @@ NODE_CHARS, BESIDE, MOST = 48, 2, 60
 # The width of a child's place in the drawing of numbers, and where the first one begins.
 WIDTH, LEFT = 130, 10
 # The elements of a page, and those that have no end.
-KNOWN = "html head meta title style body h1 h2 p div pre span details summary code ul li b br svg line circle text rect script".split()
+KNOWN = "html head meta title style body h1 h2 p div pre span details summary i ul li b br svg line circle text rect script".split()
 VOID = {"meta", "br", "line", "circle", "rect"}
 
 
 class Page(HTMLParser):
-    """The steps of a page: of each its title, its text, its nodes, its reports, and the shapes of its drawing."""
+    """The steps of a page: of each its title, its text in leaves, its nodes, its reports, and the shapes of its drawing.
+
+    The children of a node are in the `div` directly after it.
+    """
 
     def __init__(self, page):
         super().__init__()
         self.steps, self.title, self.open, self.wrong = [], None, [], []
+        # In a tree, each open div: the node whose children are in it, and the last of them that was read.
+        self.within = []
         self.feed(page)
         self.close()
         if self.open:
@@ -28,18 +33,22 @@ class Page(HTMLParser):
         attrs = dict(attrs)
         if tag not in KNOWN or any(it.startswith("on") for it in attrs):
             self.wrong.append(f"<{tag} {attrs}> is of the text")
+        if (self.within or "pre" in self.open) and set(attrs) - {"class"}:
+            self.wrong.append(f"<{tag} {attrs}> has more than a class")
         classes = (attrs.get("class") or "").split()
         if tag == "h2":
             self.title = ""
         elif "numbers" in classes or ("pair" in classes and (not self.steps or self.steps[-1]["nodes"] is not None)):
-            self.steps.append({"title": self.title, "text": "", "nodes": None, "reports": [], "shapes": [], "left_out": ""})
+            self.steps.append({"title": self.title, "text": "", "leaves": [], "nodes": None, "reports": [], "shapes": [], "left_out": ""})
         if "pair" in classes:
             self.steps[-1]["nodes"] = []
         step = self.steps[-1] if self.steps else None
         if tag == "details":
-            step["nodes"].append({"classes": classes, "summary": "", "items": [], **attrs})
-        elif tag == "li" and "details" in self.open:
-            step["nodes"][-1]["items"].append("")
+            self.begin_node(step, classes)
+        elif tag == "div" and ("tree" in classes or self.within):
+            self.begin_children(step)
+        elif tag == "span" and "pre" in self.open:
+            step["leaves"].append({"text": "", "classes": classes})
         elif tag == "li":
             step["reports"].append("")
         elif tag in ("circle", "rect", "text"):
@@ -47,9 +56,27 @@ class Page(HTMLParser):
         if tag not in VOID:
             self.open.append(tag)
 
+    def begin_node(self, step, classes):
+        if not self.within or "details" in self.open:
+            self.wrong.append(f"node {len(step['nodes'])} is in no list of children")
+        parent = self.within[-1][0] if self.within else None
+        step["nodes"].append({"classes": classes, "parent": parent, "is_inner": False, "summary": "", "told": ""})
+        if self.within:
+            self.within[-1][1] = len(step["nodes"]) - 1
+
+    def begin_children(self, step):
+        node = self.within[-1][1] if self.within else None
+        if self.within and (node is None or step["nodes"][node]["is_inner"]):
+            self.wrong.append(f"children after node {node} are of no node")
+        elif self.within:
+            step["nodes"][node]["is_inner"] = True
+        self.within.append([node, None])
+
     def handle_endtag(self, tag):
         if tag in VOID:
             return
+        if tag == "div" and self.within:
+            self.within.pop()
         if not self.open or self.open.pop() != tag:
             self.wrong.append(f"</{tag}> ends nothing")
 
@@ -59,10 +86,14 @@ class Page(HTMLParser):
             self.title += data
         elif "pre" in within:
             self.steps[-1]["text"] += data
-        elif "summary" in within:
-            self.steps[-1]["nodes"][-1]["summary"] += data
-        elif "li" in within and "details" in within:
-            self.steps[-1]["nodes"][-1]["items"][-1] += data
+            if within[-1] == "span":
+                self.steps[-1]["leaves"][-1]["text"] += data
+            else:
+                self.wrong.append(f"the text {data!r} is in no leaf")
+        elif "details" in within:
+            self.steps[-1]["nodes"][-1]["summary" if "summary" in within else "told"] += data
+        elif self.within and data.strip():
+            self.wrong.append(f"the text {data!r} is in no node")
         elif "li" in within:
             self.steps[-1]["reports"][-1] += data
         elif "text" in within:
@@ -83,27 +114,38 @@ def signed(text):
     return "".join(map(sign, text))
 
 
-def nodes_of(root, step, answers=None):
-    """What a page must tell of each node, with its answers where they are given."""
-    found, ids = [], {}
+def nodes_of(root, answers=None):
+    """What a page must tell of each node, with its answers where they are given: the node above it by its index, whether it has a list
+    of children, its classes, what is seen, and what is told once it is opened."""
+    found, indices = [], {}
     for index, (path, node) in enumerate(root.preorder()):
-        ids[path] = f"s{step}n{index}"
+        indices[path] = index
         told = f"{node.kind} {node.start}..{node.end} #{node.number}  {shown.beginning(node.characters(), NODE_CHARS)}"
         place = f"at {'.'.join(map(str, path)) or '-'}, bound {node.upper}"
         items = [place, *map(signed, answers.get(path, []))] if answers is not None else [place]
-        found.append((ids[path], ids.get(path[:-1]) if path else None, node.is_new, told, items))
+        classes = ["bad"] * (node.kind == "Error") + ["new"] * node.is_new
+        found.append((indices[path[:-1]] if path else None, node.children is not None, classes, told, items))
     return found
 
 
-def differing_nodes(step, number, root, answers=None):
+def differing_nodes(step, root, answers=None):
     got = []
     for it in step["nodes"]:
-        items = it["items"] if answers is not None else it["items"][:1]
-        got.append((it["id"], it.get("data-parent"), "new" in it["classes"], it["summary"].rstrip("\n"), [i.rstrip("\n") for i in items]))
-    wanted = nodes_of(root, number, answers)
+        items = it["told"].removesuffix("\n").split("\n")
+        items = items if answers is not None else items[:1]
+        got.append((it["parent"], it["is_inner"], it["classes"], it["summary"], items))
+    wanted = nodes_of(root, answers)
     return [f"{ours}, and should have {theirs}" for ours, theirs in zip(got, wanted) if ours != theirs][:1] + (
         [f"{len(got)} nodes, and should have {len(wanted)}"] if len(got) != len(wanted) else []
     )
+
+
+def differing_leaves(step, root):
+    """The leaves of a text come in the order of the leaves of the tree, so that the script can pair them."""
+    got = [(it["text"], it["classes"]) for it in step["leaves"]]
+    leaves = [node for _, node in root.preorder() if node.children is None]
+    wanted = [(signed(node.text()), ["bad"] * (node.kind == "Error")) for node in leaves]
+    return [] if got == wanted else [f"the leaves {got}, and should have {wanted}"]
 
 
 def reported(root):
@@ -151,9 +193,9 @@ def differing_drawing(step, new, window, windows):
     return [] if got == wanted else [f"the drawing {got}, and should have {wanted}"]
 
 
-def differing_step(step, number, root, answers=None):
+def differing_step(step, root, answers=None):
     """What differs between a step and a tree."""
-    wrong = differing_nodes(step, number, root, answers)
+    wrong = differing_nodes(step, root, answers) + differing_leaves(step, root)
     if step["text"] != signed(root.text()):
         wrong.append(f"the text {step['text']!r}, and should have {signed(root.text())!r}")
     if answers is None and [it.rstrip("\n") for it in step["reports"]] != reported(root):
@@ -163,4 +205,4 @@ def differing_step(step, number, root, answers=None):
 
 def scripts_in(page):
     """How many scripts a page has, and whether something is read from elsewhere."""
-    return len(re.findall(r"<script", page)), re.search(r"(src|href)=|url\(|@import|https?://", re.sub(r"<(span|code)[^>]*>.*?</\1>", "", page, flags=re.S))
+    return len(re.findall(r"<script", page)), re.search(r"(src|href)=|url\(|@import|https?://", re.sub(r"<(span|details)[^>]*>.*?</\1>", "", page, flags=re.S))

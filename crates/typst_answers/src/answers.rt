@@ -1,16 +1,17 @@
 //! The text that is printed about a tree, one answer per line.
-ghost use Rattle.std.specs.Prelude.{◌≡◌, [], IfOk, IsErr, string_bytes};
+ghost use Rattle.std.specs.Prelude.{◌≡◌, [], IfOk, IsErr, IsOk, string_bytes};
 ghost use Rattle.typst_answers.specs.Written.{Adds, IsRefused, IsWritten};
 ghost use Rattle.typst_answers.specs.declared.form.Form.TheVariants.{Paths};
 
-use crate::form::Form;
-use crate::lists::{Ends, both, both_of, collected};
+use crate::form::{Form, path_of};
+use crate::lists::{Ends, both, both_of, collected, exprs_in, views_in};
 use crate::place::Place;
 use std::alloc::{AllocError, Global};
 use std::fmt::{Debug, Display};
+use std::ops::Range;
 use typst_atoms::same_views::Parts;
 use typst_tree::ast::{AstNode, Expr, Exprs, Ident, Items, Pattern};
-use typst_tree::{LinkedNode, SyntaxNode};
+use typst_tree::{DiagSpan, LinkedNode, SyntaxKind, SyntaxNode, place_of};
 
 /// The answers about one numbered tree.
 ///
@@ -59,6 +60,27 @@ impl<'t> Answers<'t> {
         self.text
     }
 
+    /// What has been written, unless memory was refused.
+    pub fn written(&self) -> Result<&str, AllocError>
+        ensures whole { IfOk result (λ text. IsWritten text.now self.now) }
+        ensures refused { IsErr result → IsRefused self.now }
+    {
+        match &self.text {
+            Ok(text) => Ok(text.as_str()),
+            Err(_) => Err(AllocError),
+        }
+    }
+
+    /// Removes what has been written, and keeps its room. It stays known that memory was refused.
+    pub fn clear(&mut self)
+        ensures empty { IsOk self.old.text → IsWritten [] self.new }
+        ensures refused { IsRefused self.old → IsRefused self.new }
+    {
+        if let Ok(written) = &mut self.text {
+            written.clear();
+        }
+    }
+
     /// Records that memory was refused.
     pub fn refuse(&mut self)
         ensures { IsRefused self.new }
@@ -82,18 +104,20 @@ impl<'t> Answers<'t> {
         let kind = place.kind;
         match self.form {
             Form::Paths => {
-                let name = self.name_of(place)?;
+                let name = self.path_at(place)?;
                 format!(in alloc; "{name} {kind:?}.")
             }
             Form::Ranges => Ok(String::new(alloc)),
         }
     }
 
-    /// The name of a node or a placeholder.
-    fn name_of(&self, place: Place) -> Result<String, AllocError> {
-        match LinkedNode::new(self.tree).find(self.alloc, place.span)? {
-            Some(node) => self.form.node(self.alloc, &node),
-            None => self.form.placeholder(self.alloc, place.kind),
+    /// The path of a node, or `~KIND` for a placeholder.
+    fn path_at(&self, place: Place) -> Result<String, AllocError> {
+        let alloc = self.alloc;
+        let kind = place.kind;
+        match LinkedNode::new(self.tree).find(alloc, place.span)? {
+            Some(node) => path_of(alloc, &node),
+            None => format!(in alloc; "~{kind:?}"),
         }
     }
 }
@@ -145,8 +169,29 @@ impl<'t> Answers<'t> {
 
     /// Writes the name of a node or a placeholder.
     pub fn put_place(&mut self, place: Place) {
-        let name = self.name_of(place);
-        self.put_made(name);
+        match self.form {
+            Form::Paths => {
+                let path = self.path_at(place);
+                self.put_made(path);
+            }
+            Form::Ranges => {
+                let span = DiagSpan::from(place.span);
+                self.put_range(place.kind, place_of(self.tree, &span));
+            }
+        }
+    }
+
+    /// Writes the kind and the bytes of a node, or `placeholder KIND` where there are no bytes.
+    fn put_range(&mut self, kind: SyntaxKind, range: Option<Range<usize>>) {
+        if let Ok(written) = &mut self.text {
+            let done = match range {
+                Some(Range { start, end }) => write!(written, "{kind:?} {start}..{end}"),
+                None => write!(written, "placeholder {kind:?}"),
+            };
+            if done.is_err() {
+                self.text = Err(AllocError);
+            }
+        }
     }
 
     /// Writes the name of the node or the placeholder of a view.
@@ -295,10 +340,15 @@ impl<'t> Answers<'t> {
     /// Writes a line with the names that a pattern binds.
     pub fn names(&mut self, what: &str, names: Result<Vec<Ident>, AllocError>) {
         match names {
-            Ok(names) => match collected(self.alloc, &names) {
-                Ok(views) => self.listed(what, &views),
-                Err(_) => self.refuse(),
-            },
+            Ok(names) => self.list_once(what, collected(self.alloc, &names)),
+            Err(_) => self.refuse(),
+        }
+    }
+
+    /// Writes a line whose answer is a list that was read once.
+    fn list_once(&mut self, what: &str, views: Result<Vec<Parts>, AllocError>) {
+        match views {
+            Ok(views) => self.listed(what, &views),
             Err(_) => self.refuse(),
         }
     }
@@ -317,14 +367,23 @@ impl<'t> Answers<'t> {
         self.end();
     }
 
-    /// Writes a line whose answer is a list of the views of one class.
+    /// Writes a line whose answer is a list of the views of one class. A person is not told of the ends, so the list is
+    /// read only once then.
     pub fn items<'v, T: AstNode<'v>>(&mut self, what: &str, items: Items<'v, T>) {
-        self.list(what, both_of(self.alloc, items));
+        match self.form {
+            Form::Paths => self.list(what, both_of(self.alloc, items)),
+            Form::Ranges => self.list_once(what, views_in(self.alloc, items)),
+        }
     }
 
-    /// Writes a line with the expressions of markup or of math, which are passed three times.
+    /// Writes a line with the expressions of markup or of math, which are passed three times, as [`Answers::items`]
+    /// does.
     pub fn expr_list(&mut self, front: Exprs, back: Exprs, mixed: Exprs) {
-        self.list("exprs", both(self.alloc, front, back, mixed, parts_of_expr));
+        let alloc = self.alloc;
+        match self.form {
+            Form::Paths => self.list("exprs", both(alloc, front, back, mixed, parts_of_expr)),
+            Form::Ranges => self.list_once("exprs", exprs_in(alloc, front)),
+        }
     }
 
     /// Writes a list, and whether it differs when it is read from the back, or from both ends in turn.

@@ -3,7 +3,7 @@ ghost use Rattle.std.specs.Prelude.{◌≡◌, take};
 ghost use Rattle.typst_answers.specs.declared.form.Form.TheVariants.{Paths, Ranges};
 
 use std::alloc::{AllocError, Global};
-use typst_tree::{LinkedNode, SyntaxKind};
+use typst_tree::LinkedNode;
 
 /// How many characters of a text are written if a form cuts it.
 const MOST_CHARS: usize = 60;
@@ -27,27 +27,6 @@ impl Form {
         match self {
             Form::Paths => " ",
             Form::Ranges => ": ",
-        }
-    }
-
-    /// How a node is written.
-    pub fn node(self, alloc: Global, node: &LinkedNode) -> Result<String, AllocError> {
-        match self {
-            Form::Paths => path_of(alloc, node),
-            Form::Ranges => {
-                let kind = node.get().kind();
-                let range = node.range();
-                let (start, end) = (range.start, range.end);
-                format!(in alloc; "{kind:?} {start}..{end}")
-            }
-        }
-    }
-
-    /// How the placeholder of a kind is written.
-    pub fn placeholder(self, alloc: Global, kind: SyntaxKind) -> Result<String, AllocError> {
-        match self {
-            Form::Paths => format!(in alloc; "~{kind:?}"),
-            Form::Ranges => format!(in alloc; "placeholder {kind:?}"),
         }
     }
 

@@ -4,7 +4,7 @@ ghost use Rattle.std.specs.Iterator.{IsFinite};
 use crate::place::parts_of;
 use std::alloc::{AllocError, Global};
 use typst_atoms::same_views::Parts;
-use typst_tree::ast::{AstNode, Ident, Items};
+use typst_tree::ast::{AstNode, Exprs, Ident, Items};
 
 /// The items of a list, and whether reading from the back, and from both ends in turn, gives the same ones.
 #[derive(Drop)]
@@ -22,10 +22,7 @@ pub fn both_of<'t, T: AstNode<'t>>(
     alloc: Global,
     views: Items<'t, T>,
 ) -> Result<Ends<'t>, AllocError> {
-    let mut items = Vec::new(alloc);
-    for view in views.clone()? {
-        items.push(parts_of(view))?;
-    }
+    let items = views_in(alloc, views.clone()?)?;
     let mut reversed = Reading::of(&items);
     for view in views.clone()?.rev() {
         reversed.meet_last(parts_of(view));
@@ -80,6 +77,27 @@ where
     turn_about(&mut turned, mixed, parts);
     let agree = reversed.is_whole() && turned.is_whole();
     Ok(Ends { items, agree })
+}
+
+/// The kinds and the nodes of the views of one class.
+pub(crate) fn views_in<'t, T: AstNode<'t>>(
+    alloc: Global,
+    views: Items<'t, T>,
+) -> Result<Vec<Parts<'t>>, AllocError> {
+    let mut items = Vec::new(alloc);
+    for view in views {
+        items.push(parts_of(view))?;
+    }
+    Ok(items)
+}
+
+/// The kinds and the nodes of expressions.
+pub(crate) fn exprs_in<'t>(alloc: Global, exprs: Exprs<'t>) -> Result<Vec<Parts<'t>>, AllocError> {
+    let mut items = Vec::new(alloc);
+    for expr in exprs {
+        items.push(parts_of(expr))?;
+    }
+    Ok(items)
 }
 
 /// The kinds and the nodes of names.

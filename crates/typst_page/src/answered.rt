@@ -1,6 +1,6 @@
 //! What the views of nodes answer.
 
-use std::alloc::{AllocError, Global};
+use std::alloc::Global;
 use std::io;
 use std::io::Write;
 use typst_answers::views::of_node;
@@ -12,17 +12,6 @@ use typst_shown::Shown;
 use typst_shown::drawing::draw_row;
 use typst_shown::trail::Trail;
 
-/// What the view of a node of a tree answers, one accessor per line: `body: Markup 2..7`.
-pub(crate) fn answers_of(
-    alloc: Global,
-    root: &SyntaxNode,
-    node: &SyntaxNode,
-) -> Result<String, AllocError> {
-    let mut answers = Answers::in_form(alloc, root, Form::Ranges);
-    of_node(&mut answers, node);
-    answers.finish()
-}
-
 /// Draws a tree as `typst_shown` does, and writes what the view of each node answers below the node's line.
 pub fn draw_with_answers<W: Write>(
     alloc: Global,
@@ -31,28 +20,29 @@ pub fn draw_with_answers<W: Write>(
     report: Option<&EditReport>,
 ) -> io::Result<()> {
     let mut trail = Trail::new(alloc);
+    let mut answers = Answers::in_form(alloc, shown.root, Form::Ranges);
     for node in LinkedNode::new(shown.root).preorder(alloc)? {
         let node = node?;
         let row = Row::of(alloc, &node)?;
         trail.go_to(&row)?;
         trail.draw(out)?;
         draw_row(alloc, out, shown.text, &row, report)?;
-        draw_answers(alloc, out, shown.root, node.get(), &trail)?;
+        draw_answers(out, &mut answers, node.get(), &trail)?;
     }
     Ok(())
 }
 
 /// Writes the answers for a node, between its line and those of its children.
 fn draw_answers<W: Write>(
-    alloc: Global,
     out: &mut W,
-    root: &SyntaxNode,
+    answers: &mut Answers<'_>,
     node: &SyntaxNode,
     trail: &Trail,
 ) -> io::Result<()> {
-    let answers = answers_of(alloc, root, node)?;
+    answers.clear();
+    of_node(answers, node);
     let has_children = !node.child_slice().is_empty();
-    for answer in answers.lines() {
+    for answer in answers.written()?.lines() {
         trail.draw_below(out, has_children)?;
         writeln!(out, "{answer}")?;
     }

@@ -1,20 +1,44 @@
 //! Text in a page.
 
-use std::io;
-use std::io::Write;
+use std::alloc::AllocError;
 
-/// Writes a text so that a browser shows it and reads no markup in it, even in an attribute in double quotes. A page
-/// may have no control characters other than tabs and line feeds. The others become the signs that represent them.
-pub(crate) fn write_escaped<W: Write>(out: &mut W, text: &str) -> io::Result<()> {
-    let mut bytes = [0u8; 4];
+/// Adds a text so that a browser shows it between elements and reads no markup in it. A page may have no control
+/// characters other than tabs and line feeds. The others become the signs that represent them.
+pub(crate) fn push_escaped(out: &mut String, text: &str) -> Result<(), AllocError> {
+    if is_plain(text.as_bytes()) {
+        out.push_str(text)
+    } else {
+        push_changed(out, text)
+    }
+}
+
+/// Whether each character of a text stands in a page as it is. The loop has no way out, so it is fast.
+fn is_plain(text: &[u8]) -> bool {
+    let mut is_plain = true;
+    for byte in text {
+        is_plain = is_plain & begins_plain(*byte);
+    }
+    is_plain
+}
+
+/// Whether a character with this byte first stands in a page as it is. Control characters begin with a byte below 32,
+/// with 127 or with 194.
+fn begins_plain(byte: u8) -> bool {
+    let is_markup = (byte == b'&') | (byte == b'<') | (byte == b'>');
+    let is_control = (byte < 32) & (byte != b'\t') & (byte != b'\n')
+        | (byte == 127)
+        | (byte == 194);
+    !(is_markup | is_control)
+}
+
+/// Adds a text character by character.
+fn push_changed(out: &mut String, text: &str) -> Result<(), AllocError> {
     for c in text.chars() {
         match c {
-            '&' => out.write_all(b"&amp;")?,
-            '<' => out.write_all(b"&lt;")?,
-            '>' => out.write_all(b"&gt;")?,
-            '"' => out.write_all(b"&quot;")?,
-            '\'' => out.write_all(b"&#39;")?,
-            other => out.write_all(sign_of(other).encode_utf8(&mut bytes).as_bytes())?,
+            '&' => out.push_str("&amp;")?,
+            '<' => out.push_str("&lt;")?,
+            '>' => out.push_str("&gt;")?,
+            other => out.push(sign_of(other))?,
         }
     }
     Ok(())

@@ -8,6 +8,7 @@ pub use windows::Change;
 
 mod answered;
 mod escaped;
+mod nodes;
 mod numbers;
 pub mod page;
 mod page_parts;

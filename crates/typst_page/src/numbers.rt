@@ -1,8 +1,7 @@
 //! The numbers of the root's children after an edit, drawn on a line with the windows that were tried.
 
 use crate::windows::Change;
-use std::io;
-use std::io::Write;
+use std::alloc::AllocError;
 use std::ops::Range;
 use typst_rows::{EditReport, Row};
 
@@ -25,12 +24,12 @@ const TOP: usize = 80;
 const HEIGHT: usize = 24;
 
 /// Draws the numbers of the children in the window and next to it, both those that stayed and new ones.
-pub(crate) fn write_numbers<W: Write>(
-    out: &mut W,
+pub(crate) fn push_numbers(
+    out: &mut String,
     rows: &[Row],
     report: &EditReport,
     change: &Change,
-) -> io::Result<()> {
+) -> Result<(), AllocError> {
     let count = rows.iter().filter(|row| row.depth == 1).count();
     let first = report.window.start.saturating_sub(BESIDE);
     let behind = report.window.end.saturating_add(BESIDE).min(count);
@@ -47,18 +46,18 @@ pub(crate) fn write_numbers<W: Write>(
     writeln!(out, "stroke=\"#8a919b\"/>")?;
     for row in rows.iter().filter(|row| row.depth == 1) {
         if drawn.contains(&row.index) {
-            write_number(out, &drawn, row, report.is_new(row))?;
+            push_number(out, &drawn, row, report.is_new(row))?;
         }
     }
-    write_windows(out, &drawn, report, change)?;
-    out.write_all(b"</svg>")?;
+    push_windows(out, &drawn, report, change)?;
+    out.push_str("</svg>")?;
     if left_out > 0 {
         write!(
             out,
             "<p>{left_out} more children after these aren't drawn.</p>"
         )?;
     }
-    out.write_all(b"</div>\n")
+    out.push_str("</div>\n")
 }
 
 /// Where the place of a child begins.
@@ -71,12 +70,12 @@ fn x_of(drawn: &Range<usize>, index: usize) -> usize {
 }
 
 /// Draws the kind of a child above the line, and its number below.
-fn write_number<W: Write>(
-    out: &mut W,
+fn push_number(
+    out: &mut String,
     drawn: &Range<usize>,
     row: &Row,
     is_new: bool,
-) -> io::Result<()> {
+) -> Result<(), AllocError> {
     let x = x_of(drawn, row.index).saturating_add(WIDTH / 2);
     let colour = if is_new { "var(--new)" } else { "var(--kept)" };
     let Row { kind, number, .. } = row;
@@ -96,12 +95,12 @@ fn write_number<W: Write>(
 }
 
 /// Draws the windows that were tried, one below the other.
-fn write_windows<W: Write>(
-    out: &mut W,
+fn push_windows(
+    out: &mut String,
     drawn: &Range<usize>,
     report: &EditReport,
     change: &Change,
-) -> io::Result<()> {
+) -> Result<(), AllocError> {
     let Some(turns) = change.tried(report) else {
         return Ok(());
     };

@@ -20,16 +20,15 @@ code, pre, .tree { font-family: ui-monospace, monospace; font-size: 13px; }
 .text, .tree { border: 1px solid var(--line); border-radius: 6px; padding: .6rem; margin: 0; }
 .text { white-space: pre-wrap; overflow-wrap: anywhere; position: sticky; top: .5rem; max-height: 92vh; overflow: auto; }
 .tree { overflow: auto; }
-.node { margin-left: calc(var(--depth) * 1.3em); border-left: 1px solid var(--line); padding-left: .4em; }
-.node summary { cursor: pointer; white-space: pre; }
-.node ul { margin: .1em 0 .4em 1.4em; padding: 0; list-style: none; color: #444b55; }
-.kind { font-weight: 600; } .Error > summary .kind { color: #b3261e; }
-.number { color: var(--kept); } .new > summary .number { color: var(--new); font-weight: 700; }
-.bad { text-decoration: underline wavy #b3261e; }
-.hit, .node.hit > summary { background: var(--hit); } .node.above > summary { background: #f4f0e2; }
+.tree div { margin-left: .4em; border-left: 1px solid var(--line); padding-left: .9em; }
+summary { cursor: pointer; color: #1d2127; white-space: pre; }
+details { white-space: pre-wrap; color: #444b55; } details[open] { padding-bottom: .4em; }
+i, .number { font-style: normal; color: var(--kept); } .new i, .fresh { color: var(--new); font-weight: 700; }
+.bad b { color: #b3261e; } span.bad { text-decoration: underline wavy #b3261e; }
+span.hit, .hit > summary { background: var(--hit); } .above > summary { background: #f4f0e2; }
 .reports { padding-left: 1.2em; } .reports .error b { color: #b3261e; } .reports .warning b { color: #8a5a00; }
 .numbers { overflow-x: auto; border: 1px solid var(--line); border-radius: 6px; margin: .5rem 0 1rem; }
-.legend .number { font-weight: 700; } .legend .fresh { color: var(--new); font-weight: 700; }
+.legend .number { font-weight: 700; }
 @media (max-width: 60rem) { .pair { grid-template-columns: minmax(0, 1fr); } .text { position: static; max-height: none; } }
 </style>
 </head>
@@ -43,39 +42,50 @@ pub(crate) const LEGEND: &str = "\
 its bound and what its view answers. With scripts on, pointing at a node marks its text, and pointing at the text marks its node.</p>
 ";
 
-/// The end of a page, with the script that marks texts and nodes.
+/// The end of a page, with the script that marks texts and nodes. The leaves of the tree come in the order of their
+/// texts, and the children of a node are in the `div` after it.
 pub(crate) const TAIL: &str = "\
 <script>
 'use strict';
 for (const pair of document.querySelectorAll('.pair')) {
-  const leaves = [...pair.querySelectorAll('.text [data-node]')];
+  const [text, tree] = pair.children;
+  const childrenOf = (node) => node.nextElementSibling?.localName === 'div' ? node.nextElementSibling : null;
+  const leavesOf = (box) => [...box.querySelectorAll('details')].filter((node) => !childrenOf(node));
+  let leaves = null, marked = [];
+  const texts = new Map(), places = new Map();
+  const pairUp = () => {
+    leaves = leavesOf(tree);
+    leaves.forEach((leaf, index) => places.set(leaf, index));
+    [...text.children].forEach((it, index) => texts.set(it, index));
+  };
+  const mark = (it, name) => {
+    it.classList.add(name);
+    marked.push(it);
+  };
   const clear = () => {
-    for (const it of pair.querySelectorAll('.hit, .above')) it.classList.remove('hit', 'above');
+    for (const it of marked) it.classList.remove('hit', 'above');
+    marked = [];
   };
   const markNode = (node) => {
-    clear();
-    node.classList.add('hit');
-    const start = Number(node.dataset.start), end = Number(node.dataset.end);
-    for (const leaf of leaves) {
-      const at = Number(leaf.dataset.start);
-      if (start <= at && at < end) leaf.classList.add('hit');
-    }
+    const box = childrenOf(node), within = box ? leavesOf(box) : [node];
+    const from = places.get(within[0]);
+    mark(node, 'hit');
+    within.forEach((leaf, index) => mark(text.children[from + index], 'hit'));
   };
-  const markLeaf = (leaf) => {
-    clear();
-    leaf.classList.add('hit');
-    let node = document.getElementById(leaf.dataset.node);
-    node.classList.add('hit');
-    node.scrollIntoView({ block: 'nearest' });
-    while (node.dataset.parent) {
-      node = document.getElementById(node.dataset.parent);
-      node.classList.add('above');
-    }
+  const markText = (it) => {
+    const leaf = leaves[texts.get(it)];
+    mark(it, 'hit');
+    mark(leaf, 'hit');
+    leaf.scrollIntoView({ block: 'nearest' });
+    for (let box = leaf.parentElement; box !== tree; box = box.parentElement) mark(box.previousElementSibling, 'above');
   };
   pair.addEventListener('mouseover', (event) => {
-    const node = event.target.closest('.node'), leaf = event.target.closest('.text [data-node]');
+    const node = event.target.closest('details'), it = event.target.closest('.text > span');
+    if (!node && !it) return;
+    if (!leaves) pairUp();
+    clear();
     if (node) markNode(node);
-    else if (leaf) markLeaf(leaf);
+    else markText(it);
   });
   pair.addEventListener('mouseleave', clear);
 }

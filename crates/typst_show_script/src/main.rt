@@ -14,12 +14,12 @@ mod problem;
 use crate::built::build;
 use crate::language::Language;
 use crate::problem::ScriptProblem;
-use std::alloc::Global;
+use std::alloc::{AllocError, Global};
 use std::io;
 use std::io::{BufWriter, Write};
 use std::process::ExitCode;
 use typst_page::draw_with_answers;
-use typst_page::page::{FIRST, save, write_head, write_step, write_tail};
+use typst_page::page::{push_head, push_step, push_tail, save};
 use typst_shown::carets::write_reports;
 use typst_shown::drawing::draw;
 use typst_shown::plain::write_plain;
@@ -59,9 +59,9 @@ fn show_tree<'a>(rt: &HostRuntime, form: Form<'a>, shown: &Shown<'_>) -> Result<
     let alloc = rt.alloc();
     if let Form::Page(page) = form {
         // The page is made whole before any of it is written.
-        let mut bytes: Vec<u8> = Vec::new(alloc);
-        write_page(alloc, &mut bytes, shown)?;
-        return save(rt, page, &bytes);
+        let mut written = String::new(alloc);
+        push_page(alloc, &mut written, shown)?;
+        return save(rt, page, &written);
     }
     let mut out = BufWriter::new(alloc, io::writer(rt))?;
     let done = write_tree(alloc, &mut out, form, shown);
@@ -71,11 +71,11 @@ fn show_tree<'a>(rt: &HostRuntime, form: Form<'a>, shown: &Shown<'_>) -> Result<
     Ok(())
 }
 
-/// Writes a page of a tree.
-fn write_page<W: Write>(alloc: Global, out: &mut W, shown: &Shown<'_>) -> io::Result<()> {
-    write_head(out, shown.file)?;
-    write_step(alloc, out, shown, &FIRST, None)?;
-    write_tail(out)
+/// Adds a page of a tree.
+fn push_page(alloc: Global, out: &mut String, shown: &Shown<'_>) -> Result<(), AllocError> {
+    push_head(out, shown.file)?;
+    push_step(alloc, out, shown, None)?;
+    push_tail(out)
 }
 
 /// Draws a tree and writes its errors and warnings below it, or writes it plainly.

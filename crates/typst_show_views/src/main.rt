@@ -8,7 +8,7 @@ use std::alloc::Global;
 use std::io;
 use std::io::Write;
 use std::process::ExitCode;
-use typst_page::page::{FIRST, Step, save, write_head, write_step, write_tail, write_title};
+use typst_page::page::{Done, push_head, push_step, push_tail, push_title, save};
 use typst_page::{Change, draw_with_answers};
 use typst_rows::EditReport;
 use typst_shown::report::told_of;
@@ -51,33 +51,32 @@ impl Drawing for WithAnswers {
 fn save_page<'a>(rt: &HostRuntime, asked: &Asked<'a>, page: &'a str) -> Result<(), Problem<'a>> {
     let alloc = rt.alloc();
     let (mut text, edits) = Text::read(rt, asked)?;
-    let mut bytes: Vec<u8> = Vec::new(alloc);
-    write_page(alloc, &mut bytes, asked.file, &mut text, &edits)?;
-    save(rt, page, &bytes)
+    let mut written = String::new(alloc);
+    push_page(alloc, &mut written, asked.file, &mut text, &edits)?;
+    save(rt, page, &written)
 }
 
-/// Writes a page of a text, and of the text again after each edit.
-fn write_page<'a, W: Write>(
+/// Adds a page of a text, and of the text again after each edit.
+fn push_page<'a>(
     alloc: Global,
-    out: &mut W,
+    out: &mut String,
     file: &str,
     text: &mut Text<'a>,
     edits: &[NumberedEdit],
 ) -> Result<(), Problem<'a>> {
-    write_head(out, file)?;
-    write_step(alloc, out, &text.shown(), &FIRST, None)?;
-    for (index, edit) in edits.iter().enumerate() {
+    push_head(out, file)?;
+    push_step(alloc, out, &text.shown(), None)?;
+    for edit in edits {
         let old = text.shown().root.clone()?;
         let report = text.edit(alloc, edit)?;
-        write_title(out, &told_of(alloc, edit, &report)?)?;
-        let step = Step {
-            number: index.saturating_add(1),
-            report: Some(&report),
-        };
+        push_title(out, &told_of(alloc, edit, &report)?)?;
         let shown = text.shown();
-        let change = Change::between(&old, shown.root, &report.reparsed);
-        write_step(alloc, out, &shown, &step, Some(&change))?;
+        let done = Done {
+            report: &report,
+            change: &Change::between(&old, shown.root, &report.reparsed),
+        };
+        push_step(alloc, out, &shown, Some(done))?;
     }
-    write_tail(out)?;
+    push_tail(out)?;
     Ok(())
 }
