@@ -2,9 +2,11 @@
 //! diagnostic answers, one answer per line. `docs/LOOK.md` has the form of each answer.
 //!
 //! ```text
-//! let mut answers = Answers::in_form(alloc, root, Form::Ranges);
-//! of_node(&mut answers, node);
-//! answers.finish()
+//! let mut answers = Answers::in_form(alloc, shown.root, Form::Ranges);
+//! ..
+//! answers.clear();
+//! of_node(&mut answers, node?.get());
+//! push_escaped(out, answers.written()?)?;
 //! ```
 //!
 //! There is one function for each view, or one for all views that share a form, so that each function stays cheap to
