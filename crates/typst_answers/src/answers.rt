@@ -1,5 +1,5 @@
 //! The text that is printed about a tree, one answer per line.
-ghost use Rattle.std.specs.Prelude.{◌≡◌, [], IfOk, IsErr, IsOk, string_bytes};
+ghost use Rattle.std.specs.Prelude.{ℕ, ◌≡◌, List, [], IfOk, IsErr, string_bytes};
 ghost use Rattle.typst_answers.specs.Written.{Adds, IsRefused, IsWritten};
 ghost use Rattle.typst_answers.specs.declared.form.Form.TheVariants.{Paths};
 
@@ -73,8 +73,9 @@ impl<'t> Answers<'t> {
 
     /// Removes what has been written, and keeps its room. It stays known that memory was refused.
     pub fn clear(&mut self)
-        ensures empty { IsOk self.old.text → IsWritten [] self.new }
+        ensures empty { (bytes : List ℕ) → IsWritten bytes self.old → IsWritten [] self.new }
         ensures refused { IsRefused self.old → IsRefused self.new }
+        ensures form { self.new.form ≡ self.old.form }
     {
         if let Ok(written) = &mut self.text {
             written.clear();
@@ -376,8 +377,8 @@ impl<'t> Answers<'t> {
         }
     }
 
-    /// Writes a line with the expressions of markup or of math, which are passed three times, as [`Answers::items`]
-    /// does.
+    /// Writes a line with the expressions of markup or of math, which are passed three times. For a person they are read
+    /// only once.
     pub fn expr_list(&mut self, front: Exprs, back: Exprs, mixed: Exprs) {
         let alloc = self.alloc;
         match self.form {
