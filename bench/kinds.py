@@ -165,7 +165,7 @@ def tables_of_kinds(table):
         "variants": lines(kinds, lambda kind: f"    /// {kind.doc}\n    {kind.name},"),
         "paths": lines(kinds, lambda kind: f"    SyntaxKind::{kind.name},"),
         "arms of mode_after": arms(by_mode),
-        "arms of name": lines(kinds, lambda kind: f'            SyntaxKind::{kind.name} => "{kind.printed}",'),
+        "printed names": lines(kinds, lambda kind: f'    "{kind.printed}",'),
         "names in specs": ", ".join(kind.imported() for kind in kinds),
         "number_of": cases("number_of", kinds, lambda kind: kind.number),
         "name_of": cases("name_of", kinds, lambda kind: f'codes "{kind.printed}"'),
