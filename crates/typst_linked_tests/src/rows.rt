@@ -7,6 +7,11 @@ pub(crate) fn assert_row(rt: &impl Abort, shows: &str, holds: bool) {
     assert!(rt; holds, "{shows}");
 }
 
+/// Asserts that a row of a table holds, and says what it shows and the number that tells the row from others.
+pub(crate) fn assert_at(rt: &impl Abort, shows: &str, number: usize, holds: bool) {
+    assert!(rt; holds, "{shows} {number}");
+}
+
 /// Asserts that each row holds: what it shows, and whether it does.
 pub(crate) fn assert_all(rt: &impl Abort, rows: &[(&str, bool)]) {
     for (shows, holds) in rows {

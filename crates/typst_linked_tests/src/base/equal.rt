@@ -2,8 +2,7 @@
 //! and by reference.
 ghost use Rattle.std.specs.Prelude.{◌≡◌, ◌≢◌, ◌↔◌, IsTrue};
 
-use crate::rows::assert_all;
-use std::test::Fail;
+use crate::rows::assert_row;
 use typst_base::{DiagSpan, FileId, Span, SpanNumber, Spanned, SubRange, SyntaxKind, SyntaxSet};
 
 /// Equality of spans.
@@ -63,80 +62,58 @@ fn are_same_sets_behind(a: &SyntaxSet, b: &SyntaxSet) -> bool
 }
 
 #[test]
-fn spans_are_equal_where_file_and_number_are(rt: HostRuntime) -> Result<(), Fail> {
+fn spans_are_equal_where_file_and_number_are(rt: HostRuntime) {
     let id = FileId::FIRST;
-    let other_id = FileId::new(2).ok_or("an id")?;
+    let other_id = FileId::new(2).expect(&rt, "an id");
     let span = Span::from_number(id, SpanNumber(5));
     let again = Span::from_number(id, SpanNumber(5));
     let other_file = Span::from_number(other_id, SpanNumber(5));
     let other_number = Span::from_number(id, SpanNumber(6));
+    assert_row(&rt, "the same", are_same_spans(span, again));
+    assert_row(&rt, "another file", !are_same_spans(span, other_file));
+    assert_row(&rt, "another number", !are_same_spans(span, other_number));
+    let same = are_same_spans_behind(&span, &again);
+    assert_row(&rt, "the same behind", same);
+    let other = are_other_spans_behind(&span, &other_file);
+    assert_row(&rt, "another file behind", other);
     let value = Spanned::new(3u8, span);
-    let rows = [
-        ("the same", are_same_spans(span, again)),
-        ("another file", !are_same_spans(span, other_file)),
-        ("another number", !are_same_spans(span, other_number)),
-        ("the same behind", are_same_spans_behind(&span, &again)),
-        (
-            "another file behind",
-            are_other_spans_behind(&span, &other_file),
-        ),
-        (
-            "values",
-            are_same_values_behind(&value, &Spanned::new(3u8, again)),
-        ),
-        (
-            "another value",
-            !are_same_values_behind(&value, &Spanned::new(4u8, span)),
-        ),
-        (
-            "another span",
-            !are_same_values_behind(&value, &Spanned::new(3u8, other_number)),
-        ),
-    ];
-    assert_all(&rt, &rows);
-    Ok(())
+    let same = are_same_values_behind(&value, &Spanned::new(3u8, again));
+    assert_row(&rt, "values", same);
+    let same = are_same_values_behind(&value, &Spanned::new(4u8, span));
+    assert_row(&rt, "another value", !same);
+    let same = are_same_values_behind(&value, &Spanned::new(3u8, other_number));
+    assert_row(&rt, "another span", !same);
 }
 
 #[test]
-fn diagnostic_spans_are_equal_where_span_and_part_are(rt: HostRuntime) -> Result<(), Fail> {
+fn diagnostic_spans_are_equal_where_span_and_part_are(rt: HostRuntime) {
     let span = Span::from_number(FileId::FIRST, SpanNumber(5));
-    let part = SubRange::new(0, 2).ok_or("a part")?;
-    let other_part = SubRange::new(0, 3).ok_or("a part")?;
+    let part = SubRange::new(0, 2).expect(&rt, "a part");
+    let other_part = SubRange::new(0, 3).expect(&rt, "a part");
     let place = DiagSpan::from_span(span, Some(part));
     let again = DiagSpan::from_span(span, Some(part));
-    let rows = [
-        ("the same", are_same_places(place, again)),
-        (
-            "another part",
-            !are_same_places(place, DiagSpan::from_span(span, Some(other_part))),
-        ),
-        (
-            "no part",
-            !are_same_places(place, DiagSpan::from_span(span, None)),
-        ),
-        ("the same behind", are_same_places_behind(&place, &again)),
-        (
-            "another span",
-            !are_same_places_behind(&place, &DiagSpan::from_span(Span::detached(), Some(part))),
-        ),
-    ];
-    assert_all(&rt, &rows);
-    Ok(())
+    assert_row(&rt, "the same", are_same_places(place, again));
+    let same = are_same_places_behind(&place, &again);
+    assert_row(&rt, "the same behind", same);
+    let other = DiagSpan::from_span(span, Some(other_part));
+    assert_row(&rt, "another part", !are_same_places(place, other));
+    let other = DiagSpan::from_span(span, None);
+    assert_row(&rt, "no part", !are_same_places(place, other));
+    let other = DiagSpan::from_span(Span::detached(), Some(part));
+    let same = are_same_places_behind(&place, &other);
+    assert_row(&rt, "another span", !same);
 }
 
 #[test]
-fn sets_are_equal_where_they_hold_the_same_kinds(rt: HostRuntime) -> Result<(), Fail> {
+fn sets_are_equal_where_they_hold_the_same_kinds(rt: HostRuntime) {
     let hash = SyntaxSet::new().add(SyntaxKind::Hash);
     let again = SyntaxSet::new()
         .add(SyntaxKind::Let)
         .add(SyntaxKind::Hash)
         .remove(SyntaxKind::Let);
     let import = SyntaxSet::new().add(SyntaxKind::Import);
-    let rows = [
-        ("the same kinds", are_same_sets(hash, again)),
-        ("another kind", !are_same_sets(hash, import)),
-        ("the same kinds behind", are_same_sets_behind(&hash, &again)),
-    ];
-    assert_all(&rt, &rows);
-    Ok(())
+    assert_row(&rt, "the same kinds", are_same_sets(hash, again));
+    assert_row(&rt, "another kind", !are_same_sets(hash, import));
+    let same = are_same_sets_behind(&hash, &again);
+    assert_row(&rt, "the same kinds behind", same);
 }

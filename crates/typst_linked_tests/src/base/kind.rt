@@ -1,5 +1,5 @@
 //! Tests of kinds against their table, row by row.
-use crate::rows::assert_text;
+use crate::rows::{assert_at, assert_row, assert_text};
 use std::alloc::{AllocError, Global};
 use std::test::Fail;
 use typst_base::{ModeAfter, SyntaxKind, SyntaxMode};
@@ -208,13 +208,14 @@ fn each_kind_has_its_row(rt: HostRuntime) -> Result<(), Fail> {
         assert_text(&rt, row, &said, row);
         number = number.saturating_add(1);
     }
-    assert_eq!(rt; number, 137);
+    assert_row(&rt, "137 rows", number == 137);
     Ok(())
 }
 
 #[test]
 fn numbers_from_137_on_are_no_kinds(rt: HostRuntime) {
     for raw in 137..=255u8 {
-        assert!(rt; SyntaxKind::from_u8(raw).is_none(), "{raw}");
+        let kind = SyntaxKind::from_u8(raw);
+        assert_at(&rt, "no kind of", raw as usize, kind.is_none());
     }
 }

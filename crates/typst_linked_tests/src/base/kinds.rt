@@ -1,72 +1,106 @@
 //! Tests of the walk over the kinds of a set.
+use crate::rows::{assert_row, assert_text};
+use std::alloc::{AllocError, Global};
 use std::test::Fail;
-use typst_base::{SyntaxKind, SyntaxSet, named_sets};
+use typst_base::{SyntaxKind, SyntaxKinds, SyntaxSet, named_sets};
+
+/// Kinds on both sides of 128, in an order of their own.
+const ADDED: [SyntaxKind; 6] = [
+    SyntaxKind::DestructAssignment,
+    SyntaxKind::Let,
+    SyntaxKind::ImportItems,
+    SyntaxKind::End,
+    SyntaxKind::ModuleImport,
+    SyntaxKind::Let,
+];
+
+/// The same kinds in order.
+const ORDERED: [SyntaxKind; 5] = [
+    SyntaxKind::End,
+    SyntaxKind::Let,
+    SyntaxKind::ModuleImport,
+    SyntaxKind::ImportItems,
+    SyntaxKind::DestructAssignment,
+];
+
+/// Those of them from 128 on.
+const HIGH: [SyntaxKind; 2] = [SyntaxKind::ImportItems, SyntaxKind::DestructAssignment];
+
+/// The set of these kinds.
+fn set_of(kinds: &[SyntaxKind]) -> SyntaxSet {
+    let mut set = SyntaxSet::new();
+    for kind in kinds {
+        set = set.add(*kind);
+    }
+    set
+}
+
+/// Whether a walk over a set gives these kinds in this order.
+fn gives(alloc: Global, set: SyntaxSet, wanted: &[SyntaxKind]) -> Result<bool, AllocError> {
+    let kinds: Vec<SyntaxKind> = set.kinds().collect(alloc)?;
+    Ok(kinds.as_slice() == wanted)
+}
 
 #[test]
 fn a_walk_gives_kinds_on_both_sides_of_128_in_order(rt: HostRuntime) -> Result<(), Fail> {
-    let set = SyntaxSet::new()
-        .add(SyntaxKind::DestructAssignment)
-        .add(SyntaxKind::Let)
-        .add(SyntaxKind::ImportItems)
-        .add(SyntaxKind::End)
-        .add(SyntaxKind::ModuleImport)
-        .add(SyntaxKind::Let);
-    let expected = [
-        SyntaxKind::End,
-        SyntaxKind::Let,
-        SyntaxKind::ModuleImport,
-        SyntaxKind::ImportItems,
-        SyntaxKind::DestructAssignment,
-    ];
-    let kinds: Vec<SyntaxKind> = set.kinds().collect(rt.alloc())?;
-    assert!(rt; kinds.as_slice() == expected.as_slice());
-    let without_low = set
+    let set = set_of(&ADDED);
+    assert_row(&rt, "all", gives(rt.alloc(), set, &ORDERED)?);
+    let high = set
         .remove(SyntaxKind::End)
         .remove(SyntaxKind::Let)
         .remove(SyntaxKind::ModuleImport);
-    let kinds: Vec<SyntaxKind> = without_low.kinds().collect(rt.alloc())?;
-    let high = [SyntaxKind::ImportItems, SyntaxKind::DestructAssignment];
-    assert!(rt; kinds.as_slice() == high.as_slice());
+    assert_row(&rt, "those from 128 on", gives(rt.alloc(), high, &HIGH)?);
     Ok(())
 }
 
 #[test]
 fn a_walk_over_the_empty_set_gives_nothing(rt: HostRuntime) {
     let mut kinds = SyntaxSet::new().kinds();
-    assert!(rt; kinds.len() == 0);
-    assert!(rt; kinds.next().is_none());
-    assert!(rt; kinds.next().is_none());
+    assert_row(&rt, "none is left", kinds.len() == 0);
+    assert_row(&rt, "none comes", kinds.next().is_none());
+    assert_row(&rt, "none comes then", kinds.next().is_none());
+}
+
+/// How a walk is shown.
+fn shown(alloc: Global, kinds: &SyntaxKinds) -> Result<String, AllocError> {
+    format!(in alloc; "{kinds:?}")
 }
 
 #[test]
 fn a_walk_tells_how_many_kinds_are_left(rt: HostRuntime) -> Result<(), Fail> {
-    let alloc = rt.alloc();
     let mut kinds = named_sets::unary_op().kinds();
-    assert!(rt; kinds.size_hint() == (3, Some(3)));
-    assert!(rt; kinds.next() == Some(SyntaxKind::Plus));
+    assert_row(&rt, "three are left", kinds.size_hint() == (3, Some(3)));
+    assert_row(&rt, "the first", kinds.next() == Some(SyntaxKind::Plus));
     let mut copy = kinds.clone()?;
-    assert!(rt; kinds.next() == Some(SyntaxKind::Minus));
-    assert!(rt; kinds.len() == 1);
-    let shown = format!(in alloc; "{:?}", kinds)?;
-    assert_eq!(rt; shown.as_str(), "SyntaxKinds { left: {Not} }");
-    assert!(rt; kinds.next() == Some(SyntaxKind::Not));
-    assert!(rt; kinds.next().is_none());
-    assert!(rt; copy.next() == Some(SyntaxKind::Minus));
+    assert_row(&rt, "the second", kinds.next() == Some(SyntaxKind::Minus));
+    assert_row(&rt, "a copy's", copy.next() == Some(SyntaxKind::Minus));
+    assert_row(&rt, "one is left", kinds.len() == 1);
+    let left = "SyntaxKinds { left: {Not} }";
+    assert_text(&rt, "it is shown", &shown(rt.alloc(), &kinds)?, left);
+    assert_row(&rt, "the third", kinds.next() == Some(SyntaxKind::Not));
+    assert_row(&rt, "none comes then", kinds.next().is_none());
     Ok(())
+}
+
+/// The set of the kinds that a walk over a set gives, if it gives each once and only kinds of the set.
+fn walked(set: SyntaxSet) -> Option<SyntaxSet> {
+    let mut seen = SyntaxSet::new();
+    for kind in set {
+        if !set.contains(kind) || seen.contains(kind) {
+            return None;
+        }
+        seen = seen.add(kind);
+    }
+    Some(seen)
 }
 
 #[test]
 fn a_for_over_a_set_gives_each_kind_once(rt: HostRuntime) {
     let code = named_sets::code_expr();
-    let mut seen = SyntaxSet::new();
-    for kind in code {
-        assert!(rt; code.contains(kind));
-        assert!(rt; !seen.contains(kind));
-        seen = seen.add(kind);
-    }
-    assert!(rt; seen == code);
-    assert!(rt; code.kinds().count() == 30);
-    assert!(rt; named_sets::math_expr().kinds().count() == 19);
+    assert_row(&rt, "each once", walked(code) == Some(code));
+    assert_row(&rt, "30 of code", code.kinds().count() == 30);
+    let math = named_sets::math_expr();
+    assert_row(&rt, "19 of math", math.kinds().count() == 19);
 }
 
 #[test]
@@ -77,7 +111,8 @@ fn a_walk_over_all_kinds_gives_their_numbers_in_order(rt: HostRuntime) {
     }
     let mut kinds = all.kinds();
     for number in 0..137u8 {
-        assert!(rt; kinds.next() == SyntaxKind::from_u8(number));
+        let same = kinds.next() == SyntaxKind::from_u8(number);
+        assert_row(&rt, "a kind in order", same);
     }
-    assert!(rt; kinds.next().is_none());
+    assert_row(&rt, "none comes then", kinds.next().is_none());
 }

@@ -1,20 +1,26 @@
 //! Tests of values with spans.
+use crate::rows::{assert_row, assert_text};
+use std::alloc::{AllocError, Global};
+use std::test::Fail;
 use typst_base::{DiagSpan, FileId, Span, SpanNumber, Spanned};
 
+/// How a value with a span is shown.
+fn shown(alloc: Global, value: &Spanned<u8>) -> Result<String, AllocError> {
+    format!(in alloc; "{value:?}")
+}
+
 #[test]
-fn a_value_keeps_its_span(rt: HostRuntime) {
+fn a_value_keeps_its_span(rt: HostRuntime) -> Result<(), Fail> {
     let span = Span::from_number(FileId::FIRST, SpanNumber(5));
     let three = Spanned::new(3u8, span);
+    assert_text(&rt, "it is shown", &shown(rt.alloc(), &three)?, "3");
     let six = three.map(|v| v as u16 * 2);
-    assert_eq!(rt; six.v, 6);
-    assert!(rt; six.span == span);
+    assert_row(&rt, "a mapped value", six.v == 6 && six.span == span);
     let lent = three.as_ref();
-    assert_eq!(rt; *lent.v, 3);
-    assert!(rt; lent.span == span);
+    assert_row(&rt, "a lent value", *lent.v == 3 && lent.span == span);
     let nowhere: Spanned<u8> = Spanned::detached(3u8);
-    assert!(rt; nowhere.span.is_detached());
+    assert_row(&rt, "a span", nowhere.span.is_detached());
     let hint: Spanned<u8, DiagSpan> = Spanned::detached(3u8);
-    assert!(rt; hint.span.is_detached());
-    let shown = format!(in rt.alloc(); "{three:?}").expect(&rt, "memory");
-    assert_eq!(rt; shown.as_str(), "3");
+    assert_row(&rt, "a diagnostic span", hint.span.is_detached());
+    Ok(())
 }

@@ -1,37 +1,52 @@
 //! Tests of parts by worked examples.
+use crate::rows::{assert_at, assert_row};
+use std::ops::Range;
 use typst_base::SubRange;
+
+/// The largest end of a part.
+const MAX: usize = 4294967295;
+
+/// Ranges, and the ends of their parts.
+const KEPT: [(Range<usize>, usize); 6] = [
+    (0..1, 1),
+    (4..5, 5),
+    (0..MAX, MAX),
+    (0..MAX - 1, MAX - 1),
+    (MAX - 1..MAX, MAX),
+    (3..MAX + 1, MAX),
+];
+
+/// Ranges without parts.
+const REFUSED: [Range<usize>; 6] = [0..0, 5..5, 5..4, MAX - 1..MAX - 1, MAX..MAX, MAX..MAX + 1];
+
+/// Whether the part of these bytes begins where they do, and ends here.
+fn is_kept(bytes: &Range<usize>, end: usize) -> bool {
+    match SubRange::new(bytes.start, bytes.end) {
+        Some(part) => part.to_relative() == (bytes.start..end),
+        None => false,
+    }
+}
 
 #[test]
 fn parts_are_cut_and_never_empty(rt: HostRuntime) {
-    let m = 4294967295usize;
-    let kept = [
-        (0, 1, 1),
-        (4, 5, 5),
-        (0, m, m),
-        (0, m - 1, m - 1),
-        (m - 1, m, m),
-        (3, m + 1, m),
-    ];
-    for (start, end, cut) in kept {
-        let part = SubRange::new(start, end).expect(&rt, "a part");
-        assert!(rt; part.to_relative() == (start..cut), "{start}..{end}");
+    for (bytes, end) in &KEPT {
+        assert_at(&rt, "a part of a range to", bytes.end, is_kept(bytes, *end));
     }
-    let refused = [(0, 0), (5, 5), (5, 4), (m - 1, m - 1), (m, m), (m, m + 1)];
-    for (start, end) in refused {
-        assert!(rt; SubRange::new(start, end).is_none(), "{start}..{end}");
+    for bytes in &REFUSED {
+        let part = SubRange::new(bytes.start, bytes.end);
+        assert_at(&rt, "no part of a range to", bytes.end, part.is_none());
     }
 }
 
 #[test]
 fn parts_move_by_an_offset(rt: HostRuntime) {
     let part = SubRange::new(2, 5).expect(&rt, "a part");
-    assert!(rt; part.fits_at(10));
     let moved = if part.fits_at(10) {
         part.to_absolute(10)
     } else {
         0..0
     };
-    assert!(rt; moved == (12..15));
-    assert!(rt; part.fits_at(usize::MAX - 5));
-    assert!(rt; !part.fits_at(usize::MAX - 4));
+    assert_row(&rt, "it moves by 10", moved == (12..15));
+    assert_row(&rt, "it fits", part.fits_at(usize::MAX - 5));
+    assert_row(&rt, "it fits no more", !part.fits_at(usize::MAX - 4));
 }
