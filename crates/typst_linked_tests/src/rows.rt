@@ -12,13 +12,6 @@ pub(crate) fn assert_at(rt: &impl Abort, shows: &str, number: usize, holds: bool
     assert!(rt; holds, "{shows} {number}");
 }
 
-/// Asserts that each row holds: what it shows, and whether it does.
-pub(crate) fn assert_all(rt: &impl Abort, rows: &[(&str, bool)]) {
-    for (shows, holds) in rows {
-        assert_row(rt, shows, *holds);
-    }
-}
-
 /// Asserts that a row's text is the wanted one, and says what it shows.
 pub(crate) fn assert_text(rt: &impl Abort, shows: &str, text: &str, wanted: &str) {
     assert_eq!(rt; text, wanted, "{shows}");

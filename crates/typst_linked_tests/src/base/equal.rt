@@ -72,17 +72,28 @@ fn spans_are_equal_where_file_and_number_are(rt: HostRuntime) {
     assert_row(&rt, "the same", are_same_spans(span, again));
     assert_row(&rt, "another file", !are_same_spans(span, other_file));
     assert_row(&rt, "another number", !are_same_spans(span, other_number));
-    let same = are_same_spans_behind(&span, &again);
-    assert_row(&rt, "the same behind", same);
-    let other = are_other_spans_behind(&span, &other_file);
-    assert_row(&rt, "another file behind", other);
+    assert_row(&rt, "the same behind", are_same_spans_behind(&span, &again));
+    assert_row(
+        &rt,
+        "another file behind",
+        are_other_spans_behind(&span, &other_file),
+    );
     let value = Spanned::new(3u8, span);
-    let same = are_same_values_behind(&value, &Spanned::new(3u8, again));
-    assert_row(&rt, "values", same);
-    let same = are_same_values_behind(&value, &Spanned::new(4u8, span));
-    assert_row(&rt, "another value", !same);
-    let same = are_same_values_behind(&value, &Spanned::new(3u8, other_number));
-    assert_row(&rt, "another span", !same);
+    assert_row(
+        &rt,
+        "values",
+        are_same_values_behind(&value, &Spanned::new(3u8, again)),
+    );
+    assert_row(
+        &rt,
+        "another value",
+        !are_same_values_behind(&value, &Spanned::new(4u8, span)),
+    );
+    assert_row(
+        &rt,
+        "another span",
+        !are_same_values_behind(&value, &Spanned::new(3u8, other_number)),
+    );
 }
 
 #[test]
@@ -93,15 +104,17 @@ fn diagnostic_spans_are_equal_where_span_and_part_are(rt: HostRuntime) {
     let place = DiagSpan::from_span(span, Some(part));
     let again = DiagSpan::from_span(span, Some(part));
     assert_row(&rt, "the same", are_same_places(place, again));
-    let same = are_same_places_behind(&place, &again);
-    assert_row(&rt, "the same behind", same);
+    assert_row(
+        &rt,
+        "the same behind",
+        are_same_places_behind(&place, &again),
+    );
     let other = DiagSpan::from_span(span, Some(other_part));
     assert_row(&rt, "another part", !are_same_places(place, other));
     let other = DiagSpan::from_span(span, None);
     assert_row(&rt, "no part", !are_same_places(place, other));
     let other = DiagSpan::from_span(Span::detached(), Some(part));
-    let same = are_same_places_behind(&place, &other);
-    assert_row(&rt, "another span", !same);
+    assert_row(&rt, "another span", !are_same_places_behind(&place, &other));
 }
 
 #[test]
@@ -114,6 +127,9 @@ fn sets_are_equal_where_they_hold_the_same_kinds(rt: HostRuntime) {
     let import = SyntaxSet::new().add(SyntaxKind::Import);
     assert_row(&rt, "the same kinds", are_same_sets(hash, again));
     assert_row(&rt, "another kind", !are_same_sets(hash, import));
-    let same = are_same_sets_behind(&hash, &again);
-    assert_row(&rt, "the same kinds behind", same);
+    assert_row(
+        &rt,
+        "the same kinds behind",
+        are_same_sets_behind(&hash, &again),
+    );
 }

@@ -66,19 +66,31 @@ fn shown(alloc: Global, kinds: &SyntaxKinds) -> Result<String, AllocError> {
     format!(in alloc; "{kinds:?}")
 }
 
+/// Whether a walk over three kinds tells that they are left, and gives a plus first.
+fn begins(kinds: &mut SyntaxKinds) -> bool {
+    kinds.size_hint() == (3, Some(3)) && kinds.next() == Some(SyntaxKind::Plus)
+}
+
+/// Whether the walk then gives a minus, and tells that one kind is left.
+fn goes_on(kinds: &mut SyntaxKinds) -> bool {
+    kinds.next() == Some(SyntaxKind::Minus) && kinds.len() == 1
+}
+
+/// Whether it then gives `not`, and ends.
+fn ends(kinds: &mut SyntaxKinds) -> bool {
+    kinds.next() == Some(SyntaxKind::Not) && kinds.next().is_none()
+}
+
 #[test]
 fn a_walk_tells_how_many_kinds_are_left(rt: HostRuntime) -> Result<(), Fail> {
     let mut kinds = named_sets::unary_op().kinds();
-    assert_row(&rt, "three are left", kinds.size_hint() == (3, Some(3)));
-    assert_row(&rt, "the first", kinds.next() == Some(SyntaxKind::Plus));
+    assert_row(&rt, "three are left", begins(&mut kinds));
     let mut copy = kinds.clone()?;
-    assert_row(&rt, "the second", kinds.next() == Some(SyntaxKind::Minus));
-    assert_row(&rt, "a copy's", copy.next() == Some(SyntaxKind::Minus));
-    assert_row(&rt, "one is left", kinds.len() == 1);
+    assert_row(&rt, "one is left", goes_on(&mut kinds));
     let left = "SyntaxKinds { left: {Not} }";
     assert_text(&rt, "it is shown", &shown(rt.alloc(), &kinds)?, left);
-    assert_row(&rt, "the third", kinds.next() == Some(SyntaxKind::Not));
-    assert_row(&rt, "none comes then", kinds.next().is_none());
+    assert_row(&rt, "none is left", ends(&mut kinds));
+    assert_row(&rt, "a copy goes on alike", goes_on(&mut copy));
     Ok(())
 }
 

@@ -2,6 +2,7 @@
 use crate::rows::{assert_at, assert_row, assert_text};
 use std::alloc::{AllocError, Global};
 use std::ops::Range;
+use std::process::Abort;
 use std::test::Fail;
 use typst_base::{MapperError, RangeMapper, SubRange};
 
@@ -138,36 +139,40 @@ fn parts_map_from_their_node(rt: HostRuntime) {
     }
 }
 
-/// Segments, and the ends of the first that is invalid.
-const INVALID: [([Range<usize>; 3], (usize, usize)); 3] = [
-    ([0..5, 2..7, 1..0], (2, 7)),
-    ([4..3, 2..7, 1..0], (4, 3)),
-    ([0..5, 5..7, 9..8], (9, 8)),
-];
-
-/// Whether a mapper is refused because of this segment.
-fn is_refused(alloc: Global, segments: &[Range<usize>], (start, end): (usize, usize)) -> bool {
-    RangeMapper::new(alloc, segments).err() == Some(MapperError::InvalidSegment { start, end })
+/// Asserts that a mapper of these segments is refused because of this one.
+fn assert_refused(
+    rt: &impl Abort,
+    alloc: Global,
+    segments: &[Range<usize>],
+    (start, end): (usize, usize),
+) {
+    let error = RangeMapper::new(alloc, segments).err();
+    let refused = error == Some(MapperError::InvalidSegment { start, end });
+    assert_at(rt, "the segment from", start, refused);
 }
 
-/// The text of an error, or `-` for none.
-fn text(alloc: Global, error: Option<MapperError>) -> Result<String, AllocError> {
-    match error {
-        Some(error) => format!(in alloc; "{error}"),
-        None => String::from_str(alloc, "-"),
+/// The text of an error.
+fn text(alloc: Global, error: &MapperError) -> Result<String, AllocError> {
+    format!(in alloc; "{error}")
+}
+
+/// Why a mapper of these segments is refused, or `-` if it isn't.
+fn reason(alloc: Global, segments: &[Range<usize>]) -> Result<String, AllocError> {
+    match RangeMapper::new(alloc, segments) {
+        Ok(_) => String::from_str(alloc, "-"),
+        Err(error) => text(alloc, &error),
     }
 }
 
 #[test]
 fn the_first_invalid_segment_is_told(rt: HostRuntime) -> Result<(), Fail> {
-    for (segments, first) in &INVALID {
-        let refused = is_refused(rt.alloc(), segments, *first);
-        assert_at(&rt, "a segment from", first.0, refused);
-    }
-    let error = RangeMapper::new(rt.alloc(), &[0..5, 2..7]).err();
-    let said = text(rt.alloc(), error)?;
+    let alloc = rt.alloc();
+    assert_refused(&rt, alloc, &[0..5, 2..7, 1..0], (2, 7));
+    assert_refused(&rt, alloc, &[4..3, 2..7, 1..0], (4, 3));
+    assert_refused(&rt, alloc, &[0..5, 5..7, 9..8], (9, 8));
+    let said = reason(alloc, &[0..5, 2..7])?;
     assert_text(&rt, "a segment", &said, "invalid mapper segment: (2, 7)");
-    let said = text(rt.alloc(), Some(MapperError::Memory))?;
+    let said = text(alloc, &MapperError::Memory)?;
     assert_text(&rt, "memory", &said, "out of memory");
     Ok(())
 }

@@ -1,5 +1,6 @@
 //! Tests of sets of kinds against their lists.
 use crate::rows::{assert_at, assert_row, assert_text};
+use std::process::Abort;
 use std::test::Fail;
 use typst_base::{SyntaxKind, SyntaxSet, named_sets};
 
@@ -40,6 +41,11 @@ fn sets_are_equal_by_their_kinds(rt: HostRuntime) {
     assert_row(&rt, "fewer below 128", one != fewer);
     let fewer = same.remove(SyntaxKind::DestructAssignment);
     assert_row(&rt, "fewer from 128 on", one != fewer);
+}
+
+/// Asserts that a set has exactly the kinds with these numbers, and says which set.
+fn assert_has(rt: &impl Abort, shows: &str, set: SyntaxSet, numbers: &[u8]) {
+    assert_row(rt, shows, has_exactly(set, numbers));
 }
 
 /// The numbers of the kinds of expressions of math.
@@ -84,30 +90,33 @@ const PARAM: &[u8] = &[
 
 #[test]
 fn named_sets_have_exactly_their_kinds(rt: HostRuntime) {
-    let stmt = has_exactly(named_sets::stmt(), &[83, 84, 85, 95, 96, 94]);
-    assert_row(&rt, "stmt", stmt);
-    let math_expr = has_exactly(named_sets::math_expr(), MATH);
-    assert_row(&rt, "math_expr", math_expr);
-    let atomic_code_expr = has_exactly(named_sets::atomic_code_expr(), ATOMIC);
-    assert_row(&rt, "atomic_code_expr", atomic_code_expr);
-    let pattern_leaf = has_exactly(named_sets::pattern_leaf(), ATOMIC);
-    assert_row(&rt, "pattern_leaf", pattern_leaf);
-    let unary_op = has_exactly(named_sets::unary_op(), &[58, 59, 78]);
-    assert_row(&rt, "unary_op", unary_op);
-    let binary_op = has_exactly(named_sets::binary_op(), BINARY);
-    assert_row(&rt, "binary_op", binary_op);
-    let code_expr = has_exactly(named_sets::code_expr(), CODE);
-    assert_row(&rt, "code_expr", code_expr);
-    let array_or_dict_item = has_exactly(named_sets::array_or_dict_item(), ITEM);
-    assert_row(&rt, "array_or_dict_item", array_or_dict_item);
-    let arg = has_exactly(named_sets::arg(), ITEM);
-    assert_row(&rt, "arg", arg);
-    let pattern = has_exactly(named_sets::pattern(), PATTERN);
-    assert_row(&rt, "pattern", pattern);
-    let param = has_exactly(named_sets::param(), PARAM);
-    assert_row(&rt, "param", param);
-    let destructuring_item = has_exactly(named_sets::destructuring_item(), PARAM);
-    assert_row(&rt, "destructuring_item", destructuring_item);
+    assert_has(&rt, "stmt", named_sets::stmt(), &[83, 84, 85, 95, 96, 94]);
+    assert_has(&rt, "math_expr", named_sets::math_expr(), MATH);
+    assert_has(
+        &rt,
+        "atomic_code_expr",
+        named_sets::atomic_code_expr(),
+        ATOMIC,
+    );
+    assert_has(&rt, "pattern_leaf", named_sets::pattern_leaf(), ATOMIC);
+    assert_has(&rt, "unary_op", named_sets::unary_op(), &[58, 59, 78]);
+    assert_has(&rt, "binary_op", named_sets::binary_op(), BINARY);
+    assert_has(&rt, "code_expr", named_sets::code_expr(), CODE);
+    assert_has(
+        &rt,
+        "array_or_dict_item",
+        named_sets::array_or_dict_item(),
+        ITEM,
+    );
+    assert_has(&rt, "arg", named_sets::arg(), ITEM);
+    assert_has(&rt, "pattern", named_sets::pattern(), PATTERN);
+    assert_has(&rt, "param", named_sets::param(), PARAM);
+    assert_has(
+        &rt,
+        "destructuring_item",
+        named_sets::destructuring_item(),
+        PARAM,
+    );
 }
 
 /// Whether the kind with a number can be in a set, and the set of it alone has no other.
@@ -121,22 +130,25 @@ fn is_held(number: u8) -> bool {
 #[test]
 fn sets_hold_kinds_on_both_sides_of_128(rt: HostRuntime) {
     let low = SyntaxSet::new().add(SyntaxKind::Let);
-    assert_row(&rt, "one below", has_exactly(low, &[83]));
-    let has_high = low.contains(SyntaxKind::ImportItems);
-    assert_row(&rt, "none from 128 on", !has_high);
+    assert_has(&rt, "one below", low, &[83]);
+    assert_row(
+        &rt,
+        "none from 128 on",
+        !low.contains(SyntaxKind::ImportItems),
+    );
     let both = low.add(SyntaxKind::ImportItems);
-    assert_row(&rt, "both", has_exactly(both, &[83, 128]));
+    assert_has(&rt, "both", both, &[83, 128]);
     let without = both.remove(SyntaxKind::ImportItems);
-    assert_row(&rt, "one removed", has_exactly(without, &[83]));
+    assert_has(&rt, "one removed", without, &[83]);
     let without = both.remove(SyntaxKind::Let);
-    assert_row(&rt, "the other removed", has_exactly(without, &[128]));
+    assert_has(&rt, "the other removed", without, &[128]);
     let last = SyntaxSet::new().add(SyntaxKind::DestructAssignment);
     let three = both.union(last);
-    assert_row(&rt, "a union", has_exactly(three, &[83, 128, 136]));
+    assert_has(&rt, "a union", three, &[83, 128, 136]);
     let and_or = SyntaxSet::new().add(SyntaxKind::And).add(SyntaxKind::Or);
-    assert_row(&rt, "two below", has_exactly(and_or, &[79, 80]));
+    assert_has(&rt, "two below", and_or, &[79, 80]);
     let empty: SyntaxSet = Default::default();
-    assert_row(&rt, "none", has_exactly(empty, &[]));
+    assert_has(&rt, "none", empty, &[]);
     for number in 0..137u8 {
         assert_at(&rt, "kind", number as usize, is_held(number));
     }

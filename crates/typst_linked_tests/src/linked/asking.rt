@@ -57,11 +57,16 @@ pub(crate) fn at<'a>(
 ) -> Result<LinkedNode<'a>, DrawingError> {
     for below in root.preorder(alloc)? {
         let below = below?;
-        if below.path(alloc)?.as_slice() == path {
+        if is_at(alloc, &below, path)? {
             return Ok(below);
         }
     }
     Err(DrawingError::Nodes)
+}
+
+/// Whether a node's path is this one.
+fn is_at(alloc: Global, node: &LinkedNode, path: &[usize]) -> Result<bool, AllocError> {
+    Ok(node.path(alloc)?.as_slice() == path)
 }
 
 /// The span of a node's number.
@@ -73,33 +78,46 @@ pub(crate) fn span_of(file: u16, number: u64) -> Result<Span, DrawingError> {
     Ok(Span::from_number(file, SpanNumber(number)))
 }
 
+/// A copy of a node's parent.
+fn parent<'a>(node: &LinkedNode<'a>) -> Result<Option<LinkedNode<'a>>, AllocError> {
+    match node.parent() {
+        Some(parent) => Ok(Some(parent.clone()?)),
+        None => Ok(None),
+    }
+}
+
+/// The span that is asked for, detached where it isn't a number's.
+fn span_asked(ask: &Ask) -> Result<Span, DrawingError> {
+    match ask {
+        Ask::Number(file, number) => span_of(*file, *number),
+        _ => Ok(Span::detached()),
+    }
+}
+
 /// The node that is asked for, or none where the answer isn't a node.
 fn asked<'a>(
     alloc: Global,
     node: &LinkedNode<'a>,
     ask: &Ask,
-) -> Result<Option<LinkedNode<'a>>, DrawingError> {
-    Ok(match ask {
-        Ask::Itself => Some(node.clone()?),
-        Ask::Parent => match node.parent() {
-            Some(parent) => Some(parent.clone()?),
-            None => None,
-        },
-        Ask::NextSibling => node.next_sibling()?,
-        Ask::PrevSibling => node.prev_sibling()?,
-        Ask::NextWithTrivia => node.next_sibling_with_trivia()?,
-        Ask::PrevWithTrivia => node.prev_sibling_with_trivia()?,
-        Ask::Leftmost => node.leftmost_leaf(alloc)?,
-        Ask::Rightmost => node.rightmost_leaf(alloc)?,
-        Ask::NextLeaf => node.next_leaf(alloc)?,
-        Ask::PrevLeaf => node.prev_leaf(alloc)?,
-        Ask::Before(cursor) => node.leaf_at(alloc, *cursor, Side::Before)?,
-        Ask::After(cursor) => node.leaf_at(alloc, *cursor, Side::After)?,
-        Ask::Kinds | Ask::Modes => None,
-        Ask::Number(file, number) => node.find(alloc, span_of(*file, *number)?)?,
-        Ask::Bytes(start, end) => node.find_range(alloc, *start, *end)?,
-        Ask::Nowhere => node.find(alloc, Span::detached())?,
-    })
+    span: Span,
+) -> Result<Option<LinkedNode<'a>>, AllocError> {
+    match ask {
+        Ask::Itself => Ok(Some(node.clone()?)),
+        Ask::Parent => parent(node),
+        Ask::NextSibling => node.next_sibling(),
+        Ask::PrevSibling => node.prev_sibling(),
+        Ask::NextWithTrivia => node.next_sibling_with_trivia(),
+        Ask::PrevWithTrivia => node.prev_sibling_with_trivia(),
+        Ask::Leftmost => node.leftmost_leaf(alloc),
+        Ask::Rightmost => node.rightmost_leaf(alloc),
+        Ask::NextLeaf => node.next_leaf(alloc),
+        Ask::PrevLeaf => node.prev_leaf(alloc),
+        Ask::Before(cursor) => node.leaf_at(alloc, *cursor, Side::Before),
+        Ask::After(cursor) => node.leaf_at(alloc, *cursor, Side::After),
+        Ask::Bytes(start, end) => node.find_range(alloc, *start, *end),
+        Ask::Number(..) | Ask::Nowhere => node.find(alloc, span),
+        Ask::Kinds | Ask::Modes => Ok(None),
+    }
 }
 
 /// The words for the kinds of the siblings next to a node and of its parent.
@@ -117,6 +135,15 @@ fn modes(alloc: Global, node: &LinkedNode) -> Result<String, AllocError> {
     format!(in alloc; "{after:?} in {parent:?}")
 }
 
+/// The words for the answer of a node.
+fn said(alloc: Global, node: &LinkedNode, ask: &Ask, span: Span) -> Result<String, AllocError> {
+    match ask {
+        Ask::Kinds => kinds(alloc, node),
+        Ask::Modes => modes(alloc, node),
+        _ => place(alloc, asked(alloc, node, ask, span)?.as_ref()),
+    }
+}
+
 /// The words for the answer of the node at a path of a drawn tree, which is numbered within 2..400.
 pub(crate) fn answer(
     alloc: Global,
@@ -126,11 +153,7 @@ pub(crate) fn answer(
 ) -> Result<String, DrawingError> {
     let tree = numbered(alloc, drawing, 2..400)?;
     let node = at(alloc, &LinkedNode::new(&tree), path)?;
-    Ok(match ask {
-        Ask::Kinds => kinds(alloc, &node)?,
-        Ask::Modes => modes(alloc, &node)?,
-        _ => place(alloc, asked(alloc, &node, ask)?.as_ref())?,
-    })
+    Ok(said(alloc, &node, ask, span_asked(ask)?)?)
 }
 
 /// Asserts that each row's answer is the wanted one.

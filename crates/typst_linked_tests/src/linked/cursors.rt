@@ -1,6 +1,7 @@
 //! The leaf at a cursor.
 use crate::linked::asking::{Ask, Row, assert_rows};
-use std::alloc::Global;
+use crate::rows::assert_row;
+use std::alloc::{AllocError, Global};
 use std::test::Fail;
 use typst_base::SyntaxKind;
 use typst_drawn::{DrawingError, drawn};
@@ -199,24 +200,31 @@ fn plain_leaf(tree: &SyntaxNode, cursor: usize, side: Side) -> Option<usize> {
     None
 }
 
-/// Whether a search with few looks finds the leaf that a plain walk finds, on either side of each cursor below the
-/// limit.
+/// Whether both searches find the leaf that a plain walk finds, on this side of a cursor.
+fn is_found(
+    alloc: Global,
+    root: &LinkedNode,
+    cursor: usize,
+    side: Side,
+    looks: &mut Looks,
+) -> Result<bool, AllocError> {
+    let plain = plain_leaf(root.get(), cursor, side);
+    let found = root.leaf_at_counted(alloc, cursor, side, looks)?;
+    let again = root.leaf_at(alloc, cursor, side)?;
+    Ok(found.map(|node| node.index()) == plain && again.map(|node| node.index()) == plain)
+}
+
+/// Whether searches with few looks find the leaf on either side of each cursor below the limit.
 fn are_found(
     alloc: Global,
-    tree: &SyntaxNode,
+    root: &LinkedNode,
     limit: usize,
     most: u64,
-) -> Result<bool, DrawingError> {
-    let root = LinkedNode::new(tree);
+) -> Result<bool, AllocError> {
     let mut looks = Looks::new();
     for cursor in 0..limit {
         for side in [Side::Before, Side::After] {
-            let found = root.leaf_at_counted(alloc, cursor, side, &mut looks)?;
-            let index = found.as_ref().map(|node| node.index());
-            let same = root.leaf_at(alloc, cursor, side)?;
-            let again = same.as_ref().map(|node| node.index());
-            let plain = plain_leaf(tree, cursor, side);
-            if index != plain || again != plain || looks.count() > most {
+            if !is_found(alloc, root, cursor, side, &mut looks)? || looks.count() > most {
                 return Ok(false);
             }
         }
@@ -230,7 +238,8 @@ fn each_cursor_has_its_leaf(rt: HostRuntime) -> Result<(), Fail> {
         rt.alloc(),
         "Markup[ Text:ab Markup[ ] Space:~ Text: Text:c ]",
     )?;
-    assert!(rt; are_found(rt.alloc(), &tree, 6, 3)?);
+    let found = are_found(rt.alloc(), &LinkedNode::new(&tree), 6, 3)?;
+    assert_row(&rt, "each leaf is found", found);
     Ok(())
 }
 
@@ -243,12 +252,17 @@ pub(crate) fn thousand_texts(alloc: Global) -> Result<SyntaxNode, DrawingError> 
     Ok(SyntaxNode::inner(alloc, SyntaxKind::Markup, leaves)?)
 }
 
+/// Whether a tree has a thousand children of two bytes.
+fn has_thousand(tree: &SyntaxNode) -> bool {
+    tree.child_slice().len() == 1000 && tree.child_end(499) == 1000 && tree.child_end(999) == 2000
+}
+
 #[test]
 fn each_offset_of_a_thousand_leaves_is_found_by_halving(rt: HostRuntime) -> Result<(), Fail> {
     let tree = thousand_texts(rt.alloc())?;
-    assert_eq!(rt; tree.child_slice().len(), 1000);
-    assert_eq!(rt; (tree.child_end(499), tree.child_end(999)), (1000, 2000));
-    assert!(rt; are_found(rt.alloc(), &tree, 2002, 10)?);
+    assert_row(&rt, "there are a thousand", has_thousand(&tree));
+    let found = are_found(rt.alloc(), &LinkedNode::new(&tree), 2002, 10)?;
+    assert_row(&rt, "each is found", found);
     Ok(())
 }
 
@@ -268,11 +282,10 @@ fn looked(alloc: Global, tree: &SyntaxNode, cursor: usize) -> Result<[u64; 2], D
 
 #[test]
 fn looks_are_counted_anew(rt: HostRuntime) -> Result<(), Fail> {
-    assert_eq!(rt; Looks::new().count(), 0);
+    assert_row(&rt, "none at first", Looks::new().count() == 0);
     let tree = thousand_texts(rt.alloc())?;
     let [first, again] = looked(rt.alloc(), &tree, 1001)?;
-    assert!(rt; 1 <= first && first <= 10);
-    // A leaf has no ends to read.
-    assert_eq!(rt; again, 0);
+    assert_row(&rt, "from 1 to 10", 1 <= first && first <= 10);
+    assert_row(&rt, "a leaf has no ends to read", again == 0);
     Ok(())
 }

@@ -1,9 +1,10 @@
 //! Searches by spans.
 use crate::linked::asking::{Ask, Row, assert_rows, place, span_of};
 use crate::linked::cursors::thousand_texts;
-use crate::rows::assert_text;
+use crate::rows::{assert_at, assert_row, assert_text};
 use std::alloc::{AllocError, Global};
 use std::num::NonZeroU64;
+use std::process::Abort;
 use std::test::Fail;
 use typst_base::{FileId, Span, SpanKind, SpanNumber};
 use typst_drawn::{DrawingError, numbered};
@@ -92,9 +93,11 @@ fn span_by(by: &By) -> Result<Span, DrawingError> {
     Ok(span)
 }
 
-/// What is searched for in `TWO`, numbered within 2..14, what is found, and how many numbers are read at least and at
-/// most.
-const SEARCHED: [(By, &str, u64, u64); 13] = [
+/// What is searched for, what is found, and how many numbers are read at least and at most.
+type Searched = (By, &'static str, u64, u64);
+
+/// What is searched for in `TWO`, numbered within 2..14.
+const SEARCHED: [Searched; 13] = [
     (By::Number(1, 7), C, 1, 3),
     (By::Number(1, 6), "-", 1, 3),
     (By::Number(1, 3), ROOT, 1, 1),
@@ -114,32 +117,50 @@ const SEARCHED: [(By, &str, u64, u64); 13] = [
 ];
 
 /// The words for what a counting search finds, and for how many numbers it read if they aren't as many as they may be.
-fn searched(alloc: Global, by: &By, least: u64, most: u64) -> Result<String, DrawingError> {
-    let tree = numbered(alloc, TWO, 2..14)?;
+fn searched(
+    alloc: Global,
+    root: &LinkedNode,
+    span: Span,
+    least: u64,
+    most: u64,
+) -> Result<String, AllocError> {
     let mut looks = Looks::new();
-    let found = LinkedNode::new(&tree).find_counted(alloc, span_by(by)?, &mut looks)?;
+    let found = root.find_counted(alloc, span, &mut looks)?;
     let said = place(alloc, found.as_ref())?;
     let count = looks.count();
     if least <= count && count <= most {
         return Ok(said);
     }
-    Ok(format!(in alloc; "{said} by {count}")?)
+    format!(in alloc; "{said} by {count}")
 }
 
 /// The words for what `find` finds.
-fn found(alloc: Global, by: &By) -> Result<String, DrawingError> {
-    let tree = numbered(alloc, TWO, 2..14)?;
-    let found = LinkedNode::new(&tree).find(alloc, span_by(by)?)?;
-    Ok(place(alloc, found.as_ref())?)
+fn found(alloc: Global, root: &LinkedNode, span: Span) -> Result<String, AllocError> {
+    place(alloc, root.find(alloc, span)?.as_ref())
+}
+
+/// Asserts that both searches find what is wanted.
+fn assert_searched(
+    rt: &impl Abort,
+    alloc: Global,
+    root: &LinkedNode,
+    row: &Searched,
+) -> Result<(), DrawingError> {
+    let (by, wanted, least, most) = row;
+    let span = span_by(by)?;
+    let said = searched(alloc, root, span, *least, *most)?;
+    assert_text(rt, "find_counted", &said, wanted);
+    let said = found(alloc, root, span)?;
+    assert_text(rt, "find", &said, wanted);
+    Ok(())
 }
 
 #[test]
 fn a_number_is_found_whatever_its_file(rt: HostRuntime) -> Result<(), Fail> {
-    for (by, wanted, least, most) in &SEARCHED {
-        let said = searched(rt.alloc(), by, *least, *most)?;
-        assert_text(&rt, "find_counted", &said, wanted);
-        let said = found(rt.alloc(), by)?;
-        assert_text(&rt, "find", &said, wanted);
+    let tree = numbered(rt.alloc(), TWO, 2..14)?;
+    let root = LinkedNode::new(&tree);
+    for row in &SEARCHED {
+        assert_searched(&rt, rt.alloc(), &root, row)?;
     }
     Ok(())
 }
@@ -154,7 +175,8 @@ fn a_foreign_word_may_have_the_number_0(rt: HostRuntime) -> Result<(), Fail> {
             ..
         }
     );
-    assert!(rt; is_0 && span.id() == FileId::new(1));
+    assert_row(&rt, "its number is 0", is_0);
+    assert_row(&rt, "its file is 1", span.id() == FileId::new(1));
     Ok(())
 }
 
@@ -194,7 +216,8 @@ fn a_thousand_leaves_are_found_by_halving(rt: HostRuntime) -> Result<(), Fail> {
     for child in tree.children() {
         let own = child.span().number();
         for number in [own.saturating_sub(1), own, own.saturating_add(1)] {
-            assert!(rt; is_found(rt.alloc(), &tree, file, number)?, "{number}");
+            let found = is_found(rt.alloc(), &tree, file, number)?;
+            assert_at(&rt, "the number", number as usize, found);
         }
     }
     Ok(())
@@ -220,7 +243,8 @@ fn finds_all(alloc: Global, drawing: &str) -> Result<bool, DrawingError> {
 #[test]
 fn a_node_is_found_by_its_own_span(rt: HostRuntime) -> Result<(), Fail> {
     let strong = "Markup[ Strong[ Star:* Markup[ Text:b ] Star:* ] Text:c ]";
-    assert!(rt; finds_all(rt.alloc(), strong)?);
-    assert!(rt; finds_all(rt.alloc(), "Markup[ Strong[ !m:# ] Text:c ]")?);
+    assert_row(&rt, strong, finds_all(rt.alloc(), strong)?);
+    let error = "Markup[ Strong[ !m:# ] Text:c ]";
+    assert_row(&rt, error, finds_all(rt.alloc(), error)?);
     Ok(())
 }

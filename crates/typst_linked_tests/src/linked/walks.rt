@@ -1,5 +1,6 @@
 //! Children, siblings, leaves and modes.
 use crate::linked::asking::{Ask, Row, assert_rows, at, place};
+use crate::rows::assert_text;
 use std::alloc::{AllocError, Global};
 use std::test::Fail;
 use typst_drawn::{DrawingError, drawn};
@@ -416,7 +417,7 @@ fn preorder_gives_a_node_before_its_children(rt: HostRuntime) -> Result<(), Fail
     for (path, wanted) in &IN_PREORDER {
         let tree = "Markup[ Strong[ Star:* Emph[ Text:b ] ] Text:c ]";
         let said = in_preorder(rt.alloc(), tree, path)?;
-        assert_eq!(rt; said.as_str(), *wanted);
+        assert_text(&rt, "in preorder", &said, wanted);
     }
     Ok(())
 }
@@ -443,9 +444,11 @@ fn push_hints(alloc: Global, nodes: &LinkedPreorder, said: &mut String) -> Resul
 #[test]
 fn a_preorder_hints_the_nodes_that_are_left(rt: HostRuntime) -> Result<(), Fail> {
     let said = hinted(rt.alloc(), "Markup[ Text:a ]")?;
-    assert_eq!(rt;
-        said.as_str(),
-        "(1, Some(2)) (1, Some(2)); (1, Some(1)) (1, Some(1)); (0, Some(0)) (0, Some(0)); "
+    assert_text(
+        &rt,
+        "hints",
+        &said,
+        "(1, Some(2)) (1, Some(2)); (1, Some(1)) (1, Some(1)); (0, Some(0)) (0, Some(0)); ",
     );
     Ok(())
 }
@@ -473,9 +476,11 @@ fn shown_behind_first(
 #[test]
 fn walks_show_what_is_left(rt: HostRuntime) -> Result<(), Fail> {
     let said = shown_ahead(rt.alloc(), "Markup[ Text:a Text:b ]")?;
-    assert_eq!(rt;
-        said.as_str(),
-        r#"LinkedChildren { parent: Markup: 2 [Text: "a", Text: "b"], from: 1, to: 2, begin: 1 } LinkedPreorder { next: Some(Text: "a"), left: 2, .. }"#
+    assert_text(
+        &rt,
+        "walks after a step",
+        &said,
+        r#"LinkedChildren { parent: Markup: 2 [Text: "a", Text: "b"], from: 1, to: 2, begin: 1 } LinkedPreorder { next: Some(Text: "a"), left: 2, .. }"#,
     );
     Ok(())
 }
@@ -515,20 +520,21 @@ fn push_left(
     said.push_str(format!(in alloc; "{left} left")?.as_str())
 }
 
+/// The ends that children of `Markup[ Text:ab Text:c Text:d ]` are taken from, and the words for them.
+const TAKEN: [(&str, &str); 3] = [
+    ("", "3 left"),
+    ("bf", r#"[2] 3..4 Text: "d"; [0] 0..2 Text: "ab"; 1 left"#),
+    (
+        "ffbfb",
+        r#"[0] 0..2 Text: "ab"; [1] 2..3 Text: "c"; [2] 3..4 Text: "d"; -; -; 0 left"#,
+    ),
+];
+
 #[test]
 fn children_come_from_both_ends(rt: HostRuntime) -> Result<(), Fail> {
-    let tree = "Markup[ Text:ab Text:c Text:d ]";
-    let rows = [
-        ("", "3 left"),
-        ("bf", r#"[2] 3..4 Text: "d"; [0] 0..2 Text: "ab"; 1 left"#),
-        (
-            "ffbfb",
-            r#"[0] 0..2 Text: "ab"; [1] 2..3 Text: "c"; [2] 3..4 Text: "d"; -; -; 0 left"#,
-        ),
-    ];
-    for (ends, wanted) in rows {
-        let said = taken(rt.alloc(), tree, ends)?;
-        assert_eq!(rt; said.as_str(), wanted);
+    for (ends, wanted) in &TAKEN {
+        let said = taken(rt.alloc(), "Markup[ Text:ab Text:c Text:d ]", ends)?;
+        assert_text(&rt, ends, &said, wanted);
     }
     Ok(())
 }
@@ -543,6 +549,6 @@ fn copied(alloc: Global, drawing: &str, path: &[usize]) -> Result<String, Drawin
 #[test]
 fn a_clone_stands_where_its_node_does(rt: HostRuntime) -> Result<(), Fail> {
     let said = copied(rt.alloc(), "Markup[ Text:ab Text:c ]", &[1])?;
-    assert_eq!(rt; said.as_str(), r#"[1] 2..3 Text: "c""#);
+    assert_text(&rt, "a copy", &said, r#"[1] 2..3 Text: "c""#);
     Ok(())
 }

@@ -1,6 +1,7 @@
 //! The errors and warnings of a tree.
-use crate::rows::{assert_all, assert_text};
+use crate::rows::{assert_row, assert_text};
 use std::alloc::{AllocError, Global};
+use std::process::Abort;
 use std::test::Fail;
 use typst_base::{DiagSpan, DiagSpanKind};
 use typst_drawn::{DrawingError, drawn, drawn_all, numbered};
@@ -66,6 +67,28 @@ fn place(alloc: Global, span: DiagSpan) -> Result<String, AllocError> {
     }
 }
 
+/// Adds the words for a message and where it points.
+fn push_placed(
+    alloc: Global,
+    what: &str,
+    message: &str,
+    span: DiagSpan,
+    said: &mut String,
+) -> Result<(), AllocError> {
+    let place = place(alloc, span)?;
+    said.push_str(format!(in alloc; "{what} {message} at {place} ")?.as_str())
+}
+
+/// Adds the words for a diagnostic and its hints.
+fn push_one(alloc: Global, one: &SyntaxDiagnostic, said: &mut String) -> Result<(), AllocError> {
+    let what = if one.is_error { "error" } else { "warning" };
+    push_placed(alloc, what, one.message.as_str(), one.span, said)?;
+    for hint in &one.hints {
+        push_placed(alloc, "hint", hint.v.as_str(), hint.span, said)?;
+    }
+    Ok(())
+}
+
 /// Adds the words for each diagnostic of a list.
 fn push_listed(
     alloc: Global,
@@ -73,18 +96,7 @@ fn push_listed(
     said: &mut String,
 ) -> Result<(), AllocError> {
     for one in list {
-        said.push_str(if one.is_error { "error " } else { "warning " })?;
-        said.push_str(one.message.as_str())?;
-        said.push_str(" at ")?;
-        said.push_str(place(alloc, one.span)?.as_str())?;
-        said.push(' ')?;
-        for hint in &one.hints {
-            said.push_str("hint ")?;
-            said.push_str(hint.v.as_str())?;
-            said.push_str(" at ")?;
-            said.push_str(place(alloc, hint.span)?.as_str())?;
-            said.push(' ')?;
-        }
+        push_one(alloc, one, said)?;
     }
     Ok(())
 }
@@ -94,20 +106,31 @@ pub(crate) fn listed(alloc: Global, tree: &SyntaxNode) -> Result<String, AllocEr
     let (errors, warnings) = tree.errors_and_warnings(alloc)?;
     let mut said = String::new(alloc);
     push_listed(alloc, &errors, &mut said)?;
-    said.push('|')?;
-    said.push(' ')?;
+    said.push_str("| ")?;
     push_listed(alloc, &warnings, &mut said)?;
     Ok(said)
+}
+
+/// Asserts that a tree's errors and warnings have these words, but for the blank at their end.
+fn assert_listed(
+    rt: &impl Abort,
+    alloc: Global,
+    shows: &str,
+    tree: Result<SyntaxNode, DrawingError>,
+    wanted: &str,
+) -> Result<(), DrawingError> {
+    let said = listed(alloc, &tree?)?;
+    assert_text(rt, shows, said.as_str().trim_end(), wanted);
+    Ok(())
 }
 
 #[test]
 fn errors_and_warnings_are_listed(rt: HostRuntime) -> Result<(), Fail> {
     let alloc = rt.alloc();
     for (shows, drawing, before, after) in &LISTED {
-        let said = listed(alloc, &drawn(alloc, drawing)?)?;
-        assert_text(&rt, shows, said.as_str().trim_end(), before);
-        let said = listed(alloc, &numbered(alloc, drawing, 4..16)?)?;
-        assert_text(&rt, shows, said.as_str().trim_end(), after);
+        assert_listed(&rt, alloc, shows, drawn(alloc, drawing), before)?;
+        let tree = numbered(alloc, drawing, 4..16);
+        assert_listed(&rt, alloc, shows, tree, after)?;
     }
     Ok(())
 }
@@ -116,7 +139,7 @@ fn errors_and_warnings_are_listed(rt: HostRuntime) -> Result<(), Fail> {
 fn a_warning_about_a_part_has_its_nodes_number(rt: HostRuntime) -> Result<(), Fail> {
     let tree = numbered(rt.alloc(), "Text:ab ^0..1@m", 4..6)?;
     let said = listed(rt.alloc(), &tree)?;
-    assert_eq!(rt; said.as_str(), "| warning m at 1/5:0..1 ");
+    assert_text(&rt, "a part", &said, "| warning m at 1/5:0..1 ");
     Ok(())
 }
 
@@ -143,10 +166,8 @@ fn cloned(alloc: Global, tree: &SyntaxNode) -> Result<String, AllocError> {
 fn a_diagnostic_equals_its_clone(rt: HostRuntime) -> Result<(), Fail> {
     let tree = numbered(rt.alloc(), "Markup[ !m:# +0..1@h !n: ]", 4..16)?;
     let said = cloned(rt.alloc(), &tree)?;
-    assert_eq!(rt;
-        said.as_str(),
-        "error m at 1/7 hint h at 1/7:0..1 error n at 1/9 equal"
-    );
+    let wanted = "error m at 1/7 hint h at 1/7:0..1 error n at 1/9 equal";
+    assert_text(&rt, "two errors", &said, wanted);
     Ok(())
 }
 
@@ -164,22 +185,35 @@ fn with_two_hints(alloc: Global, drawing: &str) -> Result<String, DrawingError> 
     Ok(format!(in alloc; "{node:?}")?)
 }
 
+/// Drawings, and the words for their nodes with two more hints.
+const HINTED: [(&str, &str); 2] = [
+    (
+        "!m:",
+        r#"Error: { text: "", message: "m", hint: "g", hint: "h" }"#,
+    ),
+    (
+        "Text:a ^w +f",
+        r#"Warning: {message: "w", hint: "f", hint: "g", hint: "h", Text: "a"}"#,
+    ),
+];
+
 #[test]
 fn several_hints_keep_their_order(rt: HostRuntime) -> Result<(), Fail> {
-    for (drawing, wanted) in [
-        (
-            "!m:",
-            r#"Error: { text: "", message: "m", hint: "g", hint: "h" }"#,
-        ),
-        (
-            "Text:a ^w +f",
-            r#"Warning: {message: "w", hint: "f", hint: "g", hint: "h", Text: "a"}"#,
-        ),
-    ] {
+    for (drawing, wanted) in &HINTED {
         let said = with_two_hints(rt.alloc(), drawing)?;
-        assert_eq!(rt; said.as_str(), wanted);
+        assert_text(&rt, drawing, &said, wanted);
     }
     Ok(())
+}
+
+/// Asserts which parts fit within a text of two bytes.
+fn assert_parts_fit(rt: &impl Abort, node: &SyntaxNode) {
+    assert_row(rt, "0..1 fits", node.range_fits(0..1));
+    assert_row(rt, "1..2 fits", node.range_fits(1..2));
+    assert_row(rt, "0..2 fits", node.range_fits(0..2));
+    assert_row(rt, "0..3 does not", !node.range_fits(0..3));
+    assert_row(rt, "1..1 does not", !node.range_fits(1..1));
+    assert_row(rt, "0..0 does not", !node.range_fits(0..0));
 }
 
 #[test]
@@ -188,17 +222,9 @@ fn parts_fit_within_the_text(rt: HostRuntime) -> Result<(), Fail> {
     let [node, error, warned] = nodes.as_slice() else {
         return Err("no nodes")?;
     };
-    let rows = [
-        ("a leaf takes no hint", !node.can_hint()),
-        ("0..1 fits", node.range_fits(0..1)),
-        ("1..2 fits", node.range_fits(1..2)),
-        ("0..2 fits", node.range_fits(0..2)),
-        ("0..3 does not", !node.range_fits(0..3)),
-        ("1..1 does not", !node.range_fits(1..1)),
-        ("0..0 does not", !node.range_fits(0..0)),
-        ("an error takes a hint", error.can_hint()),
-        ("a warned leaf takes a hint", warned.can_hint()),
-    ];
-    assert_all(&rt, &rows);
+    assert_parts_fit(&rt, node);
+    assert_row(&rt, "a leaf takes no hint", !node.can_hint());
+    assert_row(&rt, "an error takes a hint", error.can_hint());
+    assert_row(&rt, "a warned leaf takes a hint", warned.can_hint());
     Ok(())
 }

@@ -2,7 +2,7 @@
 ghost use Rattle.std.specs.Prelude.{◌≡◌, ◌↔◌, IsTrue};
 ghost use Rattle.typst_node.specs.Reported.{report};
 
-use crate::rows::assert_all;
+use crate::rows::assert_row;
 use std::alloc::{AllocError, Global};
 use std::test::Fail;
 use typst_drawn::{drawn, drawn_all, numbered};
@@ -36,11 +36,8 @@ fn nodes_are_equal_where_both_are_the_same(rt: HostRuntime) -> Result<(), Fail> 
     let [a, again, b] = nodes.as_slice() else {
         return Err("no nodes")?;
     };
-    let rows = [
-        ("the same", are_same_nodes(a, again)),
-        ("another text", !are_same_nodes(a, b)),
-    ];
-    assert_all(&rt, &rows);
+    assert_row(&rt, "the same", are_same_nodes(a, again));
+    assert_row(&rt, "another text", !are_same_nodes(a, b));
     Ok(())
 }
 
@@ -60,8 +57,10 @@ fn diagnostics_are_equal_where_they_report_the_same(rt: HostRuntime) -> Result<(
     let alloc = rt.alloc();
     let drawing = "Markup[ !m:# +h !m:# +h !m:# +g ]";
     let detached = compared(alloc, &drawn(alloc, drawing)?)?;
-    assert!(rt; detached == Some((true, true, false)));
+    let same = detached == Some((true, true, false));
+    assert_row(&rt, "the same text and hint", same);
     let placed = compared(alloc, &numbered(alloc, drawing, 4..64)?)?;
-    assert!(rt; placed == Some((false, false, false)));
+    let other = placed == Some((false, false, false));
+    assert_row(&rt, "the same at other places", other);
     Ok(())
 }

@@ -1,4 +1,5 @@
 //! The texts of errors.
+use crate::rows::assert_text;
 use std::alloc::{AllocError, Global};
 use std::test::Fail;
 use typst_node::{InnerError, ReplaceError, SynthesizeError, Unnumberable};
@@ -44,7 +45,8 @@ fn text(alloc: Global, of: &Of) -> Result<String, AllocError> {
 #[test]
 fn errors_print_their_texts(rt: HostRuntime) -> Result<(), Fail> {
     for (of, wanted) in &TEXTS {
-        assert_eq!(rt; text(rt.alloc(), of)?.as_str(), *wanted);
+        let said = text(rt.alloc(), of)?;
+        assert_text(&rt, "an error", &said, wanted);
     }
     Ok(())
 }

@@ -1,5 +1,5 @@
 //! What is read from a node.
-use crate::rows::{assert_all, assert_text};
+use crate::rows::{assert_row, assert_text};
 use std::alloc::Global;
 use std::test::Fail;
 use typst_base::SyntaxKind;
@@ -114,14 +114,12 @@ fn a_placeholder_is_an_empty_leaf(rt: HostRuntime) -> Result<(), Fail> {
         return Err("no nodes")?;
     };
     let leaf = SyntaxNode::placeholder(rt.alloc(), SyntaxKind::Space);
-    let rows = [
-        ("its kind", leaf.kind() == SyntaxKind::Space),
-        ("it is empty", leaf.is_empty()),
-        ("it is a leaf", leaf == *space),
-        ("the default is an end", SyntaxNode::default() == *end),
-        ("a text is not empty", !text.is_empty()),
-    ];
-    assert_all(&rt, &rows);
+    assert_row(&rt, "its kind", leaf.kind() == SyntaxKind::Space);
+    assert_row(&rt, "it is empty", leaf.is_empty());
+    assert_row(&rt, "it is a leaf", leaf == *space);
+    let is_end = SyntaxNode::default() == *end;
+    assert_row(&rt, "the default is an end", is_end);
+    assert_row(&rt, "a text is not empty", !text.is_empty());
     Ok(())
 }
 
@@ -136,17 +134,15 @@ fn diagnoses_join_member_by_member(rt: HostRuntime) {
         errors: false,
         warnings: true,
     };
-    let rows = [
-        ("errors are either", errors.either()),
-        ("warnings are either", warnings.either()),
-        ("none is not", !none.either()),
-        ("errors or warnings are both", errors.or(warnings).both()),
-        ("errors are not", !errors.both()),
-        ("nor warnings", !warnings.both()),
-        ("errors or none", errors.or(none) == errors),
-        ("none or warnings", none.or(warnings) == warnings),
-    ];
-    assert_all(&rt, &rows);
+    assert_row(&rt, "errors are either", errors.either());
+    assert_row(&rt, "warnings are either", warnings.either());
+    assert_row(&rt, "none is not", !none.either());
+    let both = errors.or(warnings).both();
+    assert_row(&rt, "errors or warnings are both", both);
+    assert_row(&rt, "errors are not", !errors.both());
+    assert_row(&rt, "nor warnings", !warnings.both());
+    assert_row(&rt, "errors or none", errors.or(none) == errors);
+    assert_row(&rt, "none or warnings", none.or(warnings) == warnings);
 }
 
 /// The words for whether two trees are equal, or equal but for spans.
@@ -222,12 +218,18 @@ const PAIRS: [Pair; 13] = [
     ("Markup[ ]", 4, "Markup[ ]", 5, "equal but for spans"),
 ];
 
+/// The words for whether the trees of a row are equal.
+fn paired(alloc: Global, row: &Pair) -> Result<&'static str, DrawingError> {
+    let (one, end, other, other_end, _) = row;
+    let tree = numbered(alloc, one, 2..*end)?;
+    let other_tree = numbered(alloc, other, 2..*other_end)?;
+    Ok(compared(&tree, &other_tree))
+}
+
 #[test]
 fn trees_are_compared_by_all_that_they_hold(rt: HostRuntime) -> Result<(), Fail> {
-    for (one, end, other, other_end, wanted) in &PAIRS {
-        let tree = numbered(rt.alloc(), one, 2..*end)?;
-        let other_tree = numbered(rt.alloc(), other, 2..*other_end)?;
-        assert_eq!(rt; compared(&tree, &other_tree), *wanted, "{one} {other}");
+    for row in &PAIRS {
+        assert_text(&rt, row.2, paired(rt.alloc(), row)?, row.4);
     }
     Ok(())
 }
@@ -239,6 +241,7 @@ fn a_tree_equals_its_clone(rt: HostRuntime) -> Result<(), Fail> {
         "Markup[ Strong[ Star:* Text:b ] Text:c ]",
         2..30,
     )?;
-    assert_eq!(rt; compared(&tree, &tree.clone()?), "equal");
+    let said = compared(&tree, &tree.clone()?);
+    assert_text(&rt, "a clone", said, "equal");
     Ok(())
 }

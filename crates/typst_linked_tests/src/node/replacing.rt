@@ -1,7 +1,7 @@
 //! Replacements, and the numbers after them.
 use crate::node::numbering::is_of;
 use crate::node::reading::diagnosed;
-use crate::rows::{assert_all, assert_text};
+use crate::rows::{assert_row, assert_text};
 use std::alloc::{AllocError, Global};
 use std::ops::Range;
 use std::test::Fail;
@@ -313,7 +313,7 @@ fn replacements_are_numbered_within_windows(rt: HostRuntime) -> Result<(), Fail>
 fn edit_detached(
     alloc: Global,
     drawing: &str,
-    range: Range<usize>,
+    range: &Range<usize>,
     others: &str,
 ) -> Result<String, DrawingError> {
     let mut tree = drawn(alloc, drawing)?;
@@ -321,19 +321,23 @@ fn edit_detached(
         return Err(DrawingError::Numbers);
     }
     let before = tree.clone()?;
-    let answer = tree.replace_children(alloc, range, drawn_all(alloc, others)?);
+    let others = drawn_all(alloc, others)?;
+    let answer = tree.replace_children(alloc, range.start..range.end, others);
     if tree != before {
         return Err(DrawingError::Nodes);
     }
     answered(alloc, &answer, &tree, &before)
 }
 
+/// Drawings, ranges of children, and what detached trees answer.
+const DETACHED: [(&str, Range<usize>, &str); 2] = [
+    ("Markup[ Text:a ]", 0..1, "Unnumberable unchanged <a>"),
+    ("Text:a", 3..1, "window 0..0 tried 0 <a>"),
+];
+
 #[test]
 fn a_detached_tree_takes_no_replacement(rt: HostRuntime) -> Result<(), Fail> {
-    for (drawing, range, wanted) in [
-        ("Markup[ Text:a ]", 0..1, "Unnumberable unchanged <a>"),
-        ("Text:a", 3..1, "window 0..0 tried 0 <a>"),
-    ] {
+    for (drawing, range, wanted) in &DETACHED {
         let said = edit_detached(rt.alloc(), drawing, range, "Text:z")?;
         assert_text(&rt, drawing, &said, wanted);
     }
@@ -364,25 +368,35 @@ fn inserted(alloc: Global) -> Result<String, DrawingError> {
 #[test]
 fn a_replacement_is_numbered_for_the_trees_file(rt: HostRuntime) -> Result<(), Fail> {
     let said = inserted(rt.alloc())?;
-    assert_eq!(rt;
-        said.as_str(),
-        "window 0..3 tried 2 <abxc> 3..14[4..5 5..6 6..7] 4/4(2 3 4)[2/1 1/1 1/1] true"
+    assert_text(
+        &rt,
+        "a text of another file",
+        &said,
+        "window 0..3 tried 2 <abxc> 3..14[4..5 5..6 6..7] 4/4(2 3 4)[2/1 1/1 1/1] true",
     );
     Ok(())
 }
 
+/// What is shown, the path and the range of an edit, whether it fits, and whether it is made.
+type Trial = (&'static str, &'static [usize], Range<usize>, bool, bool);
+
+/// Edits of `STRONG`.
+const TRIALS: [Trial; 6] = [
+    ("the only child", &[0, 1], 0..1, true, true),
+    ("one more", &[0, 1], 0..2, false, false),
+    ("a reversed range", &[0, 1], 1..0, false, false),
+    ("no node", &[5], 0..0, false, false),
+    ("a leaf, whatever the range", &[1], 7..3, true, false),
+    ("below a leaf", &[1, 0], 0..0, false, false),
+];
+
 #[test]
 fn edits_fit_where_their_path_leads_and_their_range_ends(rt: HostRuntime) -> Result<(), Fail> {
     let tree = numbered(rt.alloc(), STRONG, 2..30)?;
-    let rows = [
-        ("the only child", tree.edit_fits(&[0, 1], 0..1)),
-        ("one more", !tree.edit_fits(&[0, 1], 0..2)),
-        ("a reversed range", !tree.edit_fits(&[0, 1], 1..0)),
-        ("no node", !tree.edit_fits(&[5], 0..0)),
-        ("a leaf, whatever the range", tree.edit_fits(&[1], 7..3)),
-        ("below a leaf", !tree.edit_fits(&[1, 0], 0..0)),
-    ];
-    assert_all(&rt, &rows);
+    for (shows, path, range, wanted, _) in &TRIALS {
+        let fits = tree.edit_fits(path, range.start..range.end);
+        assert_row(&rt, shows, fits == *wanted);
+    }
     Ok(())
 }
 
@@ -407,17 +421,9 @@ fn replacements_are_tried_where_their_path_leads_and_their_range_ends(
     rt: HostRuntime,
 ) -> Result<(), Fail> {
     let tree = numbered(rt.alloc(), STRONG, 2..30)?;
-    let rows: [(&str, &[usize], Range<usize>, bool); 6] = [
-        ("the only child", &[0, 1], 0..1, true),
-        ("one more", &[0, 1], 0..2, false),
-        ("a reversed range", &[0, 1], 1..0, false),
-        ("no node", &[5], 0..0, false),
-        ("a leaf, whatever the range", &[1], 7..3, false),
-        ("below a leaf", &[1, 0], 0..0, false),
-    ];
-    for (shows, path, range, wanted) in &rows {
-        let is_made = is_made(rt.alloc(), &tree, path, range)?;
-        assert_eq!(rt; is_made, *wanted, "{shows}");
+    for (shows, path, range, _, wanted) in &TRIALS {
+        let made = is_made(rt.alloc(), &tree, path, range)?;
+        assert_row(&rt, shows, made == *wanted);
     }
     Ok(())
 }
@@ -431,15 +437,17 @@ fn diagnosed_around(alloc: Global, drawing: &str) -> Result<String, DrawingError
     Ok(format!(in alloc; "{before}, then {after}")?)
 }
 
+/// Drawings, and the words for their diagnoses.
+const DIAGNOSED: [(&str, &str); 4] = [
+    ("Markup[ Strong[ !m:# ] Text:c ]", "errors, then -"),
+    ("Markup[ Strong[ !m:# ] ^w Text:c ]", "both, then warnings"),
+    ("Markup[ Strong[ !m:# ] !n:c ]", "errors, then errors"),
+    ("Markup[ Strong[ !m:# ^w ] Text:c ]", "both, then -"),
+];
+
 #[test]
 fn a_replaced_error_leaves_the_warnings_above_it(rt: HostRuntime) -> Result<(), Fail> {
-    let rows = [
-        ("Markup[ Strong[ !m:# ] Text:c ]", "errors, then -"),
-        ("Markup[ Strong[ !m:# ] ^w Text:c ]", "both, then warnings"),
-        ("Markup[ Strong[ !m:# ] !n:c ]", "errors, then errors"),
-        ("Markup[ Strong[ !m:# ^w ] Text:c ]", "both, then -"),
-    ];
-    for (drawing, wanted) in rows {
+    for (drawing, wanted) in &DIAGNOSED {
         let said = diagnosed_around(rt.alloc(), drawing)?;
         assert_text(&rt, drawing, &said, wanted);
     }

@@ -92,19 +92,21 @@ fn trees_are_shown_in_one_line(rt: HostRuntime) -> Result<(), Fail> {
     Ok(())
 }
 
+/// How nodes are shown in lines.
+const IN_LINES: [Row; 3] = [
+    ("a leaf", "Text:ab", "Text: \"ab\""),
+    ("no children", "Markup[ ]", "Markup: 0"),
+    (
+        "children, and those of a child",
+        "Markup[ Strong[ Star:* ] Text:c ^m ]",
+        "Markup: 2 [\n    Strong: 1 [\n        Star: \"*\",\n    ],\n    Warning: {message: \"m\", Text: \"c\"},\n]",
+    ),
+];
+
 #[test]
 fn trees_are_shown_in_a_line_for_each_node(rt: HostRuntime) -> Result<(), Fail> {
     let alloc = rt.alloc();
-    let rows = [
-        ("a leaf", "Text:ab", "Text: \"ab\""),
-        ("no children", "Markup[ ]", "Markup: 0"),
-        (
-            "children, and those of a child",
-            "Markup[ Strong[ Star:* ] Text:c ^m ]",
-            "Markup: 2 [\n    Strong: 1 [\n        Star: \"*\",\n    ],\n    Warning: {message: \"m\", Text: \"c\"},\n]",
-        ),
-    ];
-    for (shows, drawing, wanted) in rows {
+    for (shows, drawing, wanted) in &IN_LINES {
         let tree = drawn(alloc, drawing)?;
         let shown = format!(in alloc; "{tree:#?}")?;
         assert_text(&rt, shows, &shown, wanted);
@@ -120,25 +122,27 @@ fn refused(alloc: Global, drawing: &str) -> Result<String, AllocError> {
     }
 }
 
+/// Drawings, and why they are refused.
+const REFUSED: [(&str, &str); 14] = [
+    ("Foo:a", "Kind"),
+    ("Error:a", "Kind"),
+    ("Error[ ]", "Kind"),
+    ("Markup[", "Bracket"),
+    ("Text:a ]", "Bracket"),
+    ("ab", "Word"),
+    ("^w Text:a", "Misplaced"),
+    ("Text:a +h", "Misplaced"),
+    ("Text:ab ^0..3@m", "Misplaced"),
+    ("Text:ab ^1..1@m", "Misplaced"),
+    ("!m:ab +2..3@h", "Misplaced"),
+    ("Text:ab ^x..1@m", "Word"),
+    ("Text:a Text:b", "Nodes"),
+    ("", "Nodes"),
+];
+
 #[test]
 fn drawings_of_no_tree_are_refused(rt: HostRuntime) -> Result<(), Fail> {
-    let rows = [
-        ("Foo:a", "Kind"),
-        ("Error:a", "Kind"),
-        ("Error[ ]", "Kind"),
-        ("Markup[", "Bracket"),
-        ("Text:a ]", "Bracket"),
-        ("ab", "Word"),
-        ("^w Text:a", "Misplaced"),
-        ("Text:a +h", "Misplaced"),
-        ("Text:ab ^0..3@m", "Misplaced"),
-        ("Text:ab ^1..1@m", "Misplaced"),
-        ("!m:ab +2..3@h", "Misplaced"),
-        ("Text:ab ^x..1@m", "Word"),
-        ("Text:a Text:b", "Nodes"),
-        ("", "Nodes"),
-    ];
-    for (drawing, wanted) in rows {
+    for (drawing, wanted) in &REFUSED {
         assert_text(&rt, drawing, &refused(rt.alloc(), drawing)?, wanted);
     }
     Ok(())

@@ -1,7 +1,7 @@
 //! Spans that synthesis gives.
 use crate::node::diagnostics::listed;
 use crate::node::numbering::is_of;
-use crate::rows::{assert_all, assert_text};
+use crate::rows::{assert_row, assert_text};
 use std::alloc::{AllocError, Global};
 use std::test::Fail;
 use typst_base::{FileId, RangeMapper, Span, SpanKind};
@@ -27,25 +27,31 @@ fn detached(alloc: Global, drawing: &str) -> Result<SyntaxNode, DrawingError> {
 #[test]
 fn synthesis_gives_one_span(rt: HostRuntime) -> Result<(), Fail> {
     let tree = detached(rt.alloc(), "Markup[ Text:ab Text:c ^0..1@m +0..1@h ]")?;
-    assert_eq!(rt;
-        told(rt.alloc(), &tree)?.as_str(),
-        r#"1..1[1..2 1..2] true | warning m at - hint h at - Markup: 3 [Text: "ab", Warning: {message: "m", hint: "h", Text: "c"}]"#
+    let said = told(rt.alloc(), &tree)?;
+    assert_text(
+        &rt,
+        "the detached span",
+        &said,
+        r#"1..1[1..2 1..2] true | warning m at - hint h at - Markup: 3 [Text: "ab", Warning: {message: "m", hint: "h", Text: "c"}]"#,
     );
     Ok(())
+}
+
+/// Whether replacing the first child of a tree of no file by a text is refused, and changes nothing.
+fn takes_none(alloc: Global, tree: &mut SyntaxNode) -> Result<bool, DrawingError> {
+    if tree.span().id().is_some() || !tree.edit_fits(&[], 0..1) {
+        return Ok(false);
+    }
+    let before = tree.clone()?;
+    let answer = tree.replace_children(alloc, 0..1, drawn_all(alloc, "Text:x")?);
+    Ok(answer == Err(ReplaceError::Unnumberable) && *tree == before)
 }
 
 #[test]
 fn a_synthesized_tree_takes_no_replacement(rt: HostRuntime) -> Result<(), Fail> {
     let mut tree = detached(rt.alloc(), "Markup[ Text:ab Text:c ]")?;
-    let before = tree.clone()?;
-    let others = drawn_all(rt.alloc(), "Text:x")?;
-    assert!(rt; tree.span().id().is_none() && tree.edit_fits(&[], 0..1));
-    let answer = tree.replace_children(rt.alloc(), 0..1, others);
-    let rows = [
-        ("it is refused", answer == Err(ReplaceError::Unnumberable)),
-        ("nothing changes", tree == before),
-    ];
-    assert_all(&rt, &rows);
+    let refused = takes_none(rt.alloc(), &mut tree)?;
+    assert_row(&rt, "it is refused, and nothing changes", refused);
     Ok(())
 }
 
@@ -87,32 +93,39 @@ fn map(alloc: Global, tree: &mut SyntaxNode) -> Result<Result<(), SynthesizeErro
     Ok(tree.synthesize_mapped(FileId::FIRST, &mapper))
 }
 
-/// The ranges of a node and its children, its diagnostics, and how it is shown.
-fn placed(alloc: Global, tree: &SyntaxNode) -> Result<String, AllocError> {
+/// The ranges of a node and its children.
+fn ranges(alloc: Global, tree: &SyntaxNode) -> Result<String, AllocError> {
     let mut said = bytes(alloc, tree.span())?;
     for child in tree.child_slice() {
         said.push_str(bytes(alloc, child.span())?.as_str())?;
     }
-    said.push_str(listed(alloc, tree)?.as_str())?;
-    said.push_str(format!(in alloc; "{tree:?}")?.as_str())?;
     Ok(said)
 }
 
+/// The ranges of a node and its children, its diagnostics, and how it is shown.
+fn placed(alloc: Global, tree: &SyntaxNode) -> Result<String, AllocError> {
+    let ranges = ranges(alloc, tree)?;
+    let listed = listed(alloc, tree)?;
+    format!(in alloc; "{ranges}{listed}{tree:?}")
+}
+
+/// Drawings, and the words for their trees after they are mapped.
+const MAPPED: [(&str, &str); 3] = [
+    // The part went from 0..2 to 0..5, which is more bytes than the text has.
+    (
+        "Markup[ Text:ab Text:cd ^0..2@m ]",
+        r#"1/2..9 1/2..4 1/4..9 | warning m at 1/4..9 Markup: 4 [Text: "ab", Warning: {message @(0..5): "m", Text: "cd"}]"#,
+    ),
+    ("Text:abcdef", "TooLong { text: 6, mapper: 5 } unchanged"),
+    (
+        "Markup[ Text:abc Text:def ]",
+        "TooLong { text: 6, mapper: 5 } unchanged",
+    ),
+];
+
 #[test]
 fn mapped_nodes_have_the_places_of_their_bytes(rt: HostRuntime) -> Result<(), Fail> {
-    let rows = [
-        // The part went from 0..2 to 0..5, which is more bytes than the text has.
-        (
-            "Markup[ Text:ab Text:cd ^0..2@m ]",
-            r#"1/2..9 1/2..4 1/4..9 | warning m at 1/4..9 Markup: 4 [Text: "ab", Warning: {message @(0..5): "m", Text: "cd"}]"#,
-        ),
-        ("Text:abcdef", "TooLong { text: 6, mapper: 5 } unchanged"),
-        (
-            "Markup[ Text:abc Text:def ]",
-            "TooLong { text: 6, mapper: 5 } unchanged",
-        ),
-    ];
-    for (drawing, wanted) in rows {
+    for (drawing, wanted) in &MAPPED {
         let said = mapped(rt.alloc(), drawing)?;
         assert_text(&rt, drawing, &said, wanted);
     }
@@ -140,9 +153,12 @@ fn shortened_and_mapped(alloc: Global) -> Result<String, DrawingError> {
 
 #[test]
 fn a_part_beyond_the_text_is_dropped(rt: HostRuntime) -> Result<(), Fail> {
-    assert_eq!(rt;
-        shortened_and_mapped(rt.alloc())?.as_str(),
-        r#"14..100[36..37] Warning: {message @(0..4): "m", Strong: 1 [Text: "a"]}, then Ok(()) Warning: {message: "m", Strong: 1 [Text: "a"]}"#
+    let said = shortened_and_mapped(rt.alloc())?;
+    assert_text(
+        &rt,
+        "a shorter text",
+        &said,
+        r#"14..100[36..37] Warning: {message @(0..4): "m", Strong: 1 [Text: "a"]}, then Ok(()) Warning: {message: "m", Strong: 1 [Text: "a"]}"#,
     );
     Ok(())
 }
