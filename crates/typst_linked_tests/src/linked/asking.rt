@@ -1,8 +1,7 @@
 //! What a linked node is asked, and the words for its answers.
-use crate::rows::assert_text;
+use crate::rows::assert_said;
 use std::alloc::{AllocError, Global};
 use std::process::Abort;
-use std::test::Fail;
 use typst_base::{FileId, Span, SpanNumber};
 use typst_drawn::{DrawingError, numbered};
 use typst_linked::{LinkedNode, Side};
@@ -57,16 +56,11 @@ pub(crate) fn at<'a>(
 ) -> Result<LinkedNode<'a>, DrawingError> {
     for below in root.preorder(alloc)? {
         let below = below?;
-        if is_at(alloc, &below, path)? {
+        if below.path(alloc)?.as_slice() == path {
             return Ok(below);
         }
     }
     Err(DrawingError::Nodes)
-}
-
-/// Whether a node's path is this one.
-fn is_at(alloc: Global, node: &LinkedNode, path: &[usize]) -> Result<bool, AllocError> {
-    Ok(node.path(alloc)?.as_slice() == path)
 }
 
 /// The span of a node's number.
@@ -157,10 +151,8 @@ pub(crate) fn answer(
 }
 
 /// Asserts that each row's answer is the wanted one.
-pub(crate) fn assert_rows(rt: &impl Abort, alloc: Global, rows: &[Row]) -> Result<(), Fail> {
+pub(crate) fn assert_rows(rt: &impl Abort, alloc: Global, rows: &[Row]) {
     for (shows, drawing, path, ask, wanted) in rows {
-        let said = answer(alloc, drawing, path, ask)?;
-        assert_text(rt, shows, &said, wanted);
+        assert_said(rt, shows, answer(alloc, drawing, path, ask), wanted);
     }
-    Ok(())
 }

@@ -179,8 +179,8 @@ const CURSORS: [Row; 26] = [
 ];
 
 #[test]
-fn a_leaf_stands_on_each_side_of_a_cursor(rt: HostRuntime) -> Result<(), Fail> {
-    assert_rows(&rt, rt.alloc(), &CURSORS)
+fn a_leaf_stands_on_each_side_of_a_cursor(rt: HostRuntime) {
+    assert_rows(&rt, rt.alloc(), &CURSORS);
 }
 
 /// The index of the child that has the byte on this side of a cursor, found by looking at one child after the other.

@@ -1,8 +1,7 @@
 //! Children, siblings, leaves and modes.
 use crate::linked::asking::{Ask, Row, assert_rows, at, place};
-use crate::rows::assert_text;
+use crate::rows::assert_said;
 use std::alloc::{AllocError, Global};
-use std::test::Fail;
 use typst_drawn::{DrawingError, drawn};
 use typst_linked::{LinkedChildren, LinkedNode, LinkedPreorder};
 
@@ -365,18 +364,18 @@ const MODES: [Row; 14] = [
 ];
 
 #[test]
-fn siblings_pass_over_trivia(rt: HostRuntime) -> Result<(), Fail> {
-    assert_rows(&rt, rt.alloc(), &SIBLINGS)
+fn siblings_pass_over_trivia(rt: HostRuntime) {
+    assert_rows(&rt, rt.alloc(), &SIBLINGS);
 }
 
 #[test]
-fn leaves_are_stepped_to(rt: HostRuntime) -> Result<(), Fail> {
-    assert_rows(&rt, rt.alloc(), &LEAVES)
+fn leaves_are_stepped_to(rt: HostRuntime) {
+    assert_rows(&rt, rt.alloc(), &LEAVES);
 }
 
 #[test]
-fn nodes_have_modes_after_them(rt: HostRuntime) -> Result<(), Fail> {
-    assert_rows(&rt, rt.alloc(), &MODES)
+fn nodes_have_modes_after_them(rt: HostRuntime) {
+    assert_rows(&rt, rt.alloc(), &MODES);
 }
 
 /// Adds the words for a node.
@@ -413,13 +412,16 @@ const IN_PREORDER: [(&[usize], &str); 2] = [
 ];
 
 #[test]
-fn preorder_gives_a_node_before_its_children(rt: HostRuntime) -> Result<(), Fail> {
+fn preorder_gives_a_node_before_its_children(rt: HostRuntime) {
     for (path, wanted) in &IN_PREORDER {
         let tree = "Markup[ Strong[ Star:* Emph[ Text:b ] ] Text:c ]";
-        let said = in_preorder(rt.alloc(), tree, path)?;
-        assert_text(&rt, "in preorder", &said, wanted);
+        assert_said(
+            &rt,
+            "in preorder",
+            in_preorder(rt.alloc(), tree, path),
+            wanted,
+        );
     }
-    Ok(())
 }
 
 /// The size hint of a walk in preorder at first and after each node, and that of a copy of it then.
@@ -442,15 +444,13 @@ fn push_hints(alloc: Global, nodes: &LinkedPreorder, said: &mut String) -> Resul
 }
 
 #[test]
-fn a_preorder_hints_the_nodes_that_are_left(rt: HostRuntime) -> Result<(), Fail> {
-    let said = hinted(rt.alloc(), "Markup[ Text:a ]")?;
-    assert_text(
+fn a_preorder_hints_the_nodes_that_are_left(rt: HostRuntime) {
+    assert_said(
         &rt,
         "hints",
-        &said,
+        hinted(rt.alloc(), "Markup[ Text:a ]"),
         "(1, Some(2)) (1, Some(2)); (1, Some(1)) (1, Some(1)); (0, Some(0)) (0, Some(0)); ",
     );
-    Ok(())
 }
 
 /// How a walk over a tree's children and one in preorder are shown after one step each.
@@ -474,15 +474,13 @@ fn shown_behind_first(
 }
 
 #[test]
-fn walks_show_what_is_left(rt: HostRuntime) -> Result<(), Fail> {
-    let said = shown_ahead(rt.alloc(), "Markup[ Text:a Text:b ]")?;
-    assert_text(
+fn walks_show_what_is_left(rt: HostRuntime) {
+    assert_said(
         &rt,
         "walks after a step",
-        &said,
+        shown_ahead(rt.alloc(), "Markup[ Text:a Text:b ]"),
         r#"LinkedChildren { parent: Markup: 2 [Text: "a", Text: "b"], from: 1, to: 2, begin: 1 } LinkedPreorder { next: Some(Text: "a"), left: 2, .. }"#,
     );
-    Ok(())
 }
 
 /// The words for a tree's children, taken from the front for `f` and from the back for `b`, and how many are left.
@@ -531,12 +529,15 @@ const TAKEN: [(&str, &str); 3] = [
 ];
 
 #[test]
-fn children_come_from_both_ends(rt: HostRuntime) -> Result<(), Fail> {
+fn children_come_from_both_ends(rt: HostRuntime) {
     for (ends, wanted) in &TAKEN {
-        let said = taken(rt.alloc(), "Markup[ Text:ab Text:c Text:d ]", ends)?;
-        assert_text(&rt, ends, &said, wanted);
+        assert_said(
+            &rt,
+            ends,
+            taken(rt.alloc(), "Markup[ Text:ab Text:c Text:d ]", ends),
+            wanted,
+        );
     }
-    Ok(())
 }
 
 /// The words for a copy of the node at a path.
@@ -547,8 +548,11 @@ fn copied(alloc: Global, drawing: &str, path: &[usize]) -> Result<String, Drawin
 }
 
 #[test]
-fn a_clone_stands_where_its_node_does(rt: HostRuntime) -> Result<(), Fail> {
-    let said = copied(rt.alloc(), "Markup[ Text:ab Text:c ]", &[1])?;
-    assert_text(&rt, "a copy", &said, r#"[1] 2..3 Text: "c""#);
-    Ok(())
+fn a_clone_stands_where_its_node_does(rt: HostRuntime) {
+    assert_said(
+        &rt,
+        "a copy",
+        copied(rt.alloc(), "Markup[ Text:ab Text:c ]", &[1]),
+        r#"[1] 2..3 Text: "c""#,
+    );
 }

@@ -1,7 +1,6 @@
 //! Nodes that become errors or get other kinds.
-use crate::rows::assert_text;
+use crate::rows::assert_said;
 use std::alloc::Global;
-use std::test::Fail;
 use typst_base::SyntaxKind;
 use typst_drawn::{DrawingError, labels, numbered};
 use typst_node::SyntaxNode;
@@ -109,10 +108,8 @@ fn converting(alloc: Global, drawing: &str, all: &[To]) -> Result<String, Drawin
 }
 
 #[test]
-fn nodes_are_converted(rt: HostRuntime) -> Result<(), Fail> {
+fn nodes_are_converted(rt: HostRuntime) {
     for (shows, drawing, all, wanted) in &CONVERSIONS {
-        let said = converting(rt.alloc(), drawing, all)?;
-        assert_text(&rt, shows, &said, wanted);
+        assert_said(&rt, shows, converting(rt.alloc(), drawing, all), wanted);
     }
-    Ok(())
 }

@@ -1,5 +1,5 @@
 //! The errors and warnings of a tree.
-use crate::rows::{assert_row, assert_text};
+use crate::rows::{assert_row, assert_said, assert_text};
 use std::alloc::{AllocError, Global};
 use std::process::Abort;
 use std::test::Fail;
@@ -198,12 +198,10 @@ const HINTED: [(&str, &str); 2] = [
 ];
 
 #[test]
-fn several_hints_keep_their_order(rt: HostRuntime) -> Result<(), Fail> {
+fn several_hints_keep_their_order(rt: HostRuntime) {
     for (drawing, wanted) in &HINTED {
-        let said = with_two_hints(rt.alloc(), drawing)?;
-        assert_text(&rt, drawing, &said, wanted);
+        assert_said(&rt, drawing, with_two_hints(rt.alloc(), drawing), wanted);
     }
-    Ok(())
 }
 
 /// Asserts which parts fit within a text of two bytes.

@@ -1,5 +1,5 @@
 //! Numbering a tree.
-use crate::rows::{assert_row, assert_text};
+use crate::rows::{assert_row, assert_said};
 use std::alloc::Global;
 use std::ops::Range;
 use std::test::Fail;
@@ -136,12 +136,15 @@ fn numbering(
 }
 
 #[test]
-fn numbers_are_given_in_preorder(rt: HostRuntime) -> Result<(), Fail> {
+fn numbers_are_given_in_preorder(rt: HostRuntime) {
     for (shows, drawing, first, second, wanted) in &NUMBERINGS {
-        let said = numbering(rt.alloc(), drawing, first, second)?;
-        assert_text(&rt, shows, &said, wanted);
+        assert_said(
+            &rt,
+            shows,
+            numbering(rt.alloc(), drawing, first, second),
+            wanted,
+        );
     }
-    Ok(())
 }
 
 /// Whether all nodes of a tree of two levels are of a file.

@@ -1,5 +1,5 @@
 //! What is read from a node.
-use crate::rows::{assert_row, assert_text};
+use crate::rows::{assert_row, assert_said, assert_text};
 use std::alloc::Global;
 use std::test::Fail;
 use typst_base::SyntaxKind;
@@ -99,12 +99,10 @@ fn read(alloc: Global, drawing: &str) -> Result<String, DrawingError> {
 }
 
 #[test]
-fn nodes_are_read(rt: HostRuntime) -> Result<(), Fail> {
+fn nodes_are_read(rt: HostRuntime) {
     for (shows, drawing, wanted) in &READ {
-        let said = read(rt.alloc(), drawing)?;
-        assert_text(&rt, shows, &said, wanted);
+        assert_said(&rt, shows, read(rt.alloc(), drawing), wanted);
     }
-    Ok(())
 }
 
 #[test]

@@ -1,7 +1,7 @@
 //! Replacements, and the numbers after them.
 use crate::node::numbering::is_of;
 use crate::node::reading::diagnosed;
-use crate::rows::{assert_row, assert_text};
+use crate::rows::{assert_row, assert_said, assert_text};
 use std::alloc::{AllocError, Global};
 use std::ops::Range;
 use std::test::Fail;
@@ -336,12 +336,15 @@ const DETACHED: [(&str, Range<usize>, &str); 2] = [
 ];
 
 #[test]
-fn a_detached_tree_takes_no_replacement(rt: HostRuntime) -> Result<(), Fail> {
+fn a_detached_tree_takes_no_replacement(rt: HostRuntime) {
     for (drawing, range, wanted) in &DETACHED {
-        let said = edit_detached(rt.alloc(), drawing, range, "Text:z")?;
-        assert_text(&rt, drawing, &said, wanted);
+        assert_said(
+            &rt,
+            drawing,
+            edit_detached(rt.alloc(), drawing, range, "Text:z"),
+            wanted,
+        );
     }
-    Ok(())
 }
 
 /// A text that is numbered for another file.
@@ -366,15 +369,13 @@ fn inserted(alloc: Global) -> Result<String, DrawingError> {
 }
 
 #[test]
-fn a_replacement_is_numbered_for_the_trees_file(rt: HostRuntime) -> Result<(), Fail> {
-    let said = inserted(rt.alloc())?;
-    assert_text(
+fn a_replacement_is_numbered_for_the_trees_file(rt: HostRuntime) {
+    assert_said(
         &rt,
         "a text of another file",
-        &said,
+        inserted(rt.alloc()),
         "window 0..3 tried 2 <abxc> 3..14[4..5 5..6 6..7] 4/4(2 3 4)[2/1 1/1 1/1] true",
     );
-    Ok(())
 }
 
 /// What is shown, the path and the range of an edit, whether it fits, and whether it is made.
@@ -446,10 +447,8 @@ const DIAGNOSED: [(&str, &str); 4] = [
 ];
 
 #[test]
-fn a_replaced_error_leaves_the_warnings_above_it(rt: HostRuntime) -> Result<(), Fail> {
+fn a_replaced_error_leaves_the_warnings_above_it(rt: HostRuntime) {
     for (drawing, wanted) in &DIAGNOSED {
-        let said = diagnosed_around(rt.alloc(), drawing)?;
-        assert_text(&rt, drawing, &said, wanted);
+        assert_said(&rt, drawing, diagnosed_around(rt.alloc(), drawing), wanted);
     }
-    Ok(())
 }

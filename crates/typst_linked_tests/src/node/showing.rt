@@ -1,8 +1,8 @@
 //! Trees in one line. They also show that drawn trees, which the other tests use, are what their drawings say.
-use crate::rows::assert_text;
+use crate::rows::{assert_said, assert_text};
 use std::alloc::{AllocError, Global};
 use std::test::Fail;
-use typst_drawn::drawn;
+use typst_drawn::{DrawingError, drawn};
 
 /// What is shown, a drawing, and the tree's `Debug` text.
 type Row = (&'static str, &'static str, &'static str);
@@ -81,15 +81,23 @@ const SHOWN: [Row; 18] = [
     ),
 ];
 
+/// How a drawn tree is shown.
+fn shown(alloc: Global, drawing: &str) -> Result<String, DrawingError> {
+    let tree = drawn(alloc, drawing)?;
+    Ok(format!(in alloc; "{tree:?}")?)
+}
+
 #[test]
-fn trees_are_shown_in_one_line(rt: HostRuntime) -> Result<(), Fail> {
-    let alloc = rt.alloc();
+fn trees_are_shown_in_one_line(rt: HostRuntime) {
     for (shows, drawing, wanted) in &SHOWN {
-        let tree = drawn(alloc, drawing)?;
-        let shown = format!(in alloc; "{tree:?}")?;
-        assert_text(&rt, shows, &shown, wanted);
+        assert_said(&rt, shows, shown(rt.alloc(), drawing), wanted);
     }
-    Ok(())
+}
+
+/// How a drawn tree is shown in lines.
+fn shown_in_lines(alloc: Global, drawing: &str) -> Result<String, DrawingError> {
+    let tree = drawn(alloc, drawing)?;
+    Ok(format!(in alloc; "{tree:#?}")?)
 }
 
 /// How nodes are shown in lines.
@@ -104,14 +112,10 @@ const IN_LINES: [Row; 3] = [
 ];
 
 #[test]
-fn trees_are_shown_in_a_line_for_each_node(rt: HostRuntime) -> Result<(), Fail> {
-    let alloc = rt.alloc();
+fn trees_are_shown_in_a_line_for_each_node(rt: HostRuntime) {
     for (shows, drawing, wanted) in &IN_LINES {
-        let tree = drawn(alloc, drawing)?;
-        let shown = format!(in alloc; "{tree:#?}")?;
-        assert_text(&rt, shows, &shown, wanted);
+        assert_said(&rt, shows, shown_in_lines(rt.alloc(), drawing), wanted);
     }
-    Ok(())
 }
 
 /// Why a drawing is refused, or the tree that it shows.

@@ -1,7 +1,7 @@
 //! Spans that synthesis gives.
 use crate::node::diagnostics::listed;
 use crate::node::numbering::is_of;
-use crate::rows::{assert_row, assert_text};
+use crate::rows::{assert_row, assert_said, assert_text};
 use std::alloc::{AllocError, Global};
 use std::test::Fail;
 use typst_base::{FileId, RangeMapper, Span, SpanKind};
@@ -124,12 +124,10 @@ const MAPPED: [(&str, &str); 3] = [
 ];
 
 #[test]
-fn mapped_nodes_have_the_places_of_their_bytes(rt: HostRuntime) -> Result<(), Fail> {
+fn mapped_nodes_have_the_places_of_their_bytes(rt: HostRuntime) {
     for (drawing, wanted) in &MAPPED {
-        let said = mapped(rt.alloc(), drawing)?;
-        assert_text(&rt, drawing, &said, wanted);
+        assert_said(&rt, drawing, mapped(rt.alloc(), drawing), wanted);
     }
-    Ok(())
 }
 
 /// A node under a warning about its four bytes, after its text was replaced by one of one byte.
@@ -152,13 +150,11 @@ fn shortened_and_mapped(alloc: Global) -> Result<String, DrawingError> {
 }
 
 #[test]
-fn a_part_beyond_the_text_is_dropped(rt: HostRuntime) -> Result<(), Fail> {
-    let said = shortened_and_mapped(rt.alloc())?;
-    assert_text(
+fn a_part_beyond_the_text_is_dropped(rt: HostRuntime) {
+    assert_said(
         &rt,
         "a shorter text",
-        &said,
+        shortened_and_mapped(rt.alloc()),
         r#"14..100[36..37] Warning: {message @(0..4): "m", Strong: 1 [Text: "a"]}, then Ok(()) Warning: {message: "m", Strong: 1 [Text: "a"]}"#,
     );
-    Ok(())
 }
