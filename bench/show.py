@@ -39,7 +39,7 @@ TYPED = 16
 TEXT = "= A\n\nHäuser"
 MOST_BYTES = 1 << 26
 # A text whose page is weighed: a paragraph of 23 nodes so many times, and the most bytes that the page may have for each node.
-PARAGRAPH, PARAGRAPHS, PAGE_BYTES = "= Trees\n\nEach *strong part* is a node, and `raw` too.\n\n", 900, 190
+PARAGRAPH, PARAGRAPHS, PAGE_BYTES = "= Trees\n\nEach *strong part* is a node, and `raw` too.\n\n", 900, 170
 FORMS = '; an edit is written 7..12 "text" or 2:5..2:9 "text"'
 BOUND = "the most that can be shown"
 ENDS = "there is no tree at the end: put `root` after the line that makes the last node"

@@ -121,7 +121,8 @@ def nodes_of(root, answers=None):
     for index, (path, node) in enumerate(root.preorder()):
         indices[path] = index
         told = f"{node.kind} {node.start}..{node.end} #{node.number}  {shown.beginning(node.characters(), NODE_CHARS)}"
-        place = f"at {'.'.join(map(str, path)) or '-'}, bound {node.upper}"
+        bound = f", bound {node.upper}" if node.children is not None else ""
+        place = f"at {'.'.join(map(str, path)) or '-'}{bound}"
         items = [place, *map(signed, answers.get(path, []))] if answers is not None else [place]
         classes = ["bad"] * (node.kind == "Error") + ["new"] * node.is_new
         found.append((indices[path[:-1]] if path else None, node.children is not None, classes, told, items))

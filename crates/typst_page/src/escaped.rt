@@ -21,6 +21,18 @@ fn is_plain(text: &[u8]) -> bool {
     is_plain
 }
 
+/// Whether `{:?}` and a page show a text of these bytes as it is: printable characters of ASCII without quotes,
+/// backslashes and what a page changes. The loop has no way out, so it is fast.
+pub(crate) fn is_simple(text: &[u8]) -> bool {
+    let mut is_simple = true;
+    for byte in text {
+        let byte = *byte;
+        let is_printed = (byte >= b' ') & (byte < 127) & (byte != b'"') & (byte != b'\\');
+        is_simple = is_simple & is_printed & begins_plain(byte);
+    }
+    is_simple
+}
+
 /// Whether a character with this byte first stands in a page as it is. Control characters begin with a byte below 32,
 /// with 127 or with 194.
 fn begins_plain(byte: u8) -> bool {

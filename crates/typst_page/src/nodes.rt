@@ -3,7 +3,7 @@
 //! A node has no attributes from which the script could tell where it belongs. The children of an inner node are in an
 //! element after it, and the leaves come in the order of their texts.
 
-use crate::escaped::push_escaped;
+use crate::escaped::{is_simple, push_escaped};
 use itoa::{Buffer, Integer};
 use std::alloc::{AllocError, Global};
 use typst_answers::views::of_node;
@@ -53,10 +53,8 @@ pub(crate) fn push_nodes(
         end_children(out, row.depth, above.len())?;
         above.truncate(row.depth);
         push_summary(out, row, report.is_some_and(|report| report.is_new(row)))?;
-        quoted.clear();
         let own = shown.text.get(row.start..row.end).unwrap_or("");
-        push_beginning(&mut quoted, own, SHOWN_CHARS)?;
-        push_escaped(out, &quoted)?;
+        push_quoted(out, &mut quoted, own)?;
         push_place(out, above.last(), row)?;
         answers.clear();
         of_node(&mut answers, node?.get());
@@ -97,12 +95,28 @@ fn push_summary(out: &mut String, row: &Row, is_new: bool) -> Result<(), AllocEr
     out.push_str("</i>  ")
 }
 
-/// Ends what a reader sees of a node before it is opened, and adds its path and its bound.
+/// Adds the beginning of a node's text in quotes. Most texts stand in quotes and in a page as they are, so they need no
+/// text of their own, whose room is given.
+fn push_quoted(out: &mut String, quoted: &mut String, own: &str) -> Result<(), AllocError> {
+    if own.len() <= SHOWN_CHARS && is_simple(own.as_bytes()) {
+        out.push_str("\"")?;
+        out.push_str(own)?;
+        return out.push_str("\"");
+    }
+    quoted.clear();
+    push_beginning(quoted, own, SHOWN_CHARS)?;
+    push_escaped(out, quoted)
+}
+
+/// Ends what a reader sees of a node before it is opened, and adds its path. An inner node has a bound, too; that of a
+/// leaf is the number after its own.
 fn push_place(out: &mut String, above: Option<&String>, row: &Row) -> Result<(), AllocError> {
     out.push_str("</summary>at ")?;
     push_path(out, above, row.index)?;
-    out.push_str(", bound ")?;
-    push_number(out, row.bound)?;
+    if row.is_inner {
+        out.push_str(", bound ")?;
+        push_number(out, row.bound)?;
+    }
     out.push_str("\n")
 }
 
