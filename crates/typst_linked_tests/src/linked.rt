@@ -3,4 +3,5 @@
 mod asking;
 mod cursors;
 mod finds;
+mod neighbours;
 mod walks;
