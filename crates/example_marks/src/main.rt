@@ -17,6 +17,21 @@ use typst_tree::{FileId, LinkedNode, SyntaxKind};
 /// Three headings, each with a paragraph.
 const TEXT: &str = "= Intro\n\nFirst words.\n\n= Middle\n\nSecond words.\n\n= End\n\nLast words.\n";
 
+/// The bytes that go with each edit, and the text that comes.
+const EDITS: [(Range<usize>, &str); 6] = [
+    // A paragraph comes before the first heading.
+    (0..0, "A word before.\n\n"),
+    // The first heading gets a letter at its end.
+    (23..23, "s"),
+    // The second heading goes.
+    (40..50, ""),
+    // A paragraph becomes a heading, which nobody keeps.
+    (40..40, "= "),
+    // A raw text begins, and hides what comes after it until it ends.
+    (38..38, " `"),
+    (40..40, "x`"),
+];
+
 /// A heading that is kept: the text that it had at first, and its mark, or `None` once the heading is gone.
 #[derive(Drop)]
 struct Bookmark {
@@ -81,25 +96,17 @@ fn edit(
     show(rt, document, bookmarks)
 }
 
+/// Makes all edits.
+fn edit_all(rt: &HostRuntime, document: &mut Document, bookmarks: &mut [Bookmark]) -> Result<()> {
+    for (range, with) in &EDITS {
+        edit(rt, document, bookmarks, range.start..range.end, with)?;
+    }
+    Ok(())
+}
+
 fn main(rt: HostRuntime) -> Result<()> {
     let mut document = Document::new(rt.alloc(), FileId::FIRST, TEXT)?;
     let mut bookmarks = headings(rt.alloc(), &document)?;
     show(&rt, &document, &bookmarks)?;
-    // A paragraph comes before the first heading.
-    edit(
-        &rt,
-        &mut document,
-        &mut bookmarks,
-        0..0,
-        "A word before.\n\n",
-    )?;
-    // The first heading gets a letter at its end.
-    edit(&rt, &mut document, &mut bookmarks, 23..23, "s")?;
-    // The second heading goes.
-    edit(&rt, &mut document, &mut bookmarks, 40..50, "")?;
-    // A paragraph becomes a heading, which nobody keeps.
-    edit(&rt, &mut document, &mut bookmarks, 40..40, "= ")?;
-    // A raw text begins, and hides what comes after it until it ends.
-    edit(&rt, &mut document, &mut bookmarks, 38..38, " `")?;
-    edit(&rt, &mut document, &mut bookmarks, 40..40, "x`")
+    edit_all(&rt, &mut document, &mut bookmarks)
 }
