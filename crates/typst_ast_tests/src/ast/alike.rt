@@ -1,16 +1,21 @@
 //! Which views read alike.
 use crate::rows::assert_all;
-use crate::trees::cast;
 use std::process::Abort;
 use std::test::Fail;
 use typst_ast::{is_alike, views as of};
 use typst_drawn::{drawn, drawn_all, numbered};
 use typst_node::{AstNode, SyntaxNode};
 
+/// The view of strong content.
+fn strong<'a>(node: &'a SyntaxNode) -> Option<of::Strong<'a>> {
+    node.cast()
+}
+
 /// How the views of an edited tree and those of a tree that was built anew compare.
 fn compare_edited(rt: &impl Abort, edited: &SyntaxNode, anew: &SyntaxNode) -> Result<(), Fail> {
-    let view = cast::<of::Strong>(edited)?;
-    let other = cast::<of::Strong>(anew)?;
+    let (Some(view), Some(other)) = (strong(edited), strong(anew)) else {
+        return Err("no views")?;
+    };
     let rows = [
         ("the views", is_alike(view, other)),
         ("their parts", is_alike(view.body(), other.body())),
@@ -37,11 +42,16 @@ fn compare(rt: &impl Abort, nodes: &[SyntaxNode]) -> Result<(), Fail> {
     let [a, again, b, hollow, hollow_again] = nodes else {
         return Err("no nodes")?;
     };
-    let view = cast::<of::Strong>(a)?;
-    let equal = cast::<of::Strong>(again)?;
-    let other = cast::<of::Strong>(b)?;
-    let hollow = cast::<of::Strong>(hollow)?;
-    let hollow_again = cast::<of::Strong>(hollow_again)?;
+    let views = (
+        strong(a),
+        strong(again),
+        strong(b),
+        strong(hollow),
+        strong(hollow_again),
+    );
+    let (Some(view), Some(equal), Some(other), Some(hollow), Some(hollow_again)) = views else {
+        return Err("no views")?;
+    };
     let blank = of::Strong::placeholder();
     let rows = [
         ("another text is not alike", !is_alike(view, other)),

@@ -19,14 +19,19 @@ const GROUP: &str =
     "Parenthesized[ LeftParen:( Destructuring[ LeftParen:( Ident:a Comma:, Named[ Ident:b Colon:: Ident:c ] \
     Comma:, Spread[ Dots:.. Ident:d ] RightParen:) ] RightParen:) ]";
 
-/// The names as one text, a comma after each; `-` for a placeholder.
+/// The name; `-` for a placeholder.
+fn worded<'a>(name: of::Ident<'a>) -> &'a str {
+    match name.to_untyped() {
+        Some(_) => name.get(),
+        None => "-",
+    }
+}
+
+/// The names as one text, a comma after each.
 fn joined(alloc: Global, names: &[of::Ident]) -> Result<String, AllocError> {
     let mut all = String::new(alloc);
     for name in names {
-        all.push_str(match name.to_untyped() {
-            Some(_) => name.get(),
-            None => "-",
-        })?;
+        all.push_str(worded(*name))?;
         all.push(',')?;
     }
     Ok(all)
@@ -121,20 +126,29 @@ fn renumbered(slots: &[Slot]) -> Option<(usize, usize, usize)> {
     }
 }
 
+/// A run that puts `z` in place of the first name in parentheses.
+fn run_of_one(alloc: Global) -> Result<Vec<Slot>, DrawingError> {
+    let request = Request::Replace {
+        path: vec![in alloc; 1]?,
+        range: 1..2,
+        replacement: drawn_all(alloc, "Ident:z")?,
+    };
+    Ok(vec![in alloc; Slot::Ask(request)]?)
+}
+
+/// The names that a tree binds when it is viewed as a let binding of the facade.
+fn bound_in_facade(alloc: Global, tree: &SyntaxNode) -> Result<String, AllocError> {
+    let names = view::<ast::LetBinding>(Some(tree)).kind().bindings(alloc)?;
+    joined(alloc, &names)
+}
+
 #[test]
 fn a_run_of_edits_changes_what_a_binding_binds(rt: HostRuntime) -> Result<(), Fail> {
+    let mut slots = run_of_one(rt.alloc())?;
     let mut tree = numbered(rt.alloc(), BINDING, 2..1 << 47)?;
-    let request = Request::Replace {
-        path: vec![in rt.alloc(); 1]?,
-        range: 1..2,
-        replacement: drawn_all(rt.alloc(), "Ident:z")?,
-    };
-    let mut slots = vec![in rt.alloc(); Slot::Ask(request)]?;
     session::run(rt.alloc(), &mut tree, &mut slots);
     assert_eq!(rt; renumbered(&slots), Some((1, 2, 1)));
-    let names = view::<ast::LetBinding>(Some(&tree))
-        .kind()
-        .bindings(rt.alloc())?;
-    assert_eq!(rt; joined(rt.alloc(), &names)?.as_str(), "z,c,d,");
+    let said = bound_in_facade(rt.alloc(), &tree)?;
+    assert_eq!(rt; said.as_str(), "z,c,d,");
     Ok(())
 }

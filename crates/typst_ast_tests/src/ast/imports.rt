@@ -128,15 +128,11 @@ const NAMED: [Row; 9] = [
     ),
 ];
 
-/// The name that a drawn import brings in.
-fn named_by(
-    alloc: Global,
-    drawing: &str,
-    fits: bool,
-    package: Called,
-) -> Result<String, DrawingError> {
+/// The name that a row's import brings in.
+fn named_by(alloc: Global, row: &Row) -> Result<String, DrawingError> {
+    let (_, drawing, fits, package, _) = row;
     let tree = drawn(alloc, drawing)?;
-    match named(alloc, view(Some(&tree)), fits, package) {
+    match named(alloc, view(Some(&tree)), *fits, *package) {
         Ok(name) => Ok(name),
         Err(_) => Ok(String::from_str(alloc, "memory was refused")?),
     }
@@ -144,9 +140,9 @@ fn named_by(
 
 #[test]
 fn a_source_names_its_module(rt: HostRuntime) -> Result<(), Fail> {
-    for (shows, drawing, fits, package, wanted) in &NAMED {
-        let said = named_by(rt.alloc(), drawing, *fits, *package)?;
-        assert_text(&rt, shows, &said, wanted);
+    for row in &NAMED {
+        let said = named_by(rt.alloc(), row)?;
+        assert_text(&rt, row.0, &said, row.4);
     }
     Ok(())
 }

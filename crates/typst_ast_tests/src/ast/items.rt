@@ -11,17 +11,22 @@ use typst_base::SyntaxKind;
 use typst_drawn::{DrawingError, drawn, drawn_all};
 use typst_node::{AstNode, SyntaxNode};
 
-#[test]
-fn not_in_is_one_operator(rt: HostRuntime) -> Result<(), Fail> {
-    let tree = drawn(rt.alloc(), "Binary[ Ident:a Not:not In:in Ident:b ]")?;
-    let view = view::<of::Binary>(Some(&tree));
+/// Asserts what `a not in b` is viewed as.
+fn assert_not_in(rt: &impl Abort, view: of::Binary) {
+    let op = view.op();
     let rows = [
-        ("the operator", view.op() == BinOp::NotIn),
-        ("its precedence", view.op().precedence() == 4),
+        ("the operator", op == BinOp::NotIn),
+        ("its precedence", op.precedence() == 4),
         ("before it", text(view.lhs()) == "a"),
         ("after it", text(view.rhs()) == "b"),
     ];
-    assert_all(&rt, &rows);
+    assert_all(rt, &rows);
+}
+
+#[test]
+fn not_in_is_one_operator(rt: HostRuntime) -> Result<(), Fail> {
+    let tree = drawn(rt.alloc(), "Binary[ Ident:a Not:not In:in Ident:b ]")?;
+    assert_not_in(&rt, view(Some(&tree)));
     Ok(())
 }
 

@@ -4,10 +4,9 @@ use crate::trees::{shown, view};
 use std::alloc::{AllocError, Global};
 use std::fmt::Debug;
 use std::test::Fail;
-use typst_ast::views as of;
+use typst_ast::{MathArg, views as of};
 use typst_base::SyntaxKind;
-use typst_drawn::{DrawingError, drawn};
-use typst_node::{AstNode, SyntaxNode};
+use typst_drawn::{DrawingError, drawn, drawn_all};
 
 /// A space, a binding, two spaces and a text.
 const SPACED: &str = "Markup[ Space:~ LetBinding[ Let:let ] Space:~~ Text:a ]";
@@ -113,13 +112,17 @@ fn lists_are_read_from_both_ends(rt: HostRuntime) -> Result<(), Fail> {
     Ok(())
 }
 
+/// An argument in a call in math, and whether it ends in a semicolon.
+fn argument(alloc: Global, it: MathArg) -> Result<String, AllocError> {
+    let (arg, ends) = (it.arg, it.ends_in_semicolon);
+    format!(in alloc; "{arg:?} {ends} ")
+}
+
 /// The arguments in a call in math, and whether each ends in a semicolon.
-fn arguments(alloc: Global, tree: &SyntaxNode) -> Result<String, AllocError> {
+fn arguments(alloc: Global, call: of::MathArgs) -> Result<String, AllocError> {
     let mut said = String::new(alloc);
-    for it in view::<of::MathArgs>(Some(tree)).arg_items() {
-        let arg = it.arg;
-        let ends = it.ends_in_semicolon;
-        said.push_str(format!(in alloc; "{arg:?} {ends} ")?.as_str())?;
+    for it in call.arg_items() {
+        said.push_str(argument(alloc, it)?.as_str())?;
     }
     Ok(said)
 }
@@ -127,7 +130,7 @@ fn arguments(alloc: Global, tree: &SyntaxNode) -> Result<String, AllocError> {
 #[test]
 fn an_argument_may_end_in_a_semicolon(rt: HostRuntime) -> Result<(), Fail> {
     let tree = drawn(rt.alloc(), ARGUMENTS)?;
-    let said = arguments(rt.alloc(), &tree)?;
+    let said = arguments(rt.alloc(), view(Some(&tree)))?;
     assert_eq!(rt;
         said.as_str(),
         r#"Pos(Ident(Ident: "x")) false Pos(MathText(MathText: "y")) true "#
@@ -186,6 +189,10 @@ fn shown_ahead(
     format!(in alloc; "{exprs:?}\n{items:?}\n{args:?}")
 }
 
+/// Markup and the arguments of a call in math.
+const BOTH: &str =
+    "Markup[ LetBinding[ Let:let ] Space:~ Text:a ] MathArgs[ LeftParen:( Hash:# Ident:x RightParen:) ]";
+
 /// Three lists after one step each, one entry a line.
 const AHEAD: &str =
     r##"Exprs { nodes: KeptNodes { rest: [Space: " ", Text: "a"], drops: true, behind_stmt: true } }
@@ -194,10 +201,8 @@ MathArgList { nodes: MathItems { rest: [RightParen: ")"], behind_hash: true } }"
 
 #[test]
 fn lists_show_the_nodes_ahead(rt: HostRuntime) -> Result<(), Fail> {
-    let alloc = rt.alloc();
-    let markup = drawn(alloc, "Markup[ LetBinding[ Let:let ] Space:~ Text:a ]")?;
-    let arguments = drawn(alloc, "MathArgs[ LeftParen:( Hash:# Ident:x RightParen:) ]")?;
-    let said = shown_ahead(alloc, view(Some(&markup)), view(Some(&arguments)))?;
+    let nodes = drawn_all(rt.alloc(), BOTH)?;
+    let said = shown_ahead(rt.alloc(), view(nodes.first()), view(nodes.get(1)))?;
     assert_eq!(rt; said.as_str(), AHEAD);
     Ok(())
 }

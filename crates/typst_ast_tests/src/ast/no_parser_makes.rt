@@ -2,6 +2,7 @@
 use crate::rows::{assert_row, assert_text, assert_told};
 use crate::trees::{is_missing, view};
 use std::alloc::{AllocError, Global};
+use std::process::Abort;
 use std::test::Fail;
 use typst_ast::{Expr, views as of};
 use typst_atoms::{ImportItem, views as atoms};
@@ -59,24 +60,36 @@ fn told(expr: Expr) -> (bool, bool) {
     (expr.is_literal(), expr.hash())
 }
 
+/// What is wanted of the expression of a kind: whether it is a literal, and whether it may come after a hash.
+fn wanted(kind: SyntaxKind) -> (bool, bool) {
+    let is_literal = LITERALS.contains(&kind);
+    (is_literal, is_literal || AFTER_HASH.contains(&kind))
+}
+
+/// Asserts how the node of a kind without children is told, and says whether it is an expression.
+fn assert_kind(rt: &impl Abort, alloc: Global, kind: SyntaxKind) -> Result<bool, Fail> {
+    if kind.is_error() {
+        return Ok(false);
+    }
+    let node = hollow(alloc, kind)?;
+    let wanted = wanted(kind);
+    if !node.is::<Expr>() {
+        assert_row(rt, kind.name(), !wanted.1);
+        return Ok(false);
+    }
+    let expr: Expr = view(Some(&node));
+    assert_row(rt, kind.name(), is_named(alloc, expr, kind)?);
+    assert_told(rt, kind.to_u8(), told(expr), wanted);
+    Ok(true)
+}
+
 #[test]
 fn expressions_without_children_are_told_by_their_kinds(rt: HostRuntime) -> Result<(), Fail> {
     let mut count = 0usize;
     for raw in 0..137u8 {
         let kind = SyntaxKind::from_u8(raw).ok_or("no kind")?;
-        if kind.is_error() {
-            continue;
-        }
-        let node = hollow(rt.alloc(), kind)?;
-        let is_literal = LITERALS.contains(&kind);
-        let after_hash = is_literal || AFTER_HASH.contains(&kind);
-        if node.is::<Expr>() {
-            let expr: Expr = view(Some(&node));
-            assert_row(&rt, kind.name(), is_named(rt.alloc(), expr, kind)?);
-            assert_told(&rt, raw, told(expr), (is_literal, after_hash));
+        if assert_kind(&rt, rt.alloc(), kind)? {
             count = count.saturating_add(1);
-        } else {
-            assert_row(&rt, kind.name(), !after_hash);
         }
     }
     assert_eq!(rt; count, EXPRESSIONS);

@@ -11,17 +11,29 @@ use typst_node::AstNode;
 const DOCUMENT: &str =
     "Markup[ Heading[ HeadingMarker:= Markup[ Text:Hi ] ] Space:~ Strong[ Markup[ Text:there ] ] ]";
 
+/// The body of a heading or of strong content, else a placeholder.
+fn body<'a>(expr: Expr<'a>) -> Markup<'a> {
+    match expr {
+        Expr::Heading(heading) => heading.body(),
+        Expr::Strong(strong) => strong.body(),
+        _ => Markup::placeholder(),
+    }
+}
+
+/// The text that markup begins with.
+fn first_text<'a>(markup: Markup<'a>) -> Option<&'a str> {
+    match markup.exprs().next() {
+        Some(Expr::Text(text)) => Some(text.get()),
+        _ => None,
+    }
+}
+
 /// The texts of headings and of strong content, each on a line.
 fn texts(alloc: Global, markup: Markup) -> Result<String, AllocError> {
     let mut found = String::new(alloc);
     for expr in markup.exprs() {
-        let body = match expr {
-            Expr::Heading(heading) => heading.body(),
-            Expr::Strong(strong) => strong.body(),
-            _ => Markup::placeholder(),
-        };
-        if let Some(Expr::Text(text)) = body.exprs().next() {
-            found.push_str(text.get())?;
+        if let Some(text) = first_text(body(expr)) {
+            found.push_str(text)?;
             found.push('\n')?;
         }
     }

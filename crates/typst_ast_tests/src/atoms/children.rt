@@ -1,7 +1,7 @@
 //! The children that views pick.
 use crate::rows::{assert_all, assert_texts};
 use crate::trees::got;
-use std::alloc::AllocError;
+use std::alloc::{AllocError, Global};
 use std::test::Fail;
 use typst_atoms::nodes::{behind, children, first_of_kind, leaf_text};
 use typst_atoms::{KeptNodes, MathItems, cast_all, views as of};
@@ -118,38 +118,26 @@ fn lists_hint_at_most_the_nodes_ahead(rt: HostRuntime) -> Result<(), Fail> {
     Ok(())
 }
 
-#[test]
-fn lists_show_the_nodes_ahead(rt: HostRuntime) -> Result<(), Fail> {
-    let alloc = rt.alloc();
-    let pair = drawn(alloc, PAIR)?;
-    let mut views = pair.cast_all::<of::Ident>();
-    let mut nodes = KeptNodes::of_markup(Some(&pair));
-    let mut items = MathItems::new(Some(&pair));
+/// How the lists of views, of kept nodes and of items in math are shown after one step each.
+fn shown_ahead(alloc: Global, node: &SyntaxNode) -> Result<String, AllocError> {
+    let mut views = node.cast_all::<of::Ident>();
+    let mut nodes = KeptNodes::of_markup(Some(node));
+    let mut items = MathItems::new(Some(node));
     let _view = views.next();
     let _node = nodes.next_back();
     let _item = items.next();
-    let [views, nodes, items] = [
-        format!(in alloc; "{views:?}")?,
-        format!(in alloc; "{nodes:?}")?,
-        format!(in alloc; "{items:?}")?,
-    ];
-    let rows = [
-        (
-            "views",
-            views.as_str(),
-            r#"Items([Colon: ":", Space: " ", Ident: "b"])"#,
-        ),
-        (
-            "nodes",
-            nodes.as_str(),
-            r#"KeptNodes { rest: [Ident: "a", Colon: ":", Space: " "], drops: true, behind_stmt: false }"#,
-        ),
-        (
-            "items",
-            items.as_str(),
-            r#"MathItems { rest: [Colon: ":", Space: " ", Ident: "b"], behind_hash: false }"#,
-        ),
-    ];
-    assert_texts(&rt, &rows);
+    format!(in alloc; "{views:?}\n{nodes:?}\n{items:?}")
+}
+
+/// The three lists, one a line.
+const AHEAD: &str = r#"Items([Colon: ":", Space: " ", Ident: "b"])
+KeptNodes { rest: [Ident: "a", Colon: ":", Space: " "], drops: true, behind_stmt: false }
+MathItems { rest: [Colon: ":", Space: " ", Ident: "b"], behind_hash: false }"#;
+
+#[test]
+fn lists_show_the_nodes_ahead(rt: HostRuntime) -> Result<(), Fail> {
+    let pair = drawn(rt.alloc(), PAIR)?;
+    let said = shown_ahead(rt.alloc(), &pair)?;
+    assert_eq!(rt; said.as_str(), AHEAD);
     Ok(())
 }

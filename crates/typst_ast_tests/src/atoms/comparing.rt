@@ -1,6 +1,6 @@
 //! Equality, hashes and texts of views.
 use crate::rows::assert_all;
-use crate::trees::cast;
+use crate::trees::shown;
 use std::hash::{DefaultHasher, Hash, Hasher};
 use std::process::Abort;
 use std::test::Fail;
@@ -37,6 +37,11 @@ fn placeholders_of_one_type_are_equal(rt: HostRuntime) {
     assert_all(&rt, &rows);
 }
 
+/// The view of an identifier.
+fn ident<'a>(node: &'a SyntaxNode) -> Option<of::Ident<'a>> {
+    node.cast()
+}
+
 /// How the views of the identifiers `it`, `it`, `at`, an empty one and a numbered `it` compare.
 fn compare_idents(
     rt: &impl Abort,
@@ -46,11 +51,16 @@ fn compare_idents(
     let [one, same, other, empty] = nodes else {
         return Err("no nodes")?;
     };
-    let view = cast::<of::Ident>(one)?;
-    let equal = cast::<of::Ident>(same)?;
-    let other = cast::<of::Ident>(other)?;
-    let empty = cast::<of::Ident>(empty)?;
-    let numbered = cast::<of::Ident>(numbered)?;
+    let views = (
+        ident(one),
+        ident(same),
+        ident(other),
+        ident(empty),
+        ident(numbered),
+    );
+    let (Some(view), Some(equal), Some(other), Some(empty), Some(numbered)) = views else {
+        return Err("no views")?;
+    };
     let blank = of::Ident::placeholder();
     let rows = [
         ("equal nodes", view == equal),
@@ -73,14 +83,20 @@ fn views_are_equal_by_their_nodes(rt: HostRuntime) -> Result<(), Fail> {
     compare_idents(&rt, &nodes, &numbered)
 }
 
+/// The view of an access.
+fn access<'a>(node: &'a SyntaxNode) -> Option<MathAccess<'a>> {
+    node.cast()
+}
+
 /// How views of several kinds compare: of the identifiers `pi` and `pi`, and of a field `pi`.
 fn compare_accesses(rt: &impl Abort, nodes: &[SyntaxNode]) -> Result<(), Fail> {
     let [one, same, field] = nodes else {
         return Err("no nodes")?;
     };
-    let view = cast::<MathAccess>(one)?;
-    let equal = cast::<MathAccess>(same)?;
-    let field = cast::<MathAccess>(field)?;
+    let views = (access(one), access(same), access(field));
+    let (Some(view), Some(equal), Some(field)) = views else {
+        return Err("no views")?;
+    };
     let rows = [
         ("equal nodes", view == equal),
         ("their hashes", hash_of(&view) == hash_of(&equal)),
@@ -99,8 +115,7 @@ fn views_of_several_kinds_compare_by_kind_and_node(rt: HostRuntime) -> Result<()
 #[test]
 fn a_view_shows_its_node(rt: HostRuntime) -> Result<(), Fail> {
     let node = drawn(rt.alloc(), "Ident:it")?;
-    let view = cast::<of::Ident>(&node)?;
-    let shown = format!(in rt.alloc(); "{view:?}")?;
-    assert!(rt; shown.as_str().contains("Ident: \"it\""));
+    let said = shown(rt.alloc(), ident(&node))?;
+    assert!(rt; said.as_str().contains("Ident: \"it\""));
     Ok(())
 }
