@@ -46,14 +46,19 @@ pub(crate) fn request(alloc: Global, ask: &Ask) -> Result<Option<Request>, Drawi
     })
 }
 
+/// The slot of an ask.
+fn slot(alloc: Global, ask: &Ask) -> Result<Slot, DrawingError> {
+    Ok(match request(alloc, ask)? {
+        Some(request) => Slot::Ask(request),
+        None => Slot::Told(Reply::NoMemory),
+    })
+}
+
 /// The slots of what is asked.
 pub(crate) fn slots(alloc: Global, asks: &[Ask]) -> Result<Vec<Slot>, DrawingError> {
     let mut slots = Vec::new(alloc);
     for ask in asks {
-        slots.push(match request(alloc, ask)? {
-            Some(request) => Slot::Ask(request),
-            None => Slot::Told(Reply::NoMemory),
-        })?;
+        slots.push(slot(alloc, ask)?)?;
     }
     Ok(slots)
 }

@@ -105,17 +105,22 @@ fn answer(
 /// The words for what an edit answers.
 fn said(alloc: Global, edit: &Edit, tree: &mut NumberedTree) -> Result<String, DrawingError> {
     Ok(match answer(alloc, tree, edit)? {
-        Ok(Renumbered { window, tried }) => format!(in alloc; "window {window:?} tried {tried}")?,
-        Err(error) => format!(in alloc; "{error}")?,
-    })
+        Ok(Renumbered { window, tried }) => format!(in alloc; "window {window:?} tried {tried}"),
+        Err(error) => format!(in alloc; "{error}"),
+    }?)
+}
+
+/// The words for what an edit answers, and the tree after it.
+fn edited(alloc: Global, edit: &Edit) -> Result<(String, NumberedTree), DrawingError> {
+    let mut tree = kept(alloc, TREE, 2..30)?;
+    Ok((said(alloc, edit, &mut tree)?, tree))
 }
 
 #[test]
 fn an_edit_is_done_or_says_why_not(rt: HostRuntime) -> Result<(), Fail> {
     let alloc = rt.alloc();
     for row in &ROWS {
-        let mut tree = kept(alloc, TREE, 2..30)?;
-        let answer = said(alloc, &row.edit, &mut tree)?;
+        let (answer, tree) = edited(alloc, &row.edit)?;
         assert_text(&rt, row.shows, "answer", &answer, row.answer);
         let text = tree.root().full_text(alloc)?;
         assert_text(&rt, row.shows, "text", &text, row.text);

@@ -1,7 +1,7 @@
 //! Trees that are kept numbered, and the nodes that come back.
 use crate::rows::assert_all;
 use crate::tree::asking::{kept, said, span_of};
-use std::alloc::Global;
+use std::alloc::{AllocError, Global};
 use std::ops::Range;
 use std::test::Fail;
 use typst_drawn::{DrawingError, drawn, labels, numbered};
@@ -42,25 +42,29 @@ fn a_tree_is_numbered_or_comes_back_as_it_was(rt: HostRuntime) -> Result<(), Fai
     Ok(())
 }
 
+/// Whether a tree is taken as numbered, and whether it is then or comes back as it was.
+fn take(root: SyntaxNode) -> Result<(bool, bool), AllocError> {
+    let same = root.clone()?;
+    Ok(match NumberedTree::from_numbered(root) {
+        Ok(tree) => (true, *tree.root() == same),
+        Err(error) => (false, error.tree == same),
+    })
+}
+
 #[test]
 fn only_a_numbered_tree_is_taken_as_one(rt: HostRuntime) -> Result<(), Fail> {
-    let alloc = rt.alloc();
-    let free = drawn(alloc, TWO)?;
-    let same = free.clone()?;
-    assert!(rt; NumberedTree::from_numbered(free).is_err_and(|error| error.tree == same));
-    let root = numbered(alloc, TWO, 2..14)?;
-    let same = root.clone()?;
-    assert!(rt; NumberedTree::from_numbered(root).is_ok_and(|tree| *tree.root() == same));
+    assert_eq!(rt; take(drawn(rt.alloc(), TWO)?)?, (false, true));
+    assert_eq!(rt; take(numbered(rt.alloc(), TWO, 2..14)?)?, (true, true));
     Ok(())
 }
 
 /// The labels of a tree after it is numbered anew within a range for file 7.
 fn renumber(alloc: Global, within: Range<u64>) -> Result<String, DrawingError> {
-    let mut tree = kept(alloc, TWO, 2..14)?;
     let file = FileId::new(7).ok_or(DrawingError::Numbers)?;
     if within.start < 2 || within.end > 1 << 47 {
         return Err(DrawingError::Numbers);
     }
+    let mut tree = kept(alloc, TWO, 2..14)?;
     let answer = match tree.renumber(file, within) {
         Ok(()) => "done",
         Err(_) => "refused",
@@ -82,18 +86,29 @@ fn a_refused_renumbering_keeps_the_old_one(rt: HostRuntime) -> Result<(), Fail> 
     Ok(())
 }
 
-/// The words for where a span is found.
-fn find(alloc: Global, span: Span) -> Result<String, DrawingError> {
+/// The span of a number, or a detached one.
+fn span_at(number: Option<u64>) -> Result<Span, DrawingError> {
+    match number {
+        Some(number) => span_of(number),
+        None => Ok(Span::detached()),
+    }
+}
+
+/// The words for where the span of a number, or a detached one, is found.
+fn find(alloc: Global, number: Option<u64>) -> Result<String, DrawingError> {
+    let span = span_at(number)?;
     let tree = kept(alloc, TWO, 2..14)?;
     Ok(said(alloc, Some(&tree.find(alloc, span)))?)
 }
 
+/// Numbers, and where their spans are found.
+const FOUND: [(Option<u64>, &str); 3] = [(Some(7), "[1] at 2"), (Some(6), "none"), (None, "none")];
+
 #[test]
 fn a_span_is_found_where_its_node_is(rt: HostRuntime) -> Result<(), Fail> {
-    let alloc = rt.alloc();
-    assert_eq!(rt; find(alloc, span_of(7)?)?.as_str(), "[1] at 2");
-    assert_eq!(rt; find(alloc, span_of(6)?)?.as_str(), "none");
-    assert_eq!(rt; find(alloc, Span::detached())?.as_str(), "none");
+    for (number, wanted) in &FOUND {
+        assert_eq!(rt; find(rt.alloc(), *number)?.as_str(), *wanted);
+    }
     Ok(())
 }
 

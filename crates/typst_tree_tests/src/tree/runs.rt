@@ -3,10 +3,11 @@ use crate::rows::assert_text;
 use crate::tree::asking::{Ask, all_said, kept, request, slots};
 use std::alloc::{AllocError, Global};
 use std::ops::Range;
+use std::process::Abort;
 use std::test::Fail;
 use typst_drawn::{DrawingError, labels, numbered, sizes};
-use typst_tree::SyntaxNode;
 use typst_tree::session::{self, Reply, Slot};
+use typst_tree::{NumberedTree, SyntaxNode};
 
 /// A run and its result.
 struct Row {
@@ -86,13 +87,19 @@ const RUNS: [Row; 4] = [
     },
 ];
 
-/// The words for replies and the tree after them.
-fn outcome(alloc: Global, slots: &[Slot], tree: &SyntaxNode) -> Result<String, AllocError> {
-    let replies = all_said(alloc, slots)?;
+/// The words for a tree.
+fn shown(alloc: Global, tree: &SyntaxNode) -> Result<String, AllocError> {
     let text = tree.full_text(alloc)?;
     let labels = labels(alloc, tree)?;
     let sizes = sizes(alloc, tree)?;
-    format!(in alloc; "{replies}<{text}> {labels} {sizes}")
+    format!(in alloc; "<{text}> {labels} {sizes}")
+}
+
+/// The words for replies and the tree after them.
+fn outcome(alloc: Global, slots: &[Slot], tree: &SyntaxNode) -> Result<String, AllocError> {
+    let replies = all_said(alloc, slots)?;
+    let after = shown(alloc, tree)?;
+    format!(in alloc; "{replies}{after}")
 }
 
 /// Serves a run on a node.
@@ -111,30 +118,62 @@ fn run_on_a_numbered_tree(alloc: Global, row: &Row) -> Result<String, DrawingErr
     Ok(outcome(alloc, &slots, tree.root())?)
 }
 
+/// Serves one ask on a tree that is kept numbered.
+fn reply(alloc: Global, ask: &Ask, tree: &mut NumberedTree) -> Result<Reply, DrawingError> {
+    Ok(match request(alloc, ask)? {
+        Some(request) => tree.serve(alloc, request),
+        None => Reply::NoMemory,
+    })
+}
+
 /// Serves one request after the other on a tree that is kept numbered.
 fn serve_each(alloc: Global, row: &Row) -> Result<String, DrawingError> {
     let mut tree = kept(alloc, row.tree, row.within.start..row.within.end)?;
     let mut slots = Vec::new(alloc);
     for ask in row.asks {
-        slots.push(Slot::Told(match request(alloc, ask)? {
-            Some(request) => tree.serve(alloc, request),
-            None => Reply::NoMemory,
-        }))?;
+        slots.push(Slot::Told(reply(alloc, ask, &mut tree)?))?;
     }
     Ok(outcome(alloc, &slots, tree.root())?)
 }
 
+/// A way to serve a run.
+#[derive(Clone, Copy)]
+enum Way {
+    OnANode,
+    OnANumberedTree,
+    OneByOne,
+}
+
+/// What each way is called.
+const WAYS: [(&str, Way); 3] = [
+    ("on a node", Way::OnANode),
+    ("on a numbered tree", Way::OnANumberedTree),
+    ("one by one", Way::OneByOne),
+];
+
+/// Serves a run in a way.
+fn serve(alloc: Global, row: &Row, way: Way) -> Result<String, DrawingError> {
+    match way {
+        Way::OnANode => run_on_a_node(alloc, row),
+        Way::OnANumberedTree => run_on_a_numbered_tree(alloc, row),
+        Way::OneByOne => serve_each(alloc, row),
+    }
+}
+
+/// Asserts the outcome of a run, served in each way.
+fn assert_run(rt: &impl Abort, alloc: Global, row: &Row) -> Result<(), Fail> {
+    let wanted = format!(in alloc; "{}{}", row.replies, row.after)?;
+    for (name, way) in &WAYS {
+        let said = serve(alloc, row, *way)?;
+        assert_text(rt, row.shows, name, &said, &wanted);
+    }
+    Ok(())
+}
+
 #[test]
 fn requests_are_served_one_after_the_other(rt: HostRuntime) -> Result<(), Fail> {
-    let alloc = rt.alloc();
     for row in &RUNS {
-        let wanted = format!(in alloc; "{}{}", row.replies, row.after)?;
-        let said = run_on_a_node(alloc, row)?;
-        assert_text(&rt, row.shows, "on a node", &said, &wanted);
-        let said = run_on_a_numbered_tree(alloc, row)?;
-        assert_text(&rt, row.shows, "on a numbered tree", &said, &wanted);
-        let said = serve_each(alloc, row)?;
-        assert_text(&rt, row.shows, "one by one", &said, &wanted);
+        assert_run(&rt, rt.alloc(), row)?;
     }
     Ok(())
 }
@@ -165,9 +204,7 @@ fn a_slot_that_waits_has_no_reply(rt: HostRuntime) -> Result<(), Fail> {
 
 #[test]
 fn a_reply_is_copied_whole(rt: HostRuntime) -> Result<(), Fail> {
-    let mut path = Vec::new(rt.alloc());
-    path.push(1)?;
-    path.push(0)?;
+    let path = [1, 0].as_slice().to_vec(rt.alloc())?;
     let reply = Reply::Found {
         path,
         offset: 4,
