@@ -3,6 +3,7 @@ use crate::rows::assert_text;
 use crate::tree::asking::kept;
 use std::alloc::Global;
 use std::ops::Range;
+use std::process::Abort;
 use std::test::Fail;
 use typst_drawn::{DrawingError, drawn_all};
 use typst_tree::{EditError, NumberedTree, Renumbered};
@@ -116,14 +117,19 @@ fn edited(alloc: Global, edit: &Edit) -> Result<(String, NumberedTree), DrawingE
     Ok((said(alloc, edit, &mut tree)?, tree))
 }
 
+/// Asserts what an edit answers, and the tree's text after it.
+fn assert_edit(rt: &impl Abort, alloc: Global, row: &Row) -> Result<(), Fail> {
+    let (answer, tree) = edited(alloc, &row.edit)?;
+    assert_text(rt, row.shows, "answer", &answer, row.answer);
+    let text = tree.root().full_text(alloc)?;
+    assert_text(rt, row.shows, "text", &text, row.text);
+    Ok(())
+}
+
 #[test]
 fn an_edit_is_done_or_says_why_not(rt: HostRuntime) -> Result<(), Fail> {
-    let alloc = rt.alloc();
     for row in &ROWS {
-        let (answer, tree) = edited(alloc, &row.edit)?;
-        assert_text(&rt, row.shows, "answer", &answer, row.answer);
-        let text = tree.root().full_text(alloc)?;
-        assert_text(&rt, row.shows, "text", &text, row.text);
+        assert_edit(&rt, rt.alloc(), row)?;
     }
     Ok(())
 }
