@@ -95,8 +95,8 @@ fn push_summary(out: &mut String, row: &Row, is_new: bool) -> Result<(), AllocEr
     out.push_str("</i>  ")
 }
 
-/// Adds the beginning of a node's text in quotes. Most texts stand in quotes and in a page as they are, so they need no
-/// text of their own, whose room is given.
+/// Adds the beginning of a node's text in quotes. Most texts stand in a page as they are. The others are first written to
+/// `quoted`, which keeps its room from node to node.
 fn push_quoted(out: &mut String, quoted: &mut String, own: &str) -> Result<(), AllocError> {
     if own.len() <= SHOWN_CHARS && is_simple(own.as_bytes()) {
         out.push_str("\"")?;
@@ -108,8 +108,8 @@ fn push_quoted(out: &mut String, quoted: &mut String, own: &str) -> Result<(), A
     push_escaped(out, quoted)
 }
 
-/// Ends what a reader sees of a node before it is opened, and adds its path. An inner node has a bound, too; that of a
-/// leaf is the number after its own.
+/// Ends what a reader sees of a node before it is opened, and adds its path, and the bound of an inner node. The bound of
+/// a leaf is the number after its own.
 fn push_place(out: &mut String, above: Option<&String>, row: &Row) -> Result<(), AllocError> {
     out.push_str("</summary>at ")?;
     push_path(out, above, row.index)?;

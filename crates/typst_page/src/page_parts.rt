@@ -39,7 +39,8 @@ span.hit, .hit > summary { background: var(--hit); } .above > summary { backgrou
 pub(crate) const LEGEND: &str = "\
 <p class=\"legend\">On the left is the text, on the right its tree: each node with its kind, the bytes of its text, and its
 <span class=\"number\">number</span>. Numbers that an edit made are <span class=\"fresh\">marked</span>. Open a node for its path
-and what its view answers; an inner node also has its bound. With scripts on, pointing at a node marks its text, and pointing at the text marks its node.</p>
+and what its view answers. An inner node also has its bound. With scripts on, pointing at a node marks its text, and pointing at
+the text marks its node.</p>
 ";
 
 /// The end of a page, with the script that marks texts and nodes. The leaves of the tree come in the order of their
