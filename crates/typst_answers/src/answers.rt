@@ -22,7 +22,7 @@ pub struct Answers<'t> {
     pub alloc: Global,
     pub tree: &'t SyntaxNode,
     pub form: Form,
-    /// The beginning of each line: the place that the line is about, and its kind.
+    /// The beginning of each line: the place that the line is about, and its kind. For nodes by their bytes it is empty.
     head: String,
     /// What has been written, unless memory was refused.
     text: Result<String, AllocError>,
@@ -93,23 +93,20 @@ impl<'t> Answers<'t> {
     pub fn turn_to(&mut self, place: Place)
         ensures { Adds [] self.old self.new }
     {
-        match self.head_of(place) {
-            Ok(head) => self.head = head,
-            Err(_) => self.refuse(),
+        if self.form == Form::Paths {
+            match self.head_of(place) {
+                Ok(head) => self.head = head,
+                Err(_) => self.refuse(),
+            }
         }
     }
 
-    /// The beginning of the lines about a place.
+    /// The beginning of the lines about a place, for nodes by their paths.
     fn head_of(&self, place: Place) -> Result<String, AllocError> {
         let alloc = self.alloc;
         let kind = place.kind;
-        match self.form {
-            Form::Paths => {
-                let name = self.path_at(place)?;
-                format!(in alloc; "{name} {kind:?}.")
-            }
-            Form::Ranges => Ok(String::new(alloc)),
-        }
+        let name = self.path_at(place)?;
+        format!(in alloc; "{name} {kind:?}.")
     }
 
     /// The path of a node, or `~KIND` for a placeholder.
@@ -147,17 +144,25 @@ impl<'t> Answers<'t> {
         }
     }
 
-    /// Writes the beginning of an answer's line.
-    pub fn begin(&mut self, what: &str) {
-        self.put_head();
-        self.put(what);
-        self.put(self.form.separator());
+    /// Writes a text in quotes.
+    fn put_quoted(&mut self, text: &str) {
+        if let Ok(written) = &mut self.text
+            && self.form.push_text(written, text).is_err()
+        {
+            self.text = Err(AllocError);
+        }
     }
 
-    /// Writes the place that the line is about.
-    fn put_head(&mut self) {
+    /// Writes the beginning of an answer's line.
+    pub fn begin(&mut self, what: &str) {
+        self.start_line(what, "");
+    }
+
+    /// Writes the beginning of an answer's line and of the answer.
+    fn start_line(&mut self, what: &str, answer: &str) {
+        let separator = self.form.separator();
         if let Ok(written) = &mut self.text
-            && written.push_str(self.head.as_str()).is_err()
+            && push_line(written, &self.head, what, separator, answer).is_err()
         {
             self.text = Err(AllocError);
         }
@@ -246,8 +251,9 @@ impl<'t> Answers<'t> {
 
     /// Writes a line whose answer is a text, in quotes.
     pub fn text(&mut self, what: &str, text: &str) {
-        let quoted = self.form.text(self.alloc, text);
-        self.line(what, quoted);
+        self.begin(what);
+        self.put_quoted(text);
+        self.end();
     }
 
     /// Writes a line whose answer is a text that was made for this, in quotes.
@@ -272,8 +278,7 @@ impl<'t> Answers<'t> {
 
     /// Writes a line whose answer is a word.
     pub fn word(&mut self, what: &str, word: &str) {
-        self.begin(what);
-        self.put(word);
+        self.start_line(what, word);
         self.end();
     }
 
@@ -356,6 +361,9 @@ impl<'t> Answers<'t> {
 
     /// Writes a line whose answer is a list of views, in brackets.
     fn listed(&mut self, what: &str, views: &[Parts]) {
+        if views.is_empty() {
+            return self.word(what, "[]");
+        }
         self.begin(what);
         self.put("[");
         let entries = self.form.entries(views);
@@ -412,6 +420,20 @@ impl<'t> Answers<'t> {
             self.put("THE ENDS DIFFER\n");
         }
     }
+}
+
+/// Adds the beginning of an answer's line and of the answer.
+fn push_line(
+    out: &mut String,
+    head: &str,
+    what: &str,
+    separator: &str,
+    answer: &str,
+) -> Result<(), AllocError> {
+    out.push_str(head)?;
+    out.push_str(what)?;
+    out.push_str(separator)?;
+    out.push_str(answer)
 }
 
 /// The kind and the node of an expression.

@@ -30,18 +30,18 @@ impl Form {
         }
     }
 
-    /// How a text is written, in quotes.
-    pub fn text(self, alloc: Global, text: &str) -> Result<String, AllocError> {
+    /// Adds a text in quotes.
+    pub fn push_text(self, out: &mut String, text: &str) -> Result<(), AllocError> {
         let cut = match self {
-            Form::Paths => None,
-            Form::Ranges => text.char_indices().nth(MOST_CHARS),
+            Form::Ranges if text.len() > MOST_CHARS => text.char_indices().nth(MOST_CHARS),
+            _ => None,
         };
         match cut {
             Some((end, _)) => {
                 let beginning = text.get(..end).unwrap_or("");
-                format!(in alloc; "{beginning:?}…")
+                write!(out, "{beginning:?}…")
             }
-            None => format!(in alloc; "{text:?}"),
+            None => write!(out, "{text:?}"),
         }
     }
 
