@@ -53,12 +53,14 @@ RUNS = [
     ["text.typ", "--edits", "e"],
     ["text.typ", "--edits", "e", "--plain"],
     ["text.typ", "--edits", "e", "--page", "-"],
+    ["long.typ", "--page", "-"],
     ["a.script"],
     ["a.look", "--views"],
     ["--help"],
 ]
 FILES = {
     "text.typ": "= A\n\n*b `c\n",
+    "long.typ": "= A\n\n*b* `c`\n\n" * 50,  # its page is written in several pieces
     "e": '2..3 "B"\n',
     "a.script": "leaf 6 a\nleaf 6 b\ninner 5 2\nroot\nnumber 1 2 99\nleaf 6 c\nreplace - 1 1 1\nfind 1 6\nrun\n",
     "a.look": "leaf 6 a\nwarnat 0 1 b\nhint c\nerror d\te\nhintat 0 1 f\ninner 5 2\nroot\nlook views\nmark x\n",

@@ -16,7 +16,7 @@ what the programs must print, apart from them, from trees that no program here m
 - a program must refuse arguments that it can't have from ./show;
 - where the builds are the proved ones, ./show itself must do as the runs here do;
 - a page must have the text and the answers as text, even where they are markup;
-- the page of a large text must have few bytes for each node.
+- the page of a large text must have few bytes for each node, and must be the same in pieces and as a whole.
 
 It runs the proved builds, which `rt ci` and `rt run` make, or the programs in the given folder.
 """
@@ -457,16 +457,24 @@ def differing_paste(programs):
     return [f"the paste has {it}" for it in told]
 
 
-def heavy(programs):
-    """Whether the page of a large text has too many bytes for a node, before an edit and after it. So it is written and opened fast."""
+def large_pages(programs):
+    """Whether the page of a large text, which is written in pieces, is the same in a file and on standard output, and is that of a text
+    with an edit, which is written at once, up to the edit. Whether it has too many bytes for a node: it is written and opened fast."""
     with tempfile.TemporaryDirectory() as room:
         fill(room, {"a.typ": PARAGRAPH * PARAGRAPHS, "e": '2..7 "Leaves"\n'})
         pages = [run(programs, ["a.typ", *edits, "--page", "-"], room).stdout for edits in ([], ["--edits", "e"])]
+        run(programs, ["a.typ", "--page", "a.html"], room)
+        saved = Path(room, "a.html").read_bytes()
     counts = [page.count(b"<details") for page in pages]
     told = [f"{len(page)} bytes for {count} nodes" for page, count in zip(pages, counts) if len(page) > PAGE_BYTES * count]
     if counts[0] < 20_000 or counts[1] != 2 * counts[0]:
         told.append(f"{counts} nodes")
-    return [f"a large page has {it}, and may have {PAGE_BYTES} for each of 20,000 nodes or more" for it in told]
+    wrong = [f"a large page has {it}, and may have {PAGE_BYTES} for each of 20,000 nodes or more" for it in told]
+    if saved != pages[0]:
+        wrong.append(f"a large page has {len(saved)} bytes in a file, and {len(pages[0])} others on standard output")
+    if not pages[1].startswith(pages[0].rpartition(b"<script>")[0]):
+        wrong.append("a large page that is written in pieces isn't the beginning of the one with an edit")
+    return wrong
 
 
 def escaped(programs):
@@ -605,7 +613,7 @@ def main():
     different, views = differing_views(programs)
     wrong += misread(programs) + misgiven(programs) + ([] if folder else otherwise_shown(programs))
     wrong += differing_pairs(programs) + differing_edits(programs) + different
-    wrong += differing_pages(programs) + differing_typing(programs) + differing_paste(programs) + heavy(programs) + escaped(programs)
+    wrong += differing_pages(programs) + differing_typing(programs) + differing_paste(programs) + large_pages(programs) + escaped(programs)
     wrong += examples(programs)
     pairs = len(list(PAIRS.glob("*.typ")))
     counts = f"{pairs} texts with their trees and edits, {views} trees with their answers, {len(WRONG)} wrong inputs"

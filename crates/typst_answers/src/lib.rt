@@ -5,7 +5,7 @@
 //! let mut answers = Answers::in_form(alloc, shown.root, Form::Ranges);
 //! ..
 //! answers.clear();
-//! of_node(&mut answers, node?.get());
+//! of_node(&mut answers, node);
 //! push_escaped(out, answers.written()?)?;
 //! ```
 //!

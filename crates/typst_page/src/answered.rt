@@ -23,7 +23,7 @@ pub fn draw_with_answers<W: Write>(
     let mut answers = Answers::in_form(alloc, shown.root, Form::Ranges);
     for node in LinkedNode::new(shown.root).preorder(alloc)? {
         let node = node?;
-        let row = Row::of(alloc, &node)?;
+        let row = Row::of(&node)?;
         trail.go_to(&row)?;
         trail.draw(out)?;
         draw_row(alloc, out, shown.text, &row, report)?;

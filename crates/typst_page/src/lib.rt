@@ -5,6 +5,7 @@
 
 pub use answered::draw_with_answers;
 pub use windows::Change;
+pub use writer::PageWriter;
 
 mod answered;
 mod escaped;
@@ -13,3 +14,4 @@ mod numbers;
 pub mod page;
 mod page_parts;
 mod windows;
+mod writer;

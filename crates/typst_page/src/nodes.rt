@@ -4,23 +4,31 @@
 //! element after it, and the leaves come in the order of their texts.
 
 use crate::escaped::{is_simple, push_escaped};
+use crate::writer::PageWriter;
 use itoa::{Buffer, Integer};
 use std::alloc::{AllocError, Global};
+use std::rt::Files;
 use typst_answers::views::of_node;
 use typst_answers::{Answers, Form};
 use typst_base::SyntaxKind;
-use typst_linked::LinkedNode;
+use typst_node::SyntaxNode;
 use typst_rows::{EditReport, Row};
-use typst_shown::Shown;
 use typst_shown::quoted::push_beginning;
+use typst_shown::{Problem, Shown};
 
 /// How many characters of a node's text are shown next to it.
 const SHOWN_CHARS: usize = 48;
 
 /// Adds the texts of the leaves, each in an element of its own, so that the script can mark it.
-pub(crate) fn push_leaves(out: &mut String, text: &str, rows: &[Row]) -> Result<(), AllocError> {
+pub(crate) fn push_leaves<'a, R: Files + Print>(
+    page: &mut PageWriter<'_, 'a, R>,
+    text: &str,
+    rows: &[Row],
+) -> Result<(), Problem<'a>> {
     for row in rows {
         if !row.is_inner {
+            page.pass_on()?;
+            let out = &mut page.text;
             out.push_str(if row.kind == SyntaxKind::Error {
                 "<span class=\"bad\">"
             } else {
@@ -35,37 +43,61 @@ pub(crate) fn push_leaves(out: &mut String, text: &str, rows: &[Row]) -> Result<
 
 /// Adds the nodes of a tree, the children of each inner node after it in an element of their own. A reader can open
 /// each node.
-pub(crate) fn push_nodes(
+pub(crate) fn push_nodes<'a, R: Files + Print>(
     alloc: Global,
-    out: &mut String,
+    page: &mut PageWriter<'_, 'a, R>,
     shown: &Shown<'_>,
     report: Option<&EditReport>,
     rows: &[Row],
-) -> Result<(), AllocError> {
-    // How the paths of the children begin, for each node whose children are open.
-    let mut above: Vec<String> = Vec::new(alloc);
+) -> Result<(), Problem<'a>> {
+    let mut parents: Vec<Parent<'_>> = Vec::new(alloc);
     let mut quoted = String::new(alloc);
     let mut answers = Answers::in_form(alloc, shown.root, Form::Ranges);
-    for (row, node) in rows
-        .iter()
-        .zip(LinkedNode::new(shown.root).preorder(alloc)?)
-    {
-        end_children(out, row.depth, above.len())?;
-        above.truncate(row.depth);
+    for row in rows {
+        page.pass_on()?;
+        let out = &mut page.text;
+        end_children(out, row.depth, parents.len())?;
+        parents.truncate(row.depth);
+        // The rows come in preorder, so the node is there.
+        let Some(node) = node_of(shown.root, parents.last(), row) else {
+            break;
+        };
         push_summary(out, row, report.is_some_and(|report| report.is_new(row)))?;
         let own = shown.text.get(row.start..row.end).unwrap_or("");
         push_quoted(out, &mut quoted, own)?;
-        push_place(out, above.last(), row)?;
+        push_place(out, parents.last(), row)?;
         answers.clear();
-        of_node(&mut answers, node?.get());
+        of_node(&mut answers, node);
         push_escaped(out, answers.written()?)?;
         out.push_str("</details>\n")?;
         if row.is_inner {
             out.push_str("<div>\n")?;
-            above.push(beginning_below(alloc, above.last(), row.index)?)?;
+            let beginning = beginning_below(alloc, parents.last(), row.index)?;
+            parents.push(Parent { node, beginning })?;
         }
     }
-    end_children(out, 0, above.len())
+    end_children(&mut page.text, 0, parents.len())?;
+    Ok(())
+}
+
+/// A node whose children are being added.
+#[derive(Drop)]
+struct Parent<'t> {
+    node: &'t SyntaxNode,
+    /// How the paths of its children begin.
+    beginning: String,
+}
+
+/// The node of a row, which is the root or a child of this parent.
+fn node_of<'t>(
+    root: &'t SyntaxNode,
+    parent: Option<&Parent<'t>>,
+    row: &Row,
+) -> Option<&'t SyntaxNode> {
+    match parent {
+        None => Some(root),
+        Some(parent) => parent.node.child_slice().get(row.index),
+    }
 }
 
 /// Ends the elements with children that the next node is not in: those below this depth of the open ones.
@@ -110,9 +142,9 @@ fn push_quoted(out: &mut String, quoted: &mut String, own: &str) -> Result<(), A
 
 /// Ends what a reader sees of a node before it is opened, and adds its path, and the bound of an inner node. The bound of
 /// a leaf is the number after its own.
-fn push_place(out: &mut String, above: Option<&String>, row: &Row) -> Result<(), AllocError> {
+fn push_place(out: &mut String, parent: Option<&Parent<'_>>, row: &Row) -> Result<(), AllocError> {
     out.push_str("</summary>at ")?;
-    push_path(out, above, row.index)?;
+    push_path(out, parent, row.index)?;
     if row.is_inner {
         out.push_str(", bound ")?;
         push_number(out, row.bound)?;
@@ -122,11 +154,15 @@ fn push_place(out: &mut String, above: Option<&String>, row: &Row) -> Result<(),
 
 /// Adds the path of a node: the child indices that lead to it, joined by dots, or `-` for the root. All but the last
 /// index are given, with a dot after each.
-fn push_path(out: &mut String, above: Option<&String>, index: usize) -> Result<(), AllocError> {
-    match above {
+fn push_path(
+    out: &mut String,
+    parent: Option<&Parent<'_>>,
+    index: usize,
+) -> Result<(), AllocError> {
+    match parent {
         None => out.push_str("-"),
-        Some(above) => {
-            out.push_str(above)?;
+        Some(parent) => {
+            out.push_str(&parent.beginning)?;
             push_number(out, index)
         }
     }
@@ -135,12 +171,12 @@ fn push_path(out: &mut String, above: Option<&String>, index: usize) -> Result<(
 /// How the paths of a node's children begin.
 fn beginning_below(
     alloc: Global,
-    above: Option<&String>,
+    parent: Option<&Parent<'_>>,
     index: usize,
 ) -> Result<String, AllocError> {
     let mut beginning = String::new(alloc);
-    if above.is_some() {
-        push_path(&mut beginning, above, index)?;
+    if parent.is_some() {
+        push_path(&mut beginning, parent, index)?;
         beginning.push_str(".")?;
     }
     Ok(beginning)

@@ -7,10 +7,9 @@ use crate::nodes::{push_leaves, push_nodes};
 use crate::numbers::push_numbers;
 use crate::page_parts::{HEAD, LEGEND, STYLE, TAIL};
 use crate::windows::Change;
+use crate::writer::PageWriter;
 use std::alloc::{AllocError, Global};
-use std::io::Write;
 use std::rt::Files;
-use std::{fs, io};
 use typst_lines::{ColumnUnit, Lines};
 use typst_linked::place_of;
 use typst_node::SyntaxDiagnostic;
@@ -51,22 +50,24 @@ pub struct Done<'a> {
 
 /// Adds a step: the numbers after an edit, the text next to the tree, and errors and warnings. The first step has no
 /// edit.
-pub fn push_step(
+pub fn push_step<'a, R: Files + Print>(
     alloc: Global,
-    out: &mut String,
+    page: &mut PageWriter<'_, 'a, R>,
     shown: &Shown<'_>,
     done: Option<Done<'_>>,
-) -> Result<(), AllocError> {
+) -> Result<(), Problem<'a>> {
     let rows = rows(alloc, shown.root)?;
     if let Some(Done { report, change }) = done {
-        push_numbers(out, &rows, report, change)?;
+        push_numbers(&mut page.text, &rows, report, change)?;
     }
-    out.push_str("<div class=\"pair\">\n<pre class=\"text\">")?;
-    push_leaves(out, shown.text, &rows)?;
-    out.push_str("</pre>\n<div class=\"tree\">\n")?;
-    push_nodes(alloc, out, shown, done.map(|done| done.report), &rows)?;
-    out.push_str("</div>\n</div>\n")?;
-    push_reports(alloc, out, shown)
+    page.text
+        .push_str("<div class=\"pair\">\n<pre class=\"text\">")?;
+    push_leaves(page, shown.text, &rows)?;
+    page.text.push_str("</pre>\n<div class=\"tree\">\n")?;
+    push_nodes(alloc, page, shown, done.map(|done| done.report), &rows)?;
+    page.text.push_str("</div>\n</div>\n")?;
+    push_reports(alloc, &mut page.text, shown)?;
+    Ok(())
 }
 
 /// Adds the errors and then the warnings.
@@ -110,16 +111,4 @@ fn push_place(
     };
     let (line, column) = (line.saturating_add(1), column.saturating_add(1));
     write!(out, "{line}:{column} ")
-}
-
-/// Writes a whole page to its file, or to standard output if the file is `-`.
-pub fn save<'a, R: Files + Print>(rt: &R, page: &'a str, written: &str) -> Result<(), Problem<'a>> {
-    if page == "-" {
-        io::writer(rt).write_all(written.as_bytes())?;
-        return Ok(());
-    }
-    match fs::write(rt, page, written.as_bytes()) {
-        Ok(()) => Ok(()),
-        Err(error) => Err(Problem::of_saving(page, error)),
-    }
 }

@@ -1,12 +1,16 @@
 -- The row of a node, and how many rows there are.
-use Rattle.std.proofs.Common.{◌≡◌, ◌+◌, [], length, slice_get, refl, sym, ap, ◌∙◌, Option, Some, None, Bool, true, false}
-use Rattle.std.specs.Prelude.{IsTrue, ◌↔◌, is_some, not, unwrap_or}
+use Rattle.std.proofs.Common.{◌≡◌, ℕ, ◌+◌, ◌<◌, List, [], length, slice_get, refl, sym, ap, ◌∙◌, Some, None, Bool, true, false, min, inl, inr, if◌then◌else◌, option_map, arith}
+use Rattle.std.specs.Prelude.{IsTrue, ◌↔◌, unwrap_or, nat_lt, nat_le}
 use Rattle.std.specs.Option.{is_none}
+use Rattle.std.proofs.lemmas.Bool.{ltb-true, ltb-false, lt-leb, le-leb}
 use Rattle.std.proofs.lemmas.List.{length-map}
-use Rattle.typst_linked.specs.Place.{Place, subtree, last_step, below}
+use Rattle.typst_linked.specs.Place.{Place, subtree, child_place, last_step, below}
 use Rattle.typst_linked.specs.Preorder.{places_below}
-use Rattle.typst_linked.specs.Siblings.{sibling, behind_it}
-use Rattle.typst_node.specs.Tree.{Tree, Content, AsLeaf, AsError, AsInner, IsInner, kind_of}
+use Rattle.typst_linked.specs.Siblings.{sibling, siblings, behind_it, parent_place}
+use Rattle.typst_linked.proofs.Nearest.{siblings-child}
+use Rattle.typst_linked.proofs.Places.{last_step-push}
+use Rattle.typst_node.proofs.FirstThatPasses.{bool_cases}
+use Rattle.typst_node.specs.Tree.{Tree, trees, Content, AsLeaf, AsError, AsInner, IsInner, kind_of}
 use Rattle.typst_node.specs.Text.{offset, text}
 use Rattle.typst_node.specs.Count.{count}
 use Rattle.typst_node.specs.Labels.{number, bound}
@@ -24,12 +28,23 @@ inner_test (AsError own message hints) false h = refl
 inner_test (AsInner kind upper) true h = refl
 inner_test (AsInner kind upper) false h = h.1 tt
 
--- the test for an empty option
-pub none_test : {X : Type 0} (o : Option X) (b : Bool) → is_some o ≡ not b → b ≡ is_none o
-none_test None true h = refl
-none_test None false h = h
-none_test (Some x) true h = h
-none_test (Some x) false h = refl
+-- the test for an index that none of n indices comes after; the sum stops at the greatest `usize`
+no_more : (f : ℕ → Place) (i s n : ℕ) → s ≡ min (i + 1) 18446744073709551615 → n < 18446744073709551616
+    → nat_le n s ≡ is_none (option_map f (if nat_lt (i + 1) n then Some (i + 1) else None))
+no_more f i s n hs hn = elim (bool_cases (nat_lt (i + 1) n)) [
+  | inl e ↦ rw e (lt-leb n s (omega (arith, ltb-true (i + 1) n e, hs)))
+  | inr e ↦ rw e (le-leb n s (omega (arith, ltb-false (i + 1) n e, hs, hn)))
+]
+
+-- the test for a child that no sibling comes after
+pub last_test : (p : Place) (i s : ℕ) (t : Tree) → subtree p ≡ Some t → s ≡ min (i + 1) 18446744073709551615
+    → length (trees t.children) < 18446744073709551616
+    → nat_le (length (trees t.children)) s ≡ is_none (sibling behind_it (child_place p i))
+last_test p i s t h hs hn =
+    let place = child_place p i in
+    let given : ℕ → List Tree → Bool = λ k ts. is_none (option_map (child_place (parent_place place)) (behind_it k ts)) in
+    no_more (child_place (parent_place place)) i s (length (trees t.children)) hs hn
+    ∙ sym (ap (λ k. given k (siblings place)) (last_step-push p.path i) ∙ ap (given i) (siblings-child p i t h))
 
 -- a row with what is told of the node at a place is the place's
 pub row_is : (place : Place) (t : Tree) (r : Row) → subtree place ≡ Some t → r.depth ≡ length place.path

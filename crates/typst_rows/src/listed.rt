@@ -16,7 +16,7 @@ pub fn rows(alloc: Global, root: &SyntaxNode) -> Result<Vec<Row>, AllocError>
     let mut rows = Vec::with_capacity(alloc, root.descendants())?;
     for node in LinkedNode::new(root).preorder(alloc)? {
         let node = node?;
-        rows.push(Row::of(alloc, &node)?)?;
+        rows.push(Row::of(&node)?)?;
     }
     Ok(rows)
 }

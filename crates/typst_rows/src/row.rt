@@ -1,8 +1,10 @@
 //! The row of a node.
-ghost use Rattle.std.specs.Prelude.{◌≡◌, IfOk};
+ghost use Rattle.std.specs.Prelude.{◌≡◌, IfOk, length, slice_get};
+ghost use Rattle.std.specs.Option.{is_none};
+ghost use Rattle.typst_linked.specs.Siblings.{sibling, behind_it};
 ghost use Rattle.typst_rows.specs.Rows.{row_at};
 
-use std::alloc::{AllocError, Global};
+use std::alloc::AllocError;
 use typst_base::SyntaxKind;
 use typst_linked::LinkedNode;
 
@@ -32,19 +34,19 @@ pub struct Row {
 }
 
 impl Row {
-    /// The row of a node. It takes time in proportion to the depth, and fails only where memory runs out.
-    pub fn of(alloc: Global, node: &LinkedNode<'_>) -> Result<Row, AllocError>
+    /// The row of a node. It takes time in proportion to the depth, and no memory. It fails only if more nodes are above
+    /// the node than a `usize` counts.
+    pub fn of(node: &LinkedNode<'_>) -> Result<Row, AllocError>
         ensures { IfOk result (λ row. row ≡ row_at node.now) }
     {
-        let path = node.path(alloc)?;
-        let is_last = node.next_sibling_with_trivia()?.is_none();
+        let (depth, top) = above(node)?;
         let range = node.range();
         let tree = node.get();
         Ok(Row {
-            depth: path.len(),
-            top: path.first().copied(),
+            depth,
+            top,
             index: node.index(),
-            is_last,
+            is_last: is_last(node),
             kind: tree.kind(),
             is_inner: tree.is_inner(),
             start: range.start,
@@ -52,5 +54,30 @@ impl Row {
             number: tree.span().number(),
             bound: tree.upper(),
         })
+    }
+}
+
+/// How many nodes are above a node, and which of the root's children it is, or is below.
+fn above(node: &LinkedNode<'_>) -> Result<(usize, Option<usize>), AllocError>
+    ensures depth { IfOk result (λ above. above.0 ≡ length node.now.path) }
+    ensures top { IfOk result (λ above. above.1 ≡ slice_get node.now.path 0) }
+{
+    let Some(parent) = node.parent() else {
+        return Ok((0, None));
+    };
+    let (depth, top) = above(parent)?;
+    let Some(depth) = depth.checked_add(1) else {
+        return Err(AllocError);
+    };
+    Ok((depth, Some(top.unwrap_or(node.index()))))
+}
+
+/// Whether no sibling comes after a node.
+fn is_last(node: &LinkedNode<'_>) -> bool
+    ensures { result ≡ is_none (sibling behind_it node.now) }
+{
+    match node.parent() {
+        None => true,
+        Some(parent) => parent.get().child_slice().len() <= node.index().saturating_add(1),
     }
 }

@@ -14,12 +14,12 @@ mod problem;
 use crate::built::build;
 use crate::language::Language;
 use crate::problem::ScriptProblem;
-use std::alloc::{AllocError, Global};
+use std::alloc::Global;
 use std::io;
 use std::io::{BufWriter, Write};
 use std::process::ExitCode;
-use typst_page::draw_with_answers;
-use typst_page::page::{push_head, push_step, push_tail, save};
+use typst_page::page::{push_head, push_step, push_tail};
+use typst_page::{PageWriter, draw_with_answers};
 use typst_shown::carets::write_reports;
 use typst_shown::drawing::draw;
 use typst_shown::plain::write_plain;
@@ -58,10 +58,9 @@ fn show<'a>(rt: &HostRuntime, asked: &Asked<'a>) -> Result<(), ScriptProblem<'a>
 fn show_tree<'a>(rt: &HostRuntime, form: Form<'a>, shown: &Shown<'_>) -> Result<(), Problem<'a>> {
     let alloc = rt.alloc();
     if let Form::Page(page) = form {
-        // The page is made whole before any of it is written.
-        let mut written = String::new(alloc);
-        push_page(alloc, &mut written, shown)?;
-        return save(rt, page, &written);
+        let mut writer = PageWriter::in_pieces(rt, page);
+        push_page(alloc, &mut writer, shown)?;
+        return writer.write();
     }
     let mut out = BufWriter::new(alloc, io::writer(rt))?;
     let done = write_tree(alloc, &mut out, form, shown);
@@ -72,10 +71,15 @@ fn show_tree<'a>(rt: &HostRuntime, form: Form<'a>, shown: &Shown<'_>) -> Result<
 }
 
 /// Adds a page of a tree.
-fn push_page(alloc: Global, out: &mut String, shown: &Shown<'_>) -> Result<(), AllocError> {
-    push_head(out, shown.file)?;
-    push_step(alloc, out, shown, None)?;
-    push_tail(out)
+fn push_page<'a>(
+    alloc: Global,
+    page: &mut PageWriter<'_, 'a, HostRuntime>,
+    shown: &Shown<'_>,
+) -> Result<(), Problem<'a>> {
+    push_head(&mut page.text, shown.file)?;
+    push_step(alloc, page, shown, None)?;
+    push_tail(&mut page.text)?;
+    Ok(())
 }
 
 /// Draws a tree and writes its errors and warnings below it, or writes it plainly.

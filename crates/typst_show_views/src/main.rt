@@ -8,8 +8,8 @@ use std::alloc::Global;
 use std::io;
 use std::io::Write;
 use std::process::ExitCode;
-use typst_page::page::{Done, push_head, push_step, push_tail, push_title, save};
-use typst_page::{Change, draw_with_answers};
+use typst_page::page::{Done, push_head, push_step, push_tail, push_title};
+use typst_page::{Change, PageWriter, draw_with_answers};
 use typst_rows::EditReport;
 use typst_shown::report::told_of;
 use typst_shown::start::{end, start};
@@ -47,36 +47,39 @@ impl Drawing for WithAnswers {
     }
 }
 
-/// Writes a page of a text to its file, once the page is whole.
+/// Writes a page of a text to its file. With edits nothing is written before the page is whole, since an edit may not fit.
 fn save_page<'a>(rt: &HostRuntime, asked: &Asked<'a>, page: &'a str) -> Result<(), Problem<'a>> {
-    let alloc = rt.alloc();
     let (mut text, edits) = Text::read(rt, asked)?;
-    let mut written = String::new(alloc);
-    push_page(alloc, &mut written, asked.file, &mut text, &edits)?;
-    save(rt, page, &written)
+    let mut writer = if edits.is_empty() {
+        PageWriter::in_pieces(rt, page)
+    } else {
+        PageWriter::whole(rt, page)
+    };
+    push_page(rt.alloc(), &mut writer, asked.file, &mut text, &edits)?;
+    writer.write()
 }
 
 /// Adds a page of a text, and of the text again after each edit.
 fn push_page<'a>(
     alloc: Global,
-    out: &mut String,
+    page: &mut PageWriter<'_, 'a, HostRuntime>,
     file: &str,
     text: &mut Text<'a>,
     edits: &[NumberedEdit],
 ) -> Result<(), Problem<'a>> {
-    push_head(out, file)?;
-    push_step(alloc, out, &text.shown(), None)?;
+    push_head(&mut page.text, file)?;
+    push_step(alloc, page, &text.shown(), None)?;
     for edit in edits {
         let old = text.shown().root.clone()?;
         let report = text.edit(alloc, edit)?;
-        push_title(out, &told_of(alloc, edit, &report)?)?;
+        push_title(&mut page.text, &told_of(alloc, edit, &report)?)?;
         let shown = text.shown();
         let done = Done {
             report: &report,
             change: &Change::between(&old, shown.root, &report.reparsed),
         };
-        push_step(alloc, out, &shown, Some(done))?;
+        push_step(alloc, page, &shown, Some(done))?;
     }
-    push_tail(out)?;
+    push_tail(&mut page.text)?;
     Ok(())
 }
