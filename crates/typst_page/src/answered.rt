@@ -20,13 +20,14 @@ pub fn draw_with_answers<W: Write>(
     report: Option<&EditReport>,
 ) -> io::Result<()> {
     let mut trail = Trail::new(alloc);
+    let mut rest = String::new(alloc);
     let mut answers = Answers::in_form(alloc, shown.root, Form::Ranges);
     for node in LinkedNode::new(shown.root).preorder(alloc)? {
         let node = node?;
         let row = Row::of(&node)?;
         trail.go_to(&row)?;
         trail.draw(out)?;
-        draw_row(alloc, out, shown.text, &row, report)?;
+        draw_row(out, &mut rest, shown.text, &row, report)?;
         draw_answers(out, &mut answers, node.get(), &trail)?;
     }
     Ok(())
@@ -44,7 +45,8 @@ fn draw_answers<W: Write>(
     let has_children = !node.child_slice().is_empty();
     for answer in answers.written()?.lines() {
         trail.draw_below(out, has_children)?;
-        writeln!(out, "{answer}")?;
+        out.write_all(answer.as_bytes())?;
+        out.write_all(b"\n")?;
     }
     Ok(())
 }

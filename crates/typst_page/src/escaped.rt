@@ -1,6 +1,7 @@
 //! Text in a page.
 
 use std::alloc::AllocError;
+use typst_shown::quoted::is_printed_byte;
 
 /// Adds a text so that a browser shows it between elements and reads no markup in it. A page may have no control
 /// characters other than tabs and line feeds. The others become the signs that represent them.
@@ -21,14 +22,11 @@ fn is_plain(text: &[u8]) -> bool {
     is_plain
 }
 
-/// Whether `{:?}` and a page show a text of these bytes as it is: printable characters of ASCII without quotes,
-/// backslashes and what a page changes. The loop has no way out, so it is fast.
+/// Whether `{:?}` and a page show a text of these bytes as it is. The loop has no way out, so it is fast.
 pub(crate) fn is_simple(text: &[u8]) -> bool {
     let mut is_simple = true;
     for byte in text {
-        let byte = *byte;
-        let is_printed = (byte >= b' ') & (byte < 127) & (byte != b'"') & (byte != b'\\');
-        is_simple = is_simple & is_printed & begins_plain(byte);
+        is_simple = is_simple & is_printed_byte(*byte) & begins_plain(*byte);
     }
     is_simple
 }

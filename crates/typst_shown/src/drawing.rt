@@ -19,24 +19,26 @@ pub fn draw<W: Write>(
     report: Option<&EditReport>,
 ) -> io::Result<()> {
     let mut trail = Trail::new(alloc);
+    let mut rest = String::new(alloc);
     for row in &rows(alloc, shown.root)? {
         trail.go_to(row)?;
         trail.draw(out)?;
-        draw_row(alloc, out, shown.text, row, report)?;
+        draw_row(out, &mut rest, shown.text, row, report)?;
     }
     Ok(())
 }
 
-/// Writes what a row tells, after its branches.
+/// Writes what a row tells, after its branches. `rest` holds the rest of the line meanwhile, and keeps its room from row to
+/// row.
 pub fn draw_row<W: Write>(
-    alloc: Global,
     out: &mut W,
+    rest: &mut String,
     text: &str,
     row: &Row,
     report: Option<&EditReport>,
 ) -> io::Result<()> {
     draw_kind(out, row, report)?;
-    draw_text(alloc, out, text, row)
+    draw_text(out, rest, text, row)
 }
 
 /// Writes the kind of a row, its range, its number, and whether the number is new.
@@ -56,14 +58,16 @@ fn draw_kind<W: Write>(out: &mut W, row: &Row, report: Option<&EditReport>) -> i
 }
 
 /// Writes the text of a row, or the beginning of the text for an inner node, and the end of the line.
-fn draw_text<W: Write>(alloc: Global, out: &mut W, text: &str, row: &Row) -> io::Result<()> {
+fn draw_text<W: Write>(out: &mut W, rest: &mut String, text: &str, row: &Row) -> io::Result<()> {
     let own = text.get(row.start..row.end).unwrap_or("");
     let most = if row.is_inner {
         SHOWN_CHARS
     } else {
         usize::MAX
     };
-    let mut quoted = String::new(alloc);
-    push_beginning(&mut quoted, own, most)?;
-    writeln!(out, "  {quoted}")
+    rest.clear();
+    rest.push_str("  ")?;
+    push_beginning(rest, own, most)?;
+    rest.push_str("\n")?;
+    out.write_all(rest.as_bytes())
 }
