@@ -1,4 +1,4 @@
-use Rattle.std.proofs.Common.{◌≡◌, ◌∙◌, ◌+◌, ◌<◌, ap, sym, length, nat_le, min, arith}
+use Rattle.std.proofs.Common.{◌∙◌, ◌+◌, ◌<◌, ap, sym, length, nat_le, min, arith}
 use Rattle.std.specs.Option.{is_none}
 use Rattle.typst_node.specs.Tree.{trees}
 use Rattle.typst_linked.specs.Place.{last_step}

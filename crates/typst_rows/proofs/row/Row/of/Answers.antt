@@ -1,4 +1,4 @@
-use Rattle.std.proofs.Common.{◌≡◌, ◌+◌, ◌∙◌, ap, length}
+use Rattle.std.proofs.Common.{◌+◌, ◌∙◌, ap, length}
 use Rattle.typst_base.specs.Span.{SpanParts}
 use Rattle.typst_node.specs.Text.{text}
 use Rattle.typst_rows.proofs.RowFacts.{row_is}
