@@ -40,6 +40,9 @@ TEXT = "= A\n\nHäuser"
 MOST_BYTES = 1 << 26
 # A text whose page is weighed: a paragraph of 23 nodes so many times, and the most bytes that the page may have for each node.
 PARAGRAPH, PARAGRAPHS, PAGE_BYTES = "= Trees\n\nEach *strong part* is a node, and `raw` too.\n\n", 900, 170
+# The words for a page of a large text, its files, and what is said of an edit past the text.
+LARGE, LARGE_FILES = ["a.typ", "--page"], {"a.typ": PARAGRAPH * PARAGRAPHS, "e": '0..99999999 ""\n'}
+SHORTER = f"but the text has only {len(PARAGRAPH) * PARAGRAPHS} bytes"
 FORMS = '; an edit is written 7..12 "text" or 2:5..2:9 "text"'
 BOUND = "the most that can be shown"
 ENDS = "there is no tree at the end: put `root` after the line that makes the last node"
@@ -77,6 +80,10 @@ WRONG = [
     ("more after the quotes", "1..2 \"\" ", {}, "e:1:8: expected the end of the line" + FORMS, 2),
     ("a number too large", "99999999999999999999..1 \"\"", {}, "e:1:1: expected a byte, or a line and a column" + FORMS, 2),
     ("a page into a folder", ["text.typ", "--page", "folder"], {}, "folder: this is a folder: name a file", 1),
+    ("a page into no folder", ["text.typ", "--page", "none/p"], {}, "none/p: cannot write it: No such file or directory (os error 2)", 1),
+    ("a page on a full disk", ["text.typ", "--page", "/dev/full"], {}, "/dev/full: cannot write it: No space left on device (os error 28)", 1),
+    ("a large page on a full disk", [*LARGE, "/dev/full"], LARGE_FILES, "/dev/full: cannot write it: No space left on device (os error 28)", 1),
+    ("an edit past a large page", [*LARGE, "-", "--edits", "e"], LARGE_FILES, f"e:1: the edit ends at byte 99999999, {SHORTER}", 2),
     ("no FILE", [], {}, re.compile(r"error: the following required arguments were not provided:\n  <FILE>\n"), 2),
     ("no look", ["none.look"], {}, "none.look: there is no such file", 1),
     ("edits of a script", ["a.script", "--edits", "e"], {"a.script": "leaf 6 a\nroot\n", "e": ""}, "a.script: --edits edits a text, but this is a script: edit its tree by its own lines `replace` and `run`", 2),
