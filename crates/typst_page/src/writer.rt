@@ -23,7 +23,7 @@ pub struct PageWriter<'r, 'a, R: Files + Print> {
 }
 
 impl<'r, 'a, R: Files + Print + AllocGlobal> PageWriter<'r, 'a, R> {
-    /// A page that is written in pieces while it is made, so that it takes little memory.
+    /// A page that is written in pieces of 64 KiB while it is made, so that it takes little memory.
     pub fn in_pieces(rt: &'r R, page: &'a str) -> Self {
         PageWriter::with_most(rt, page, PIECE)
     }
@@ -54,7 +54,8 @@ impl<'r, 'a, R: Files + Print> PageWriter<'r, 'a, R> {
         self.write()
     }
 
-    /// Writes what is made.
+    /// Writes what is made, and keeps its room. The first call makes the file, or empties one that is there. It fails if the
+    /// file can't be made or written. Then what is made stays in `text`, and a part of it may be written.
     pub fn write(&mut self) -> Result<(), Problem<'a>> {
         if self.page == "-" {
             io::writer(self.rt).write_all(self.text.as_bytes())?;
