@@ -1,5 +1,5 @@
 //! The row of a node.
-ghost use Rattle.std.specs.Prelude.{◌≡◌, IfOk, length, slice_get};
+ghost use Rattle.std.specs.Prelude.{◌≡◌, ◌≤◌, ◌^◌, IfOk, IsErr, length, slice_get};
 ghost use Rattle.std.specs.Option.{is_none};
 ghost use Rattle.typst_linked.specs.Siblings.{sibling, behind_it};
 ghost use Rattle.typst_rows.specs.Rows.{row_at};
@@ -37,7 +37,8 @@ impl Row {
     /// The row of a node. It takes time in proportion to the depth, and no memory. It fails only if more nodes are above
     /// the node than a `usize` counts.
     pub fn of(node: &LinkedNode<'_>) -> Result<Row, AllocError>
-        ensures { IfOk result (λ row. row ≡ row_at node.now) }
+        ensures returns { IfOk result (λ row. row ≡ row_at node.now) }
+        ensures too_deep { IsErr result → 2 ^ 64 ≤ length node.now.path }
     {
         let (depth, top) = above(node)?;
         let range = node.range();
@@ -61,6 +62,7 @@ impl Row {
 fn above(node: &LinkedNode<'_>) -> Result<(usize, Option<usize>), AllocError>
     ensures depth { IfOk result (λ above. above.0 ≡ length node.now.path) }
     ensures top { IfOk result (λ above. above.1 ≡ slice_get node.now.path 0) }
+    ensures too_deep { IsErr result → 2 ^ 64 ≤ length node.now.path }
 {
     let Some(parent) = node.parent() else {
         return Ok((0, None));

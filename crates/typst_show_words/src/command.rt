@@ -14,30 +14,56 @@ The status is 0 if all is shown, 1 if a file or memory failed, and 2 if the word
 
 /// The words that `./show` takes.
 pub(crate) fn command<'a>(alloc: Global) -> Result<Command<'a>, AllocError> {
-    let file = named_file(alloc, "file", "FILE").required(true).help(
-        "The text or script whose tree is shown; - reads a text from standard input",
-    );
-    let edits = named_file(alloc, "edits", "EDITS").long("edits").help(
-        "Makes the edits in this file, and says what each did; - reads them from standard input",
-    );
-    let page = named_file(alloc, "page", "OUT.html").long("page").help(
-        "Writes a page for a browser; - writes it to standard output",
-    );
-    let plain = flag(alloc, "plain").help(
-        "Shows only kinds and texts; with --edits only the tree after all edits",
-    );
-    let plain = plain.conflicts_with("page")?.conflicts_with("views")?;
-    let views = flag(alloc, "views").help("Shows below each node what its view answers");
-    Command::new(alloc, "show")
+    described(alloc)?
+        .arg(file(alloc))?
+        .arg(edits(alloc))?
+        .arg(page(alloc))?
+        .arg(views(alloc))?
+        .arg(plain(alloc)?)
+}
+
+/// The command without words.
+fn described<'a>(alloc: Global) -> Result<Command<'a>, AllocError> {
+    let command = Command::new(alloc, "show")
         .bin_name("./show")?
         .version("0.1.0")
         .about("Shows the syntax tree of a text or a script")
-        .after_help(AFTER_HELP)
-        .arg(file)?
-        .arg(edits)?
-        .arg(page)?
-        .arg(views)?
-        .arg(plain)
+        .after_help(AFTER_HELP);
+    Ok(command)
+}
+
+/// The word that names what is shown.
+fn file<'a>(alloc: Global) -> Arg<'a> {
+    named_file(alloc, "file", "FILE").required(true).help(
+        "The text or script whose tree is shown; - reads a text from standard input",
+    )
+}
+
+/// The word that names edits.
+fn edits<'a>(alloc: Global) -> Arg<'a> {
+    named_file(alloc, "edits", "EDITS").long("edits").help(
+        "Makes the edits in this file, and says what each did; - reads them from standard input",
+    )
+}
+
+/// The word that asks for a page.
+fn page<'a>(alloc: Global) -> Arg<'a> {
+    named_file(alloc, "page", "OUT.html").long("page").help(
+        "Writes a page for a browser; - writes it to standard output",
+    )
+}
+
+/// The word that asks for kinds and texts alone.
+fn plain<'a>(alloc: Global) -> Result<Arg<'a>, AllocError> {
+    let plain = flag(alloc, "plain").help(
+        "Shows only kinds and texts; with --edits only the tree after all edits",
+    );
+    plain.conflicts_with("page")?.conflicts_with("views")
+}
+
+/// The word that asks for what views answer.
+fn views<'a>(alloc: Global) -> Arg<'a> {
+    flag(alloc, "views").help("Shows below each node what its view answers")
 }
 
 /// A word that names a file. No file has an empty name, and a part that is empty stands for no file.

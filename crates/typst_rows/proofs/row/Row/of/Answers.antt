@@ -4,8 +4,8 @@ use Rattle.typst_node.specs.Text.{text}
 use Rattle.typst_rows.proofs.RowFacts.{row_is}
 use Rattle.typst_rows.proofs.row.Row.of.Goals as goal
 
-pub returns : goal.returns
-returns c =
+pub returns-clause-returns : goal.returns-clause-returns
+returns-clause-returns c =
     let t = c.get-tree.result.now in
     let end = c.range-range.ensures.end t c.get-tree.ensures ∙ ap (λ start. start + length (text t)) c.range-range.ensures.start in
     row_is c.args.node.now t _ c.get-tree.ensures c.in_ok-depth.ensures.depth c.in_ok-depth.ensures.top c.index.ensures
