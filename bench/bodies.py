@@ -4,6 +4,7 @@
     bench/bodies.py CRATE.. [--only WORD] [--each] [--jobs N]    judges the edits of the crates
     bench/bodies.py --goals CRATE..                              also prints the goals at which each edit falls; a goal's name
                                                                  tells the clause, as `returns-clause-looks` does
+    bench/bodies.py --times --jobs 1 CRATE..                     also prints which functions took the prover longest
     bench/bodies.py --beside LOG CRATE..                         judges each crate once the `rt ci` that writes LOG has proved the
                                                                  crates below it, and builds on what that run made of them
     bench/bodies.py --apply                                      makes no check: says whether each edit of each crate can be placed,
@@ -64,6 +65,7 @@ from pathlib import Path
 from bodies_forms import change_of_form, right_bodies
 from bodies_public import without_body
 from bodies_sources import Edit, Hunk, blanked, calls_itself, copied, edit_files, edits_of, functions, in_copy, placed, reach, types
+from dearest import seconds_of, table
 
 TOP = Path(__file__).resolve().parent.parent
 SAID = re.compile(r"fn (\S+): (.*)")
@@ -130,7 +132,7 @@ class Room:
 
     def __init__(self, top, name, place, jobs, proved=None, nice=0):
         self.source, self.crate, self.jobs, self.checks = top / "crates" / name, Path(place) / "crates" / name, jobs, 0
-        self.nice, self.proved = nice, proved
+        self.nice, self.proved, self.times = nice, proved, (Counter(), Counter())
         needs = needs_of(top)
         kept = below(name, needs)
         for it in kept:
@@ -209,7 +211,10 @@ class Room:
         jobs = 1 if self.proved and not self.proved.is_over else max(1, min(self.jobs, idle_processors()))
         words = ["nice", "-n", str(self.nice), "rt", "check", "--jobs", str(jobs)]
         words += [word for it in only for word in ("--only", it)]
+        began = time.time()
         ran = subprocess.run(words, cwd=self.crate, capture_output=True, text=True)
+        for sums, new in zip(self.times, seconds_of(self.crate / "out/incremental", began)):
+            sums.update(new)
         self.text = ran.stdout + ran.stderr
         reached = REACHED.search(self.text)
         errors = [(file, text) for file, text in ERRORS.findall(self.text) if not text.startswith("`judged`")]
@@ -662,6 +667,8 @@ def judged(top, name, given, say, proved=None, nice=0):
         if given.goals:
             say("\n".join(f"  {name}/{it}: falls at {', '.join(judge.goals[it])}" for it in sorted(judge.goals)))
         judge.tell_conditions()
+        if given.times:
+            say(table(*room.times, 20))
         return judge.verdicts, bad, room.checks
 
 
@@ -725,7 +732,7 @@ def main():
     words.add_argument("--jobs", type=int, default=2, help="how many jobs a check gets at most; it gets one if no processor is idle")
     words.add_argument("--further", type=int, default=16, help="how many further checks a crate gets for what the first ones leave open")
     words.add_argument("--lanes", type=int, default=1, help="how many crates are judged at a time")
-    for flag in ("apply", "each", "goals", "test"):
+    for flag in ("apply", "each", "goals", "times", "test"):
         words.add_argument(f"--{flag}", action="store_true")
     given = words.parse_args()
     if given.apply:
