@@ -4,8 +4,8 @@
     bench/dearest.py CRATE [N]     the first N (20) functions of crates/CRATE, after `rt check --jobs 1` there
 
 A check keeps each module that it has checked as a file. With one job, the time from one file to the next is what the later module
-took. What the check took over from an earlier one, also from one in another clone, counts as nothing, and so does what a pause of
-over a minute lies before. `bench/bodies.py --times` prints the same of the checks of wrong bodies.
+took. A module that the check took over from an earlier one, also from one in another clone, isn't counted. Neither is a module after
+a gap of over five minutes. `bench/bodies.py --times` prints the same of the checks of wrong bodies.
 """
 import re
 import sys
@@ -17,7 +17,7 @@ TOP = Path(__file__).resolve().parent.parent
 BORROWS = ("Lts", "Tie")  # that the borrows are right
 PROOF = ("Proof", "Answers")  # that the goals hold
 PART = re.compile(r"\.(Lts|Tie|Proof|Answers|Goals|Given|Reads|Layout|Mir|Code|Kinds|Named|Statement|Met|Invariants|Symbol|TheLink)\b.*")
-PAUSE = 60
+GAP = 300  # in seconds; no module takes that long
 
 
 def seconds_of(kept, since=0):
@@ -25,8 +25,8 @@ def seconds_of(kept, since=0):
     files = sorted((it.stat().st_mtime, it.name) for it in kept.rglob("*.oantt"))
     functions, parts = Counter(), Counter()
     for (before, _), (at, name) in pairwise(it for it in files if it[0] > since):
-        module = name.partition("-proofs.")[2].removesuffix(".oantt").removesuffix(".decls")
-        if module and at - before < PAUSE:
+        module = name.removesuffix(".oantt").removesuffix(".decls").partition("-proofs.")[2]
+        if module and at - before < GAP:
             part, function = PART.search(module), PART.sub("", module)
             functions[function] += at - before
             parts[function, part[1] if part else ""] += at - before
