@@ -4,8 +4,8 @@
     bench/dearest.py CRATE [N]     the first N (20) functions of crates/CRATE, after `rt check --jobs 1` there
 
 A check keeps each module that it has checked as a file. With one job, the time from one file to the next is what the later module
-took. A module that the check took over from an earlier one, also from one in another clone, isn't counted. Neither is a module after
-a gap of over five minutes. `bench/bodies.py --times` prints the same of the checks of wrong bodies.
+took, if one check from nothing wrote them all. After several checks, or after a pause, some modules get too much. A gap of over five
+minutes isn't counted. `bench/bodies.py --times` prints the same of the checks of wrong bodies, without what earlier checks kept.
 """
 import re
 import sys
