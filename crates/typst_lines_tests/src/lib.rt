@@ -9,3 +9,5 @@ mod edits;
 mod lines;
 #[cfg(test)]
 mod listed;
+#[cfg(test)]
+mod rows;
