@@ -1,5 +1,6 @@
 //! Texts and their tokens, as the rules of markup give them.
 
+use crate::rows::assert_in;
 use std::alloc::{AllocError, Global};
 use std::process::Abort;
 use std::test::Fail;
@@ -19,7 +20,7 @@ fn shown(alloc: Global, text: &str) -> Result<String, AllocError> {
 fn are_cut(rt: &impl Abort, alloc: Global, rows: &[(&str, &str)]) -> Result<(), Fail> {
     for (text, want) in rows {
         let tokens = shown(alloc, text)?;
-        assert_eq!(rt; tokens.as_str(), *want, "in {text:?}");
+        assert_in(rt, text, &tokens.as_str(), want);
     }
     Ok(())
 }
