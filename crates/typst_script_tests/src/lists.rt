@@ -59,7 +59,7 @@ fn ends_that_differ_are_told(rt: HostRuntime) -> Result<(), Fail> {
     let texts = texts(rt.alloc())?;
     for (row, (front, back, mixed, wanted)) in READ.iter().enumerate() {
         let same = agree(rt.alloc(), &texts, *front, *back, *mixed)?;
-        assert_after(&rt, row, same == *wanted);
+        assert_after(&rt, row, same, *wanted);
     }
     Ok(())
 }

@@ -1,5 +1,5 @@
 //! Tests of the lines of replies.
-use crate::asserting::assert_bytes;
+use crate::asserting::assert_shown;
 use std::alloc::Global;
 use std::test::Fail;
 use typst_script::reply::print_replies;
@@ -53,11 +53,11 @@ fn prints_each_reply(rt: HostRuntime) -> Result<(), Fail> {
     let alloc = rt.alloc();
     for (reply, wanted) in &TOLD {
         let line = line_of(alloc, reply.clone()?)?;
-        assert_bytes(&rt, wanted, &line, wanted.as_bytes());
+        assert_shown(&rt, wanted, line.as_slice(), wanted.as_bytes());
     }
     for (path, offset, wanted) in &FOUND {
         let line = line_of(alloc, found(alloc, path, *offset)?)?;
-        assert_bytes(&rt, wanted, &line, wanted.as_bytes());
+        assert_shown(&rt, wanted, line.as_slice(), wanted.as_bytes());
     }
     Ok(())
 }
