@@ -1,5 +1,5 @@
 //! Tests of the accessors of typed views that answer other nodes, each by its number.
-use crate::shown::{answer, assert_answer};
+use crate::shown::assert_rows;
 use std::test::Fail;
 
 /// The number of an accessor, an index, a tree, and the node that the accessor answers of its root.
@@ -115,20 +115,7 @@ const ROWS: &str = r#"33|0|Strong[ Star:* Markup[ Text:bold ] Star:* ]|Markup: 4
 118|2|ImportItemPath[ Ident:round Dot:. Ident:circle ]|none
 118|0|ImportItems[ Ident:round ]|none"#;
 
-/// The parts of a row.
-fn parts(row: &str) -> Option<(u32, usize, &str, &str)> {
-    let (accessor, rest) = row.split_once('|')?;
-    let (index, rest) = rest.split_once('|')?;
-    let (drawing, wanted) = rest.split_once('|')?;
-    Some((accessor.parse().ok()?, index.parse().ok()?, drawing, wanted))
-}
-
 #[test]
 fn each_accessor_answers_a_node_by_its_number(rt: HostRuntime) -> Result<(), Fail> {
-    for row in ROWS.lines() {
-        let (accessor, index, drawing, wanted) = parts(row).ok_or("no row")?;
-        let said = answer(rt.alloc(), accessor, drawing, index)?;
-        assert_answer(&rt, row, said.as_str(), wanted);
-    }
-    Ok(())
+    assert_rows(&rt, ROWS)
 }

@@ -40,3 +40,22 @@ pub(crate) fn answer(
 pub(crate) fn assert_answer(rt: &impl Abort, shows: &str, said: &str, wanted: &str) {
     assert_eq!(rt; said, wanted, "{shows}");
 }
+
+/// The parts of a row.
+fn parts(row: &str) -> Option<(u32, usize, &str, &str)> {
+    let (accessor, rest) = row.split_once('|')?;
+    let (index, rest) = rest.split_once('|')?;
+    let (drawing, wanted) = rest.split_once('|')?;
+    Some((accessor.parse().ok()?, index.parse().ok()?, drawing, wanted))
+}
+
+/// Asserts that each accessor answers what it should. A line has the number of an accessor, an index, a tree, and the
+/// answer.
+pub(crate) fn assert_rows(rt: &(impl Abort + AllocGlobal), rows: &str) -> Result<(), Fail> {
+    for row in rows.lines() {
+        let (accessor, index, drawing, wanted) = parts(row).ok_or("no row")?;
+        let said = answer(rt.alloc(), accessor, drawing, index)?;
+        assert_answer(rt, row, said.as_str(), wanted);
+    }
+    Ok(())
+}
