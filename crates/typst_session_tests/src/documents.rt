@@ -1,7 +1,7 @@
 //! Documents by their own calls, which a program in Rattle makes without a session.
 use crate::answers::{Answer, edited, place, value};
 use DocumentCall::{ByteToLineColumn, Edit, LineColumnToByte, Shown};
-use std::alloc::Global;
+use std::alloc::{AllocError, Global};
 use std::ops::Range;
 use std::test::Fail;
 use typst_lines::ColumnUnit;
@@ -58,6 +58,14 @@ fn edit(alloc: Global, document: &mut Document, range: Range<usize>, with: &str)
     }
 }
 
+/// What the call answers, or why it is refused.
+fn said(alloc: Global, document: &mut Document, call: DocumentCall) -> Result<String, AllocError> {
+    match answer(alloc, document, call) {
+        Ok(said) => Ok(said),
+        Err(refusal) => format!(in alloc; "{refusal}"),
+    }
+}
+
 /// Calls on a document whose second character has two bytes.
 const CALLS: &[(DocumentCall, &str)] = &[
     (
@@ -85,10 +93,8 @@ fn a_document_answers_without_a_session(rt: HostRuntime) -> Result<(), Fail> {
     let alloc = rt.alloc();
     let mut document = Document::new(alloc, FileId::FIRST, "b\u{e9}c\n")?;
     for (call, wanted) in CALLS {
-        match answer(alloc, &mut document, *call) {
-            Ok(said) => assert_eq!(rt; said.as_str(), *wanted),
-            Err(refusal) => assert_eq!(rt; format!(in alloc; "{refusal}")?.as_str(), *wanted),
-        }
+        let said = said(alloc, &mut document, *call)?;
+        assert_eq!(rt; said.as_str(), *wanted);
     }
     Ok(())
 }
