@@ -1,4 +1,5 @@
 //! Building a tree.
+use crate::rows::assert_text;
 use std::alloc::{AllocError, Global};
 use std::test::Fail;
 use typst_tree::SyntaxKind::{Heading, HeadingMarker, Markup, Parbreak, Space, Star, Strong, Text};
@@ -30,12 +31,10 @@ pub(crate) fn document(alloc: Global) -> Result<SyntaxNode, InnerError> {
 #[test]
 fn a_tree_keeps_its_text(rt: HostRuntime) -> Result<(), Fail> {
     let tree = document(rt.alloc())?;
-    assert_eq!(rt;
-        tree.full_text(rt.alloc())?.as_str(),
-        "= Hello\n\nSee *this*"
-    );
-    assert_eq!(rt; tree.len(), 19);
-    assert_eq!(rt; tree.descendants(), 13);
+    assert!(rt; tree.len() == 19);
+    assert!(rt; tree.descendants() == 13);
+    let text = tree.full_text(rt.alloc())?;
+    assert_text(&rt, "the document", "text", &text, "= Hello\n\nSee *this*");
     Ok(())
 }
 

@@ -1,4 +1,6 @@
 //! The examples of the crates' own documents.
+use crate::rows::assert_text;
+use std::alloc::Global;
 use std::test::Fail;
 use typst_drawn::{labels, numbered};
 use typst_tree::ast::{self, AstNode, BinOp, Binary, Expr, Int, Str};
@@ -31,16 +33,22 @@ fn mappers(rt: HostRuntime) -> Result<(), Fail> {
     Ok(())
 }
 
-#[test]
-fn nodes(rt: HostRuntime) -> Result<(), Fail> {
-    let alloc = rt.alloc();
+/// A tree of two texts.
+fn two(alloc: Global) -> Result<SyntaxNode, Fail> {
     let ab = SyntaxNode::leaf(alloc, SyntaxKind::Text, "ab")?;
     let c = SyntaxNode::leaf(alloc, SyntaxKind::Text, "c")?;
     let mut tree = SyntaxNode::inner(alloc, SyntaxKind::Markup, vec![in alloc; ab, c]?)?;
     tree.numberize(FileId::FIRST, 2..14)?;
     // The root has number 3 and bound 14, its children have 5 and 7.
-    assert_eq!(rt; labels(alloc, &tree)?.as_str(), "3..14[5..6 7..8]");
+    Ok(tree)
+}
+
+#[test]
+fn nodes(rt: HostRuntime) -> Result<(), Fail> {
+    let tree = two(rt.alloc())?;
     assert!(rt; tree.cast::<ast::Markup>().is_some());
+    let labels = labels(rt.alloc(), &tree)?;
+    assert_text(&rt, "two texts", "labels", &labels, "3..14[5..6 7..8]");
     Ok(())
 }
 

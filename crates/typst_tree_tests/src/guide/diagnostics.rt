@@ -1,9 +1,13 @@
 //! Errors, warnings, and spans of generated text.
-use std::alloc::Global;
+use crate::rows::assert_text;
+use std::alloc::{AllocError, Global};
 use std::ops::Range;
+use std::process::Abort;
 use std::test::Fail;
+use typst_drawn::drawn;
 use typst_tree::{
-    FileId, InnerError, RangeMapper, Span, SpanKind, SyntaxKind, SyntaxNode, SynthesizeError,
+    FileId, InnerError, RangeMapper, Span, SpanKind, SyntaxDiagnostic, SyntaxKind, SyntaxNode,
+    SynthesizeError,
 };
 
 /// `*a` whose end is missing, with a warning about the `a`.
@@ -20,19 +24,30 @@ fn broken(alloc: Global) -> Result<SyntaxNode, InnerError> {
     SyntaxNode::inner(alloc, SyntaxKind::Strong, parts)
 }
 
+/// The message of each diagnostic, and how many hints it has.
+fn listed(alloc: Global, diagnostics: &[SyntaxDiagnostic]) -> Result<String, AllocError> {
+    let mut words = String::new(alloc);
+    for diagnostic in diagnostics {
+        let hints = diagnostic.hints.len();
+        writeln!(words, "{}, hints: {hints}", diagnostic.message.as_str())?;
+    }
+    Ok(words)
+}
+
+/// The words for a tree's errors, and those for its warnings.
+fn told(alloc: Global, tree: &SyntaxNode) -> Result<(String, String), AllocError> {
+    let (errors, warnings) = tree.errors_and_warnings(alloc)?;
+    Ok((listed(alloc, &errors)?, listed(alloc, &warnings)?))
+}
+
 #[test]
 fn a_tree_tells_its_errors_and_warnings(rt: HostRuntime) -> Result<(), Fail> {
     let tree = broken(rt.alloc())?;
     assert!(rt; tree.diagnosis().both());
-    let (errors, warnings) = tree.errors_and_warnings(rt.alloc())?;
-    for error in &errors {
-        assert_eq!(rt; error.message.as_str(), "unclosed delimiter");
-        assert_eq!(rt; error.hints.len(), 1);
-    }
-    for warning in &warnings {
-        assert_eq!(rt; warning.message.as_str(), "a short text");
-    }
-    assert!(rt; errors.len() == 1 && warnings.len() == 1);
+    let (errors, warnings) = told(rt.alloc(), &tree)?;
+    let (error, warning) = ("unclosed delimiter, hints: 1\n", "a short text, hints: 0\n");
+    assert_text(&rt, "a tree", "errors", &errors, error);
+    assert_text(&rt, "a tree", "warnings", &warnings, warning);
     Ok(())
 }
 
@@ -59,18 +74,18 @@ fn bytes(span: Span) -> Option<Range<usize>> {
     }
 }
 
+/// Asserts the ranges that the children of a node have.
+fn assert_children(rt: &impl Abort, tree: &SyntaxNode, wanted: &[Range<usize>]) {
+    for (child, range) in tree.children().zip(wanted) {
+        assert!(rt; bytes(child.span()) == Some(range.start..range.end));
+    }
+}
+
 #[test]
 fn generated_text_has_the_ranges_of_its_original(rt: HostRuntime) -> Result<(), Fail> {
-    let alloc = rt.alloc();
-    let texts = vec![in alloc;
-        SyntaxNode::leaf(alloc, SyntaxKind::Text, "ab")?,
-        SyntaxNode::leaf(alloc, SyntaxKind::Text, "cd")?,
-    ]?;
-    let mut tree = SyntaxNode::inner(alloc, SyntaxKind::Markup, texts)?;
-    synthesize(alloc, &mut tree, FileId::FIRST, &[2..5, 8..10])?;
+    let mut tree = drawn(rt.alloc(), "Markup[ Text:ab Text:cd ]")?;
+    synthesize(rt.alloc(), &mut tree, FileId::FIRST, &[2..5, 8..10])?;
     assert!(rt; bytes(tree.span()) == Some(2..9));
-    for (child, wanted) in tree.children().zip([2..4, 4..9]) {
-        assert!(rt; bytes(child.span()) == Some(wanted));
-    }
+    assert_children(&rt, &tree, &[2..4, 4..9]);
     Ok(())
 }

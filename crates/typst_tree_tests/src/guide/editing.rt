@@ -1,5 +1,6 @@
 //! Numbering and editing a tree.
 use crate::guide::building::document;
+use crate::rows::assert_text;
 use std::alloc::Global;
 use std::ops::Range;
 use std::test::Fail;
@@ -32,7 +33,8 @@ fn an_edit_is_done_at_any_depth(rt: HostRuntime) -> Result<(), Fail> {
     assert!(rt; done.window == (1..2) && done.tried == 1);
     // The first two children of the root go.
     tree.remove(alloc, &[], 0..2)?;
-    assert_eq!(rt; tree.root().full_text(alloc)?.as_str(), "See *this too*");
+    let text = tree.root().full_text(alloc)?;
+    assert_text(&rt, "two edits", "text", &text, "See *this too*");
     Ok(())
 }
 

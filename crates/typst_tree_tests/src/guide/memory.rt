@@ -1,5 +1,7 @@
 //! What is answered where memory is refused.
 use crate::guide::editing::numbered;
+use crate::rows::assert_text;
+use std::alloc::Global;
 use std::test::Fail;
 use typst_tree::session::Reply;
 use typst_tree::{InnerError, ReplaceError, Span};
@@ -15,16 +17,18 @@ fn wants_memory(reply: &Reply) -> bool {
     }
 }
 
+/// What a search answers whose node is found.
+fn found(alloc: Global) -> Result<Reply, Fail> {
+    let tree = numbered(alloc, Span::FULL)?;
+    Ok(tree.find(alloc, tree.root().span()))
+}
+
 #[test]
 fn memory_has_answers_of_its_own(rt: HostRuntime) -> Result<(), Fail> {
     assert!(rt; wants_memory(&Reply::NoMemory));
     assert!(rt; wants_memory(&Reply::Refused(ReplaceError::Memory)));
-    let alloc = rt.alloc();
-    let tree = numbered(alloc, Span::FULL)?;
-    assert!(rt; !wants_memory(&tree.find(alloc, tree.root().span())));
-    assert_eq!(rt;
-        format!(in alloc; "{}", InnerError::Memory)?.as_str(),
-        "out of memory"
-    );
+    assert!(rt; !wants_memory(&found(rt.alloc())?));
+    let said = format!(in rt.alloc(); "{}", InnerError::Memory)?;
+    assert_text(&rt, "an error", "text", &said, "out of memory");
     Ok(())
 }

@@ -1,10 +1,10 @@
 //! Reading markup, math and code by views.
 use crate::guide::building::document;
+use crate::rows::assert_text;
 use std::alloc::{AllocError, Global};
+use std::process::Abort;
 use std::test::Fail;
-use typst_tree::SyntaxKind::{
-    Code, Eq, Equation, Ident, Int, Let, LetBinding, Math, MathFrac, MathText, Slash,
-};
+use typst_drawn::drawn;
 use typst_tree::ast::{AstNode, Expr};
 use typst_tree::{LinkedNode, SyntaxNode};
 
@@ -38,35 +38,28 @@ fn text<'a>(expr: Expr<'a>) -> &'a str {
     }
 }
 
-/// `a/b` as math.
-fn equation(alloc: Global) -> Result<SyntaxNode, Fail> {
-    let parts = vec![in alloc;
-        SyntaxNode::leaf(alloc, MathText, "a")?,
-        SyntaxNode::leaf(alloc, Slash, "/")?,
-        SyntaxNode::leaf(alloc, MathText, "b")?,
-    ]?;
-    let math = vec![in alloc; SyntaxNode::inner(alloc, MathFrac, parts)?]?;
-    let equation = vec![in alloc; SyntaxNode::inner(alloc, Math, math)?]?;
-    Ok(SyntaxNode::inner(alloc, Equation, equation)?)
+/// Asserts the summary of a tree.
+fn assert_summary(
+    rt: &(impl Abort + AllocGlobal),
+    shows: &str,
+    tree: &SyntaxNode,
+    wanted: &str,
+) -> Result<(), Fail> {
+    let said = summary(rt.alloc(), tree)?;
+    assert_text(rt, shows, "summary", &said, wanted);
+    Ok(())
 }
 
+/// `a/b` as math.
+const EQUATION: &str = "Equation[ Math[ MathFrac[ MathText:a Slash:/ MathText:b ] ] ]";
+
 /// `let x=1` as code.
-fn code(alloc: Global) -> Result<SyntaxNode, Fail> {
-    let parts = vec![in alloc;
-        SyntaxNode::leaf(alloc, Let, "let")?,
-        SyntaxNode::leaf(alloc, Ident, "x")?,
-        SyntaxNode::leaf(alloc, Eq, "=")?,
-        SyntaxNode::leaf(alloc, Int, "1")?,
-    ]?;
-    let code = vec![in alloc; SyntaxNode::inner(alloc, LetBinding, parts)?]?;
-    Ok(SyntaxNode::inner(alloc, Code, code)?)
-}
+const CODE: &str = "Code[ LetBinding[ Let:let Ident:x Eq:= Int:1 ] ]";
 
 #[test]
 fn views_read_markup_math_and_code(rt: HostRuntime) -> Result<(), Fail> {
     let alloc = rt.alloc();
-    assert_eq!(rt; summary(alloc, &document(alloc)?)?.as_str(), "heading 1\n");
-    assert_eq!(rt; summary(alloc, &equation(alloc)?)?.as_str(), "a over b\n");
-    assert_eq!(rt; summary(alloc, &code(alloc)?)?.as_str(), "let x\n");
-    Ok(())
+    assert_summary(&rt, "markup", &document(alloc)?, "heading 1\n")?;
+    assert_summary(&rt, "math", &drawn(alloc, EQUATION)?, "a over b\n")?;
+    assert_summary(&rt, "code", &drawn(alloc, CODE)?, "let x\n")
 }

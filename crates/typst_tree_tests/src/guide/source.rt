@@ -1,5 +1,7 @@
 //! A text, its tree, and edits.
-use std::alloc::Global;
+use crate::rows::assert_text;
+use std::alloc::{AllocError, Global};
+use std::ops::Range;
 use std::test::Fail;
 use typst_lines::{ColumnUnit, Lines};
 use typst_markup::Markup;
@@ -23,10 +25,8 @@ fn an_edit_parses_the_blocks_anew_that_it_touches(rt: HostRuntime) -> Result<(),
     let done = source.edit(alloc, range, "node")?;
     assert!(rt; done.reparsed == (18..36));
     assert!(rt; done.renumbered.window == (6..7) && done.renumbered.tried == 1);
-    assert_eq!(rt;
-        source.text(),
-        "= Trees of Typst\n\nSee *this* node.\n\nThe end.\n"
-    );
+    let wanted = "= Trees of Typst\n\nSee *this* node.\n\nThe end.\n";
+    assert_text(&rt, "an edit", "text", source.text(), wanted);
     Ok(())
 }
 
@@ -35,7 +35,7 @@ fn a_span_leads_to_its_node_after_edits(rt: HostRuntime) -> Result<(), Fail> {
     let alloc = rt.alloc();
     let mut source = parsed(alloc)?;
     let strong = source.root().children().nth(4).ok_or("no child")?;
-    assert_eq!(rt; strong.kind(), SyntaxKind::Strong);
+    assert!(rt; strong.kind() == SyntaxKind::Strong);
     let span = strong.span();
     // Four bytes come before it, and the number stays.
     let edit = TextEdit {
@@ -49,6 +49,18 @@ fn a_span_leads_to_its_node_after_edits(rt: HostRuntime) -> Result<(), Fail> {
     assert_eq!(rt; node.get().kind(), SyntaxKind::Strong);
     assert!(rt; source.range(alloc, span)? == Some(26..32));
     Ok(())
+}
+
+/// The bytes of the first error of a source.
+fn place_of_error(
+    alloc: Global,
+    source: &Source<Markup>,
+) -> Result<Option<Range<usize>>, AllocError> {
+    let (errors, _) = source.root().errors_and_warnings(alloc)?;
+    Ok(match errors.first() {
+        Some(error) => source.place_of(&error.span),
+        None => None,
+    })
 }
 
 #[test]
@@ -68,9 +80,7 @@ fn a_run_goes_on_after_an_edit_that_doesnt_fit(rt: HostRuntime) -> Result<(), Fa
     let outcomes = source.run(alloc, &edits)?;
     assert!(rt; matches!(outcomes.as_slice(), [Outcome::Misfit, Outcome::Edited(_)]));
     // The star that closed is gone, and the one that opens is an error.
-    let (errors, _) = source.root().errors_and_warnings(alloc)?;
-    let error = errors.first().ok_or("no error")?;
-    assert!(rt; source.place_of(&error.span) == Some(22..23));
+    assert!(rt; place_of_error(alloc, &source)? == Some(22..23));
     Ok(())
 }
 

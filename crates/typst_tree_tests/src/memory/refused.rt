@@ -86,7 +86,7 @@ fn a_growth_that_is_refused_changes_nothing(rt: HostRuntime) -> Result<(), Fail>
     let mut requests = growths(alloc)?;
     let mut scarce = Scarce::new(alloc, PASSES)?;
     let refused = refused_growths(alloc, &mut scarce, &mut requests, &mut tree, &before);
-    assert!(rt; refused.is_some_and(|passes| 1 <= passes) && tree.root().len() == 42);
+    assert!(rt; matches!(refused, Some(1..)) && tree.root().len() == 42);
     Ok(())
 }
 
@@ -121,7 +121,7 @@ fn a_conversion_that_is_refused_changes_nothing(rt: HostRuntime) -> Result<(), F
     let before = node.clone()?;
     let mut scarce = Scarce::new(alloc, PASSES)?;
     let refused = refused_conversions(alloc, &mut scarce, &mut node, &before);
-    assert!(rt; refused.is_some_and(|passes| 1 <= passes) && node != before);
+    assert!(rt; matches!(refused, Some(1..)) && node != before);
     Ok(())
 }
 

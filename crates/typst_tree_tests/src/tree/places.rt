@@ -3,6 +3,7 @@ use crate::rows::assert_text;
 use crate::tree::asking::{kept, span_of};
 use std::alloc::Global;
 use std::ops::Range;
+use std::process::Abort;
 use std::test::Fail;
 use typst_drawn::DrawingError;
 use typst_tree::{DiagSpan, FileId, NumberedTree, SubRange};
@@ -71,12 +72,25 @@ fn place(alloc: Global, tree: &NumberedTree, points: &Points) -> Result<String, 
     Ok(format!(in alloc; "{:?}", tree.place_of(&pointing(points)?))?)
 }
 
-#[test]
-fn a_diagnostic_leads_to_its_bytes(rt: HostRuntime) -> Result<(), Fail> {
-    let alloc = rt.alloc();
-    let tree = kept(alloc, TREE, 2..30)?;
-    for (shows, points, wanted) in &ROWS {
-        assert_text(&rt, shows, "place", &place(alloc, &tree, points)?, wanted);
+/// Asserts the bytes that each row points to in a tree.
+fn assert_places(
+    rt: &(impl Abort + AllocGlobal),
+    tree: &NumberedTree,
+    rows: &[(&str, Points, &str)],
+) -> Result<(), Fail> {
+    for (shows, points, wanted) in rows {
+        assert_text(
+            rt,
+            shows,
+            "place",
+            &place(rt.alloc(), tree, points)?,
+            wanted,
+        );
     }
     Ok(())
+}
+
+#[test]
+fn a_diagnostic_leads_to_its_bytes(rt: HostRuntime) -> Result<(), Fail> {
+    assert_places(&rt, &kept(rt.alloc(), TREE, 2..30)?, &ROWS)
 }
