@@ -1,5 +1,5 @@
 //! Tests of columns.
-use crate::rows::assert_at;
+use crate::rows::{assert_at, assert_place};
 use std::alloc::{AllocError, Global};
 use std::process::Abort;
 use std::test::Fail;
@@ -72,7 +72,7 @@ fn assert_places(
 ) -> Result<(), Fail> {
     for (line, column, wanted) in rows {
         let found = places(rt.alloc(), TEXT, *line, *column)?;
-        assert_at(rt, TEXT, *column, found == *wanted);
+        assert_place(rt, *line, *column, found == *wanted);
     }
     Ok(())
 }

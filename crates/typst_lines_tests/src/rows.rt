@@ -7,6 +7,11 @@ pub(crate) fn assert_at(rt: &impl Abort, text: &str, number: usize, holds: bool)
     assert!(rt; holds, "{text:?} {number}");
 }
 
+/// Asserts that a row about a line and a column holds, and says which they are.
+pub(crate) fn assert_place(rt: &impl Abort, line: usize, column: usize, holds: bool) {
+    assert!(rt; holds, "{line} {column}");
+}
+
 /// Asserts that the lines of a text begin where they should.
 pub(crate) fn assert_starts(rt: &impl Abort, text: &str, starts: &[usize], wanted: &[usize]) {
     assert_eq!(rt; starts, wanted, "{text:?}");
