@@ -361,8 +361,9 @@ class Judge:
         return None
 
     def depth(self, function):
-        """How far a function is from being a control that calls nothing. Less is better."""
-        return self.hides_calls(function), bool(self.reached.get(function)), function.end - function.body
+        """How far a function is from being a control that calls nothing. Less is better. A call in a trait's method may need all methods
+        of the type's impl blocks, also of other traits, and the batch empties these, so such a method is a worse control."""
+        return self.hides_calls(function), bool(function.trait), bool(self.reached.get(function)), function.end - function.body
 
     def hides_calls(self, function):
         """How many signs of hidden calls its body has: operators, and calls through which a trait's method may run."""
