@@ -361,8 +361,8 @@ class Judge:
         return None
 
     def depth(self, function):
-        """How far a function is from being a control that calls nothing. Less is better. A call in a trait's method may need all methods
-        of the type's impl blocks, also of other traits, and the batch empties these, so such a method is a worse control."""
+        """How far a function is from being a control that calls nothing. Less is better. A trait's method may pass the other impl blocks
+        of its type. The batch empties their methods, and then the method isn't proved, so other functions come first."""
         return self.hides_calls(function), bool(function.trait), bool(self.reached.get(function)), function.end - function.body
 
     def hides_calls(self, function):
