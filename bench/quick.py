@@ -1,0 +1,150 @@
+#!/usr/bin/env python3
+"""Runs what tells most in a few minutes and needs no proof: ./gate --quick.
+
+    bench/quick.py
+
+It works in a clean clone, four parts at a time, the longest first:
+
+- the checks of bench/seconds;
+- the tests of each crate that has some, by `rt try --test`;
+- the programs of examples/README.md and the trees of markup in typst_agreement, by `rt try`: each must print its `stdout`;
+- the scripts and the looks in examples/, and the letter with its edit by ./show: each must print its `NAME.stdout`.
+
+`rt try` builds without a proof, and tests while a program runs what the proof would show. It tests no contract.
+
+The last line is 'N passed, M failed'. Each check, each test and each program, script or look counts.
+"""
+import os
+import re
+import shlex
+import shutil
+import subprocess
+import sys
+import tempfile
+import time
+from concurrent.futures import ThreadPoolExecutor, as_completed
+from pathlib import Path
+
+TOP = Path(__file__).resolve().parent.parent
+CRATES, EXAMPLES = TOP / "crates", TOP / "examples"
+LANES = min(4, len(os.sched_getaffinity(0)))
+# `rt try` as it is called here. Where a machine has much to do, a program may take longer than the minute that it gets otherwise.
+TRY = ["rt", "try", "--seconds", "600"]
+# What the names of tests begin with that `rt try` can't run: they take all memory, and its allocator keeps some for itself.
+WITH_ALL_MEMORY = "memory::refused::"
+# The program that compares trees of markup.
+AGREEMENT = "typst_agreement"
+# The programs that read scripts and looks.
+READERS = {".script": "typst_tree_main", ".look": "typst_look"}
+LEFT_OUT = """Left out, and in ./gate: every proof, and so whether contracts hold; the wrong bodies that the prover must refuse; the tests that take
+all memory; the answers of typst_look; words, pages and inputs of ./show; refused memory and failing reads; the C header and the Rust
+crate; bounds of work."""
+
+
+def ran(words, folder, stdin=None):
+    """What a command gives. Without a file its standard input is empty."""
+    with open(stdin or os.devnull, "rb") as lines:
+        return subprocess.run(words, cwd=folder, stdin=lines, capture_output=True, check=False)
+
+
+def told(done):
+    """The end of what a command printed, for a part that failed."""
+    return (done.stdout + done.stderr).decode(errors="replace").strip()[-2000:]
+
+
+def check(words):
+    """A check of bench/seconds."""
+    done = ran(shlex.split(words), TOP)
+    return int(done.returncode == 0), int(done.returncode != 0), told(done)
+
+
+def tests(name):
+    """The tests of a crate. If they can't be built or don't end, that counts as one that failed."""
+    done = ran([*TRY, "--test"], CRATES / name)
+    said = done.stdout.decode(errors="replace")
+    ends = [(test, end) for test, end in re.findall(r"^test (\S+) \.\.\. (\w+)$", said, re.M) if not test.startswith(WITH_ALL_MEMORY)]
+    failed = [test for test, end in ends if end != "ok"]
+    is_whole = ends and re.search(r"^test result: ", said, re.M)
+    shown = [it for it in re.split(r"^(?=test )", said, flags=re.M) if any(it.startswith(f"test {test} ") for test in failed)]
+    return len(ends) - len(failed), len(failed) or int(not is_whole), "".join(shown) or told(done)
+
+
+def program(name):
+    """A program that must print its `stdout` and end with its `status`."""
+    folder = CRATES / name
+    args = (folder / "args").read_text().split("\n")[:-1] if (folder / "args").exists() else []
+    data = [word for it in sorted(folder.glob("data/*")) for word in ("--data", f"{it.name}={it}")]
+    stdin = folder / "stdin" if (folder / "stdin").exists() else None
+    done = ran([*TRY, *data, "--", *args], folder, stdin)
+    status = int((folder / "status").read_text()) if (folder / "status").exists() else 0
+    return compared(done, folder / "stdout", status)
+
+
+def compared(done, wanted, status=0):
+    """Whether a command has printed what is in a file, and ended with this status."""
+    is_right = done.stdout == wanted.read_bytes() and done.returncode == status
+    how = f"status {done.returncode}, and {status} is wanted; standard output should be {wanted.relative_to(TOP)}\n"
+    return int(is_right), int(not is_right), how + told(done)
+
+
+def scripts(ending):
+    """The scripts or the looks of examples/, by one build. Its last line counts those that ended, whatever their output."""
+    files = sorted(EXAMPLES.glob(f"*{ending}"))
+    with tempfile.TemporaryDirectory() as room:
+        for it in files:
+            shutil.copy(it, Path(room, it.stem))
+            shutil.copy(it.with_suffix(".stdout"), room)
+        done = ran([*TRY, "--cases", room], CRATES / READERS[ending])
+    passed = len(re.findall(rb"^case=\S+ run=ended status=0 .*output=expected", done.stdout + done.stderr, re.M))
+    return passed, len(files) - passed or int(done.returncode != 0 or not files), told(done)
+
+
+def letter():
+    """The letter and its edit, by ./show."""
+    done = ran(["./show", "examples/letter.typ", "--edits", "examples/letter.edits"], TOP)
+    return compared(done, EXAMPLES / "letter.stdout")
+
+
+def parts():
+    """What is run, the longest first: a name, a call, and its arguments."""
+    yield AGREEMENT, program, AGREEMENT
+    for file in sorted(CRATES.glob("*/src"), key=lambda it: -sum(source.stat().st_size for source in it.rglob("*.rt"))):
+        if any("#[test]" in source.read_text() for source in file.rglob("*.rt")):
+            yield f"tests of {file.parent.name}", tests, file.parent.name
+    yield "the letter by ./show", letter
+    for ending in READERS:
+        yield f"examples/*{ending}", scripts, ending
+    for name in sorted(it.name for it in CRATES.glob("example_*")):
+        yield name, program, name
+    for words in ran(["bench/seconds", "--list"], TOP).stdout.decode().splitlines() or ["bench/seconds --list"]:
+        yield words, check, words
+
+
+def timed(call, given):
+    """What a part gives, and how many seconds it took."""
+    began = time.monotonic()
+    return (*call(*given), time.monotonic() - began)
+
+
+def main():
+    began, passed, failed, lost = time.monotonic(), 0, 0, []
+    with ThreadPoolExecutor(LANES) as pool:
+        running = {pool.submit(timed, call, given): name for name, call, *given in parts()}
+        for it in as_completed(running):
+            name = running[it]
+            good, bad, text, seconds = it.result()
+            passed, failed = passed + good, failed + bad
+            print(f"{name}: {good} passed, {bad} failed, {seconds:.0f} seconds", flush=True)
+            if bad:
+                print(text, flush=True)
+            lost += [name] * bool(bad)
+    print(LEFT_OUT)
+    for name in lost:
+        print(f"failed: {name}")
+    print(f"this took {time.monotonic() - began:.0f} seconds on {LANES} processors")
+    print(f"{passed} passed, {failed} failed")
+    return 1 if failed else 0
+
+
+if __name__ == "__main__":
+    sys.exit(main())
