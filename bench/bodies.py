@@ -5,11 +5,15 @@
     bench/bodies.py --goals CRATE..                              also prints the goals at which each edit falls; a goal's name
                                                                  tells the clause, as `returns-clause-looks` does
     bench/bodies.py --times --jobs 1 CRATE..                     also prints which functions took the prover longest
+    bench/bodies.py --turn commit CRATE..                        judges all edits of must-fail/, and an eighth of the others
     bench/bodies.py --beside LOG CRATE..                         judges each crate once the `rt ci` that writes LOG has proved the
                                                                  crates below it, and builds on what that run made of them
     bench/bodies.py --apply                                      makes no check: says whether each edit of each crate can be placed,
                                                                  and whether each public function with clauses has an edit
     bench/bodies.py --test                                       judges a small made-up crate whose verdicts are known
+
+Turns. The name of an edit, with its crate's, says in which of eight turns it is judged. The turn of a commit is the number of commits up
+to it, along first parents, modulo eight. So eight commits in a row try all edits. `--turn 3` names a turn.
 
 What an edit is. It has the lines `file: src/node/x.rt`, `in: Type::method`, `old: TEXT` and `new: TEXT`, and each text is one line.
 The line `in:` names a function (`in: function`, `in: Type::method`, `in: Trait for Type::method`, or `in: From<u8> for ..` where a
@@ -58,6 +62,7 @@ import sys
 import tempfile
 import threading
 import time
+import zlib
 from collections import Counter
 from concurrent.futures import ThreadPoolExecutor
 from pathlib import Path
@@ -76,6 +81,7 @@ GOAL = "`search` did not prove `"
 NAMED = re.compile(r"`search` did not prove `([^`]+)`|error: `([^`]+)`")  # a goal, or a declaration of a proof file
 VANISHED = re.compile(r"has no field|is not in scope|has no `|was not admitted")  # the edit took a name away: it says little
 MANY = 100  # a crate with more edits takes longest
+TURNS = 8  # in how many turns the edits outside must-fail/ are judged
 REFUSED = ("goal", "proof file")  # the two ways of a failure of its own
 OF_CLAUSE = re.compile(r"\breturns\b|loop-.*-(?:preserved|init)|invariant_of|-bits")  # goals of what the function promises
 UNSEEN = re.compile(r"[=!<>]=|[?+*/<>-]|\bfor\b")  # what may call a method of a trait that the body doesn't name
@@ -221,6 +227,34 @@ class Room:
         return (said_in(self.text), errors) if reached else ({}, [])
 
 
+def turn_of(crate, name):
+    """The turn in which an edit outside must-fail/ is judged."""
+    return zlib.crc32(f"{crate}/{name}".encode()) % TURNS
+
+
+def judged_in(turn, crate):
+    """The names of the edits of a crate that are judged in this turn. Without one all are."""
+    return {it.stem for it in edit_files(crate) if turn is None or it.parent.name == "must-fail" or turn_of(crate.name, it.stem) == turn}
+
+
+def turn_of_commit(top=TOP):
+    """The turn of the commit that is checked out, and how it was found. Where there is no commit, there is no turn."""
+
+    def told(*words):
+        ran = subprocess.run(["git", *words], cwd=top, capture_output=True, text=True, check=False)
+        return "" if ran.returncode else ran.stdout.strip()
+
+    commit = told("rev-parse", "HEAD")
+    if not commit:
+        return None, "there is no commit here, so all wrong bodies are judged"
+    if told("rev-parse", "--is-shallow-repository") != "false":
+        turn = int(commit, 16) % TURNS
+        why = "from the commit's own name, since this clone lacks history: eight commits in a row may leave wrong bodies out"
+        return turn, f"turn {turn} of {TURNS}, {why}"
+    count = int(told("rev-list", "--count", "--first-parent", "HEAD"))
+    return count % TURNS, f"turn {count % TURNS} of {TURNS}, as {count} commits lead here"
+
+
 def idle_processors():
     """How many processors are idle, without this process. Two jobs of one check take a quarter more processor time than one job, so
     beside a run of `rt ci`, which has a use for each processor, a check gets one."""
@@ -295,10 +329,11 @@ def outcome(path, cycle, said, errors):
 class Judge:
     """The edits of one crate, and what is known of them."""
 
-    def __init__(self, room, say, only, bad):
+    def __init__(self, room, say, only, turn, bad):
         self.room, self.say, self.bad = room, say, bad
         self.functions, self.types = functions(room.source), types(room.source)
-        self.edits = edits_of(room.source, self.functions, bad, only)
+        names = judged_in(turn, room.source)
+        self.edits = [it for it in edits_of(room.source, self.functions, bad, only) if it.name in names]
         self.reached = reach(room.source, self.functions)
         self.verdicts, self.spoiled, self.goals, self.known, self.made = {}, set(), {}, {}, {}
 
@@ -661,7 +696,7 @@ def judged(top, name, given, say, proved=None, nice=0):
     bad = []
     with tempfile.TemporaryDirectory(prefix="bodies-") as place:
         room = Room(top, name, place, given.jobs, proved, nice)
-        judge = Judge(room, say, given.only, bad)
+        judge = Judge(room, say, given.only, given.turn, bad)
         judge.judge(given.each, given.further)
         judge.look_at_forms()
         bad += [f"{name}/{it}: NOT REFUSED" for it, way in judge.verdicts.items() if way == "not refused"]
@@ -675,6 +710,10 @@ def judged(top, name, given, say, proved=None, nice=0):
 
 def report(name, given, proved, nice):
     """Judges a crate, prints the result, and returns what is wrong."""
+    crate = TOP / "crates" / name
+    if edit_files(crate) and not judged_in(given.turn, crate):
+        print(f"{name}: none of its {len(edit_files(crate))} wrong bodies has this turn", flush=True)
+        return []
     if proved and not proved.has(below(name, needs_of(TOP))):
         line = f"{name}: not judged: a crate below it isn't proved"
         print(line, flush=True)
@@ -696,6 +735,9 @@ def judge_all(given):
 
     Crates with many edits take longest, so the others run at a lower priority. Otherwise they would still run after all others."""
     edits = {it: len(edit_files(TOP / "crates" / it)) for it in given.crates}
+    if given.how:
+        count = sum(len(judged_in(given.turn, TOP / "crates" / it)) for it in given.crates)
+        print(f"{given.how}: {count} of {sum(edits.values())} wrong bodies are judged, with all of must-fail/", flush=True)
     names = sorted(edits, key=lambda it: -edits[it])
     with tempfile.TemporaryDirectory(prefix="proved-") as place, ThreadPoolExecutor(given.lanes) as pool:
         proved = Proved(given.beside, place) if given.beside else None
@@ -729,6 +771,7 @@ def main():
     words = argparse.ArgumentParser(description=__doc__, formatter_class=argparse.RawDescriptionHelpFormatter)
     words.add_argument("crates", nargs="*")
     words.add_argument("--only", default="", help="judge only the edits with this word in their names; commas separate several words")
+    words.add_argument("--turn", metavar="commit|N", help="judge all edits of must-fail/, and of the others those of this turn")
     words.add_argument("--beside", metavar="LOG", default="", help="build on what the run of rt ci with this log proves")
     words.add_argument("--jobs", type=int, default=2, help="how many jobs a check gets at most; it gets one if no processor is idle")
     words.add_argument("--further", type=int, default=16, help="how many further checks a crate gets for what the first ones leave open")
@@ -736,6 +779,12 @@ def main():
     for flag in ("apply", "each", "goals", "times", "test"):
         words.add_argument(f"--{flag}", action="store_true")
     given = words.parse_args()
+    if given.turn not in (None, "commit", *map(str, range(TURNS))):
+        words.error(f"--turn is commit or a number below {TURNS}, not {given.turn}")
+    if given.turn == "commit":
+        given.turn, given.how = turn_of_commit()
+    else:
+        given.turn, given.how = given.turn and int(given.turn), given.turn and f"turn {given.turn} of {TURNS}"
     if given.apply:
         return 0 if apply_all() else 1
     if given.test:

@@ -1,8 +1,10 @@
-"""A small made-up crate with right and wrong bodies, on which each verdict of the judge is known."""
+"""A small made-up crate with right and wrong bodies, on which each verdict of the judge is known, and a test of the judge's turns."""
+import subprocess
 import tempfile
+from collections import Counter
 from pathlib import Path
 
-from bodies import TOP, judged
+from bodies import TOP, TURNS, edit_files, judged, judged_in, turn_of, turn_of_commit
 
 LIB = """#![tactic(auto)]
 
@@ -208,20 +210,13 @@ abbrev pub decreases-is_odd : goal.decreases-is_odd
 decreases-is_odd l = l.n
 """
 
-TURNS = """use Rattle.made_up.proofs.+turns.Given as goal
+PING_MEASURE = """use Rattle.made_up.proofs.+turns.Given as goal
 
 abbrev pub decreases-ping : goal.decreases-ping
 decreases-ping l = l.n
 
 abbrev pub decreases-pong : goal.decreases-pong
 decreases-pong l = l.n
-"""
-
-TURN = """use Rattle.std.proofs.Common.{refl}
-use Rattle.made_up.proofs.+turns.Goals as goal
-
-pub pong-returns : goal.pong-returns
-pong-returns t c = refl
 """
 
 MEASURE = """use Rattle.made_up.proofs.+down.Given as goal
@@ -241,7 +236,7 @@ FILES = {
     "proofs/kept/Answers.antt": ANSWER.replace("NAME", "kept"),
     "proofs/renamed/Answers.antt": ANSWER.replace("NAME", "renamed"),
     "proofs/+parity/Invariants.antt": MEASURES,
-    "proofs/+turns/Invariants.antt": TURNS,
+    "proofs/+turns/Invariants.antt": PING_MEASURE,
     "proofs/+down/Invariants.antt": MEASURE,
 }
 
@@ -307,9 +302,46 @@ def written(top, edits):
     (top / "HANDLES").write_text((TOP / "HANDLES").read_text())
 
 
+def turns_of_edits():
+    """What is wrong with the turns of the repository's edits: each is judged in one of them, and each of must-fail/ in all."""
+    wrong = []
+    # The checksum of `made_up/an_edit` in the trailer that gzip writes is 676615665.
+    if turn_of("made_up", "an_edit") != 676615665 % TURNS:
+        wrong.append("the turn of an edit isn't the CRC-32 of its name, modulo the number of turns")
+    for crate in sorted((TOP / "crates").iterdir()):
+        counts = Counter(name for turn in range(TURNS) for name in judged_in(turn, crate))
+        known = {it.stem: TURNS if it.parent.name == "must-fail" else 1 for it in edit_files(crate)}
+        wrong += [f"{crate.name}/{it}: judged in {counts[it]} turns" for it in sorted(known | counts) if counts[it] != known.get(it)]
+        if judged_in(None, crate) != known.keys():
+            wrong.append(f"{crate.name}: without a turn not all are judged")
+    return wrong
+
+
+def turns_of_commits():
+    """What is wrong with the turns of eight commits in a row, of a clone without history, and of a folder without any commit."""
+    wrong = []
+    with tempfile.TemporaryDirectory(prefix="turns-") as place:
+        if turn_of_commit(place)[0] is not None:
+            wrong.append("a folder without a commit has a turn")
+        git = ["git", "-c", "user.name=a", "-c", "user.email=a", "-C", place]
+        subprocess.run([*git, "init", "-q"], check=True)
+        found = []
+        for _ in range(TURNS):
+            subprocess.run([*git, "commit", "-q", "--allow-empty", "-m", "one more"], check=True)
+            found.append(turn_of_commit(place)[0])
+        if sorted(found) != [*range(TURNS)]:
+            wrong.append(f"{TURNS} commits in a row have the turns {found}")
+        subprocess.run(["git", "clone", "-q", "--depth", "1", f"file://{place}", f"{place}/short"], check=True)
+        turn, how = turn_of_commit(f"{place}/short")
+        if turn not in range(TURNS) or "lacks history" not in how:
+            wrong.append(f"a clone without history has {how}")
+    return wrong
+
+
 def tested(given):
-    """Judges the made-up crate, and returns whether each verdict is the known one."""
-    count, all_checks, wrong = 0, 0, []
+    """Judges the made-up crate, and returns whether each verdict is the known one and the turns are right."""
+    count, all_checks, wrong = 0, 0, [*turns_of_edits(), *turns_of_commits()]
+    print(f"the judge's turns: {len(wrong)} faults", flush=True)
     for edits, further in ((EDITS, given.further), (STOPPING, given.further), (LET_THROUGH, 1)):
         given.further = further
         with tempfile.TemporaryDirectory(prefix="made-up-") as place:
