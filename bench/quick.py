@@ -7,7 +7,7 @@ It works in a clean clone, four parts at a time, the longest first:
 
 - the checks of bench/seconds;
 - the tests of each crate that has some, by `rt try --test`;
-- the programs of examples/README.md and the trees of markup in typst_agreement, by `rt try`: each must print its `stdout`;
+- the programs of examples/README.md and the trees of markup in typst_markup_tests, by `rt try`: each must print its `stdout`;
 - the scripts and the looks in examples/, and the letter with its edit by ./show: each must print its `NAME.stdout`.
 
 `rt try` builds without a proof, and tests while a program runs what the proof would show. It tests no contract.
@@ -33,7 +33,7 @@ TRY = ["rt", "try", "--seconds", "600"]
 # What the names of tests begin with that `rt try` can't run: they take all memory, and its allocator keeps some for itself.
 WITH_ALL_MEMORY = "memory::refused::"
 # The program that compares trees of markup.
-AGREEMENT = "typst_agreement"
+AGREEMENT = "typst_markup_tests"
 # The programs that read scripts and looks.
 READERS = {".script": "typst_tree_main", ".look": "typst_look"}
 LEFT_OUT = """Left out, and in ./gate: every proof, and so whether contracts hold; the wrong bodies that the prover must refuse; the tests that take

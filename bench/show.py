@@ -6,7 +6,7 @@
 Each run is that of `typst_show_words`, and then of the program that it names, as ./show does. `bench/shown.py` works out
 what the programs must print, apart from them, from trees that no program here made:
 
-- each text of crates/typst_agreement/data must give the tree next to it, with --plain and without, and turn into the
+- each text of crates/typst_markup_tests/data must give the tree next to it, with --plain and without, and turn into the
   next text by an edit;
 - each tree of crates/typst_look whose views were asked must give with --views the answers that are written there;
 - `examples/letter.typ` with its edit, the programs' own runs, and a look with remarks must give what the small trees
@@ -30,7 +30,7 @@ import show_page
 import shown
 
 TOP = Path(__file__).resolve().parent.parent
-PAIRS = TOP / "crates/typst_agreement/data"
+PAIRS = TOP / "crates/typst_markup_tests/data"
 PROGRAMS = ["typst_show", "typst_show_views", "typst_show_script", "typst_show_words"]
 NEW_LINE = "\n"
 # How many paragraphs are inserted at one place. For the fifteenth the first window is too narrow.

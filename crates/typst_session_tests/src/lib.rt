@@ -1,6 +1,9 @@
-//! The tests of `typst_session`: tables of calls on a session, each with what it answers.
+//! The tests of `typst_session`: tables of calls on a session, each with what it answers. With them those of
+//! `typst_accessors`.
 #![tactic(auto)]
 
+#[cfg(test)]
+mod accessors;
 #[cfg(test)]
 mod answers;
 #[cfg(test)]

@@ -1,6 +1,10 @@
-//! Tests of `typst_source` with a small parser, which is proved to keep the laws.
+//! Tests of `typst_source` with a small parser, which is proved to keep the laws, and of crates that know no trees.
 #![tactic(auto)]
 
 #[cfg(test)]
 mod edits;
+#[cfg(test)]
+mod lexer;
 pub mod lines;
+#[cfg(test)]
+mod lines_and_columns;

@@ -1,6 +1,6 @@
 //! Where the first blocks of texts end.
 
-use crate::rows::assert_in;
+use crate::lexer::rows::assert_in;
 use std::process::Abort;
 use typst_lexer::block_len;
 

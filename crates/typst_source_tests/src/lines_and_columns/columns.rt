@@ -1,5 +1,5 @@
 //! Tests of columns.
-use crate::rows::{assert_at, assert_place};
+use crate::lines_and_columns::rows::{assert_at, assert_place};
 use std::alloc::{AllocError, Global};
 use std::process::Abort;
 use std::test::Fail;

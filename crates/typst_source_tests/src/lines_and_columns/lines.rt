@@ -1,6 +1,6 @@
 //! Tests of where lines begin.
-use crate::listed::listed;
-use crate::rows::{assert_at, assert_starts};
+use crate::lines_and_columns::listed::listed;
+use crate::lines_and_columns::rows::{assert_at, assert_starts};
 use std::alloc::{AllocError, Global};
 use std::ops::Range;
 use std::process::Abort;

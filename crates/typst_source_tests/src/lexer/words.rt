@@ -1,6 +1,6 @@
 //! Word characters, against the tables of the crate `unicode`.
 
-use crate::rows::assert_in;
+use crate::lexer::rows::assert_in;
 use std::test::Fail;
 use typst_lexer::{Lexer, TokenKind};
 use unicode::properties::{GeneralCategory, is_alphabetic};

@@ -1,6 +1,6 @@
 //! Texts and their tokens, as the rules of markup give them.
 
-use crate::rows::assert_in;
+use crate::lexer::rows::assert_in;
 use std::alloc::{AllocError, Global};
 use std::process::Abort;
 use std::test::Fail;

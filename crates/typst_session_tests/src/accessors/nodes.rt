@@ -1,5 +1,5 @@
 //! Tests of the accessors of typed views that answer other nodes, each by its number.
-use crate::shown::assert_rows;
+use crate::accessors::shown::assert_rows;
 use std::test::Fail;
 
 /// The number of an accessor, an index, a tree, and the node that the accessor answers of its root.

@@ -1,5 +1,5 @@
 //! Tests of the accessors of typed views that answer a value, each by its number.
-use crate::shown::{answer, assert_answer, assert_rows};
+use crate::accessors::shown::{answer, assert_answer, assert_rows};
 use std::test::Fail;
 
 /// The number of an accessor, an index, a tree, and what the accessor answers of its root.

@@ -1,0 +1,6 @@
+//! Tests of `typst_lines`.
+mod columns;
+mod edits;
+mod lines;
+mod listed;
+mod rows;
