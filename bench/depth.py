@@ -4,7 +4,7 @@
     bench/depth.py              the rows of the table in docs/MEMORY.md
     bench/depth.py CALL ..      those of these calls
 
-Each node of the chain is inside the one before. The script runs the proved builds of crates/typst_deep and, for `show`,
+Each node of the chain is inside the one before. The script runs the proved builds of crates/typst_large and, for `show`,
 of the script program (`rt run` in the crate's folder makes each), once for each depth that it tries. It halves the
 distance between a depth that a call returns from and one at which a signal ends the process.
 """
@@ -14,9 +14,12 @@ import sys
 from pathlib import Path
 
 TOP = Path(__file__).resolve().parent.parent
-DEEP = TOP / "crates/typst_deep/out/typst_deep"
+LARGE = TOP / "crates/typst_large/out/typst_large"
 SCRIPTS = TOP / "crates/typst_tree_main/out/typst_tree_main"
 STACK = 8 << 20
+# The calls of typst_large in the table. Each is asked for as `clone, deep`. The last is one of the script program.
+CALLS = ("build", "drop", "number", "is_numbered", "replace", "find", "clone", "compare", "hash", "full_text", "errors_and_warnings")
+SHOW = "show"
 # The depth that no call is tried beyond, and how near the two depths come to each other, as a part of the lower one.
 MOST, NEARNESS = 4_000_000, 200
 
@@ -27,9 +30,9 @@ def limit():
 
 def called(name, depth):
     """How a run of one call ends."""
-    asked = f"{name} {depth}\n".encode()
-    ran = subprocess.run([DEEP], input=asked, capture_output=True, preexec_fn=limit, check=False)
-    return ran.returncode, ran.stdout == asked
+    asked = f"{name}, deep {depth} 1"
+    ran = subprocess.run([LARGE], input=f"{asked}\n".encode(), capture_output=True, preexec_fn=limit, check=False)
+    return ran.returncode, ran.stdout.decode() == f"{asked} right\n"
 
 
 def shown(depth):
@@ -47,7 +50,7 @@ def shown(depth):
 
 def returns(name, depth):
     """Whether a call returns at this depth; anything but that and the end of the stack ends the program."""
-    status, is_right = shown(depth) if name == "show" else called(name, depth)
+    status, is_right = shown(depth) if name == SHOW else called(name, depth)
     if status >= 0 and not is_right:
         sys.exit(f"{name} {depth}: status {status}")
     return status == 0
@@ -66,17 +69,11 @@ def reached(name):
     return low, True
 
 
-def calls():
-    """The calls of crates/typst_deep, and the one of the script program."""
-    lines = (TOP / "crates/typst_deep/stdin").read_text().splitlines()
-    return [*(line.split()[0] for line in lines), "show"]
-
-
 def main():
-    for program in (DEEP, SCRIPTS):
+    for program in (LARGE, SCRIPTS):
         if not program.exists():
             sys.exit(f"depth: no {program}: `rt run` in the crate's folder makes it")
-    for name in sys.argv[1:] or calls():
+    for name in sys.argv[1:] or (*CALLS, SHOW):
         depth, is_end = reached(name)
         print(f"| `{name}` | {f'{depth:,}' if is_end else f'more than {depth:,}'} |", flush=True)
     return 0

@@ -26,8 +26,8 @@ from pathlib import Path
 TOP = Path(__file__).resolve().parent.parent
 CRATE = TOP / "crates/typst_hostile"
 TABLE = TOP / "docs/MEMORY.md"
-# Which request of a run is refused: one after all that any call needs and makes.
-REFUSED = 200
+# Which request of a run is refused: one after all that any call needs and makes. A drawing asks for memory with each of its words.
+REFUSED = 4000
 # How many passes there are past the requests of a call, and how many there are for --found.
 PAST, MOST = 4, 60
 ENDS = ("AllocError", "Memory", "NoMemory", "whole")

@@ -160,7 +160,7 @@ impl Call {
             Call::Replace(replacing) => replacing.run(alloc, requests),
             Call::Read(reading) => reading.run(alloc, requests),
             Call::View(viewing) => viewing.run(alloc, requests),
-            Call::Walk(walk, ground) => walk.run(ground.steps(), alloc, requests),
+            Call::Walk(walk, ground) => walk.run(ground.drawing(), alloc, requests),
             Call::FindAmongThousand => walks::find_among_thousand(alloc, requests),
             Call::Run(queue) => queue.requests().run(alloc, requests),
             Call::RunScript => scripts::run_script(alloc, requests),

@@ -1,11 +1,9 @@
 //! Calls that change a node.
 use crate::end::{End, Fault, Stop};
 use crate::requests::Requests;
-use crate::trees::{
-    ELEVEN, NESTED, ONE, STRONG, Step, TEN, TEXTS, TWO_IN_MARKUP, grow, grow_all, grow_numbered,
-};
+use crate::trees::{ELEVEN, NESTED, ONE, STRONG, TEN, TEXTS, TWO_IN_MARKUP};
 use std::alloc::Global;
-use typst_base::SyntaxKind;
+use typst_drawn::{drawn, drawn_all, numbered};
 use typst_node::{Renumbered, SyntaxNode};
 
 /// A call that changes a node with a text.
@@ -30,18 +28,18 @@ pub enum Change {
 }
 
 /// The keyword `let`.
-const KEYWORD: &[Step] = &[Step::Leaf(SyntaxKind::Let, "let")];
+const KEYWORD: &str = "Let:let";
 
 /// An error.
-const ERROR: &[Step] = &[Step::Error("m", "let")];
+const ERROR: &str = "!m:let";
 
 /// A warned keyword.
-const WARNED: &[Step] = &[Step::Leaf(SyntaxKind::Let, "let"), Step::Warning("m")];
+const WARNED: &str = "Let:let ^m";
 
 impl Change {
     /// Makes the call. Its answer must be that of the same call before.
     pub fn run(self, alloc: Global, requests: Requests) -> Result<End, Stop> {
-        let kept = grow(alloc, self.lent())?;
+        let kept = drawn(alloc, self.lent())?;
         let mut changed = kept.clone()?;
         self.make(alloc, &mut changed)?;
         let mut node = kept.clone()?;
@@ -52,8 +50,8 @@ impl Change {
         })
     }
 
-    /// The steps that grow the node that the call changes.
-    fn lent(self) -> &'static [Step] {
+    /// The drawing of the node that the call changes.
+    fn lent(self) -> &'static str {
         match self {
             Change::Hint | Change::HintAt => ERROR,
             Change::HintWarned => WARNED,
@@ -81,7 +79,7 @@ impl Change {
 
 /// `with_hints`, which consumes what it changes.
 pub fn hint_all(alloc: Global, requests: Requests) -> Result<End, Stop> {
-    let node = grow(alloc, ERROR)?;
+    let node = drawn(alloc, ERROR)?;
     let mut hinted = node.clone()?;
     if !hinted.can_hint() {
         return Err(Stop::Early);
@@ -122,23 +120,23 @@ pub enum Replacing {
 /// the nodes that replace them.
 #[derive(Clone, Copy)]
 struct Site {
-    tree: &'static [Step],
+    tree: &'static str,
     end: u64,
     path: &'static [usize],
     start: usize,
     past: usize,
-    others: &'static [Step],
+    others: &'static str,
 }
 
 impl Replacing {
     /// Makes the call. Its answer must be that of the same call before.
     pub fn run(self, alloc: Global, requests: Requests) -> Result<End, Stop> {
         let site = self.site();
-        let kept = grow_numbered(alloc, site.tree, site.end)?;
+        let kept = numbered(alloc, site.tree, 2..site.end)?;
         let mut replaced = kept.clone()?;
-        let told = site.replace(alloc, &mut replaced, grow_all(alloc, site.others)?)?;
+        let told = site.replace(alloc, &mut replaced, drawn_all(alloc, site.others)?)?;
         let mut tree = kept.clone()?;
-        let others = grow_all(alloc, site.others)?;
+        let others = drawn_all(alloc, site.others)?;
         requests.make(alloc)?;
         Ok(match site.replace(alloc, &mut tree, others) {
             Ok(again) => End::answered(again == told && tree == replaced && tree != kept),

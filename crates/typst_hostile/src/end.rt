@@ -1,6 +1,7 @@
 //! How calls end.
 use std::alloc::{AllocError, AllocFailed};
 use typst_base::MapperError;
+use typst_drawn::DrawingError;
 use typst_node::{InnerError, ReplaceError};
 use typst_source::SourceError;
 
@@ -94,6 +95,12 @@ impl<T: Drop> From<AllocFailed<T>> for Stop {
 
 impl From<InnerError> for Stop {
     fn from(_: InnerError) -> Stop {
+        Stop::Early
+    }
+}
+
+impl From<DrawingError> for Stop {
+    fn from(_: DrawingError) -> Stop {
         Stop::Early
     }
 }

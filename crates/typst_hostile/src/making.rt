@@ -1,9 +1,10 @@
 //! Calls that make a value.
 use crate::end::{End, Fault, Stop};
 use crate::requests::Requests;
-use crate::trees::{ALL_FORMS, ELEVEN, Step, grow, grow_all};
+use crate::trees::{ALL_FORMS, ELEVEN, LETTERS};
 use std::alloc::Global;
 use typst_base::{RangeMapper, SyntaxKind};
+use typst_drawn::{drawn, drawn_all};
 use typst_node::SyntaxNode;
 
 /// A call that makes a node.
@@ -26,15 +27,12 @@ pub enum Making {
 }
 
 /// Two leaves.
-const TWO: &[Step] = &[
-    Step::Leaf(SyntaxKind::Text, "ab"),
-    Step::Leaf(SyntaxKind::Text, "c"),
-];
+const TWO: &str = "Text:ab Text:c";
 
 impl Making {
     /// Makes the call. Its answer must be that of the same call before.
     pub fn run(self, alloc: Global, requests: Requests) -> Result<End, Stop> {
-        let lent = grow(alloc, self.lent())?;
+        let lent = drawn(alloc, self.lent())?;
         let kept = lent.clone()?;
         let made_before = self.make(alloc, &lent, self.parts(alloc)?)?;
         let parts = self.parts(alloc)?;
@@ -45,8 +43,8 @@ impl Making {
         })
     }
 
-    /// The steps that grow the nodes that the call reads.
-    fn lent(self) -> &'static [Step] {
+    /// The drawing of the nodes that the call reads.
+    fn lent(self) -> &'static str {
         match self {
             Making::CloneOfEleven => ELEVEN,
             _ => ALL_FORMS,
@@ -55,10 +53,11 @@ impl Making {
 
     /// The parts of an inner node: two leaves, or eleven letters.
     fn parts(self, alloc: Global) -> Result<Vec<SyntaxNode>, Stop> {
-        match self {
-            Making::InnerOfEleven => grow_all(alloc, &ELEVEN[..11]),
-            _ => grow_all(alloc, TWO),
-        }
+        let drawing = match self {
+            Making::InnerOfEleven => LETTERS,
+            _ => TWO,
+        };
+        Ok(drawn_all(alloc, drawing)?)
     }
 
     /// Makes the node.
@@ -96,7 +95,7 @@ pub fn make_mapper(alloc: Global, requests: Requests) -> Result<End, Stop> {
 
 /// The clone of a diagnostic with a hint.
 pub fn clone_diagnostic(alloc: Global, requests: Requests) -> Result<End, Stop> {
-    let (mut errors, _) = grow(alloc, ALL_FORMS)?.errors_and_warnings(alloc)?;
+    let (mut errors, _) = drawn(alloc, ALL_FORMS)?.errors_and_warnings(alloc)?;
     let lent = errors.pop().ok_or(Stop::Early)?;
     let kept = lent.clone()?;
     requests.make(alloc)?;

@@ -1,8 +1,9 @@
 //! Calls that read a node into a new value.
 use crate::end::{End, Fault, Stop};
 use crate::requests::Requests;
-use crate::trees::{ALL_FORMS, grow};
+use crate::trees::ALL_FORMS;
 use std::alloc::{AllocError, Global};
+use typst_drawn::drawn;
 use typst_node::SyntaxNode;
 
 /// A call that reads.
@@ -17,7 +18,7 @@ pub enum Reading {
 impl Reading {
     /// Makes the call.
     pub fn run(self, alloc: Global, requests: Requests) -> Result<End, Stop> {
-        let tree = grow(alloc, ALL_FORMS)?;
+        let tree = drawn(alloc, ALL_FORMS)?;
         let kept = tree.clone()?;
         requests.make(alloc)?;
         Ok(match self.reads(alloc, &tree) {

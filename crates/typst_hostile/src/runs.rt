@@ -1,9 +1,10 @@
 //! Runs of replacements and searches.
 use crate::end::{End, Refusal, Stop};
 use crate::requests::Requests;
-use crate::trees::{LET_PARTS, ONE, STRONG, Step, TEXTS, TWO_IN_MARKUP, grow_all, grow_numbered};
+use crate::trees::{LET_PARTS, ONE, STRONG, TEXTS, TWO_IN_MARKUP};
 use std::alloc::Global;
-use typst_base::{FileId, Span, SpanNumber, SyntaxKind};
+use typst_base::{FileId, Span, SpanNumber};
+use typst_drawn::{drawn_all, numbered};
 use typst_node::{ReplaceError, SyntaxNode};
 use typst_tree::session::{self, Reply, Request, Slot};
 
@@ -11,7 +12,7 @@ use typst_tree::session::{self, Reply, Request, Slot};
 #[derive(Clone, Copy)]
 pub enum Asked {
     /// A path, the first child to replace, the first child after those, and what replaces them.
-    Replace(&'static [usize], usize, usize, &'static [Step]),
+    Replace(&'static [usize], usize, usize, &'static str),
     /// A number.
     Find(u64),
 }
@@ -19,7 +20,7 @@ pub enum Asked {
 /// A run: a tree, the end of its numbers, and what is asked of it.
 #[derive(Clone, Copy)]
 pub struct Run {
-    tree: &'static [Step],
+    tree: &'static str,
     end: u64,
     asked: &'static [Asked],
 }
@@ -63,39 +64,30 @@ const REPLIES: Run = Run {
     asked: &[
         Asked::Replace(&[0], 1, 2, TWO_IN_MARKUP),
         Asked::Find(15),
-        Asked::Replace(&[0, 1], 0, 1, &TWO),
-        Asked::Replace(&[5], 0, 0, &[]),
-        Asked::Replace(&[1], 0, 0, &[]),
+        Asked::Replace(&[0, 1], 0, 1, TWO),
+        Asked::Replace(&[5], 0, 0, ""),
+        Asked::Replace(&[1], 0, 0, ""),
         Asked::Find(14),
     ],
 };
 
 /// Insertions at the root and below it, and searches between them. Each takes memory.
 const INSERTIONS: Run = Run {
-    tree: &[
-        Step::Leaf(SyntaxKind::Text, "a"),
-        Step::Leaf(SyntaxKind::Text, "b"),
-        Step::Inner(SyntaxKind::Markup, 2),
-        Step::Leaf(SyntaxKind::Text, "c"),
-        Step::Inner(SyntaxKind::Markup, 2),
-    ],
+    tree: "Markup[ Markup[ Text:a Text:b ] Text:c ]",
     end: 400,
     asked: &[
-        Asked::Replace(&[], 1, 1, &TWO),
+        Asked::Replace(&[], 1, 1, TWO),
         Asked::Find(22),
-        Asked::Replace(&[0], 1, 1, &TWO),
+        Asked::Replace(&[0], 1, 1, TWO),
         Asked::Find(23),
         Asked::Replace(&[], 1, 1, TWO_IN_MARKUP),
         Asked::Find(24),
-        Asked::Replace(&[0], 0, 2, &TWO),
+        Asked::Replace(&[0], 0, 2, TWO),
     ],
 };
 
 /// The leaves `x` and `y`.
-const TWO: [Step; 2] = [
-    Step::Leaf(SyntaxKind::Text, "x"),
-    Step::Leaf(SyntaxKind::Text, "y"),
-];
+const TWO: &str = "Text:x Text:y";
 
 /// `x` between `ab` and `c`, and the search for `c`, whose number is then 6.
 const BETWEEN: Run = Run {
@@ -108,14 +100,14 @@ const BETWEEN: Run = Run {
 const RENAMED: Run = Run {
     tree: LET_PARTS,
     end: 1 << 47,
-    asked: &[Asked::Replace(&[2], 1, 2, &[Step::Leaf(SyntaxKind::Ident, "z")])],
+    asked: &[Asked::Replace(&[2], 1, 2, "Ident:z")],
 };
 
 impl Run {
     /// Makes the run. Where a request was refused memory, all else must be as if that request hadn't been made.
     pub fn run(self, alloc: Global, requests: Requests) -> Result<End, Stop> {
         let whole = self.served(alloc, None)?;
-        let mut tree = grow_numbered(alloc, self.tree, self.end)?;
+        let mut tree = numbered(alloc, self.tree, 2..self.end)?;
         let mut slots = self.slots(alloc, None)?;
         requests.make(alloc)?;
         if !tree.is_numbered() {
@@ -136,7 +128,7 @@ impl Run {
 
     /// The run over all requests but one.
     fn served(self, alloc: Global, but: Option<usize>) -> Result<Served, Stop> {
-        let mut tree = grow_numbered(alloc, self.tree, self.end)?;
+        let mut tree = numbered(alloc, self.tree, 2..self.end)?;
         let mut slots = self.slots(alloc, but)?;
         if !tree.is_numbered() {
             return Err(Stop::Early);
@@ -161,10 +153,10 @@ impl Asked {
     /// The request.
     fn request(&self, alloc: Global) -> Result<Request, Stop> {
         match *self {
-            Asked::Replace(path, start, end, steps) => Ok(Request::Replace {
+            Asked::Replace(path, start, end, drawing) => Ok(Request::Replace {
                 path: path.to_vec(alloc)?,
                 range: start..end,
-                replacement: grow_all(alloc, steps)?,
+                replacement: drawn_all(alloc, drawing)?,
             }),
             Asked::Find(number) if 2 <= number && number < 1 << 47 => {
                 Ok(Request::Find(Span::from_number(FileId::FIRST, SpanNumber(number))))

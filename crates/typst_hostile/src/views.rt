@@ -1,9 +1,9 @@
 //! Calls that read from a view into a new value.
 use crate::end::{End, Fault, Stop};
 use crate::requests::Requests;
-use crate::trees::{LET_PARTS, PARTS, Step, grow};
+use crate::trees::{LET_PARTS, PARTS};
 use std::alloc::{AllocError, Global};
-use typst_base::SyntaxKind;
+use typst_drawn::drawn;
 use typst_node::SyntaxNode;
 use typst_tree::ast::{Destructuring, Ident, LetBinding, ModuleImport, Pattern, Str};
 
@@ -23,20 +23,15 @@ pub enum Viewing {
 }
 
 /// The string `"a\u{41}\x"`.
-const ESCAPED: &[Step] = &[Step::Leaf(SyntaxKind::Str, r#""a\u{41}\x""#)];
+const ESCAPED: &str = r#"Str:"a\u{41}\x""#;
 
 /// `import "a/b.typ"`
-const IMPORT: &[Step] = &[
-    Step::Leaf(SyntaxKind::Import, "import"),
-    Step::Leaf(SyntaxKind::Space, " "),
-    Step::Leaf(SyntaxKind::Str, "\"a/b.typ\""),
-    Step::Inner(SyntaxKind::ModuleImport, 3),
-];
+const IMPORT: &str = r#"ModuleImport[ Import:import Space:~ Str:"a/b.typ" ]"#;
 
 impl Viewing {
     /// Makes the call.
     pub fn run(self, alloc: Global, requests: Requests) -> Result<End, Stop> {
-        let tree = self.lent(alloc)?;
+        let tree = drawn(alloc, self.lent())?;
         let kept = tree.clone()?;
         requests.make(alloc)?;
         Ok(match self.reads(alloc, &tree) {
@@ -45,13 +40,13 @@ impl Viewing {
         })
     }
 
-    /// The tree that the call reads.
-    fn lent(self, alloc: Global) -> Result<SyntaxNode, Stop> {
+    /// The drawing of the tree that the call reads.
+    fn lent(self) -> &'static str {
         match self {
-            Viewing::StrGet => grow(alloc, ESCAPED),
-            Viewing::BareName => grow(alloc, IMPORT),
-            Viewing::PatternBindings | Viewing::DestructuringBindings => grow(alloc, PARTS),
-            Viewing::KindBindings => grow(alloc, LET_PARTS),
+            Viewing::StrGet => ESCAPED,
+            Viewing::BareName => IMPORT,
+            Viewing::PatternBindings | Viewing::DestructuringBindings => PARTS,
+            Viewing::KindBindings => LET_PARTS,
         }
     }
 

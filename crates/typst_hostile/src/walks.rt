@@ -1,9 +1,9 @@
 //! Walks of linked nodes.
 use crate::end::{End, Fault, Stop};
 use crate::requests::Requests;
-use crate::trees::{Step, grow_numbered};
 use std::alloc::{AllocError, Global};
 use typst_base::SyntaxKind;
+use typst_drawn::numbered;
 use typst_linked::{LinkedNode, Looks, Side};
 use typst_node::SyntaxNode;
 
@@ -55,8 +55,8 @@ const NOTHING: usize = usize::MAX;
 impl Walk {
     /// Walks from each node of a tree. The answers must be those of the same walks before. Where memory was refused,
     /// the walk is made again.
-    pub fn run(self, steps: &[Step], alloc: Global, requests: Requests) -> Result<End, Stop> {
-        let tree = grow_numbered(alloc, steps, 1 << 20)?;
+    pub fn run(self, drawing: &str, alloc: Global, requests: Requests) -> Result<End, Stop> {
+        let tree = numbered(alloc, drawing, 2..1 << 20)?;
         let kept = tree.clone()?;
         let nodes = linked(alloc, &tree)?;
         let mut seen_before = Vec::with_capacity(alloc, ROOM)?;

@@ -1,48 +1,78 @@
-//! Calls on a chain of nodes, each inside the one before, with a text of two bytes in the last.
+//! Calls on a chain of nodes, each inside the one before, with a text of two bytes in the last. bench/depth.py looks for
+//! the depths that a stack holds.
+//!
+//! A chain is forgotten after the call, so only the call `drop` uses the stack for dropping. What a call gives is looked
+//! at level by level, which uses no stack either.
+use crate::chains::{chain, chain_over, end_of};
 use crate::wide::numbered;
 use anyhow::Result;
 use std::alloc::Global;
+use std::hash::{DefaultHasher, Hash, Hasher};
+use std::mem;
 use typst_tree::session::{Reply, Request};
-use typst_tree::{LinkedNode, NumberedTree, Side, SyntaxKind, SyntaxNode};
+use typst_tree::{LinkedNode, Side, SyntaxKind, SyntaxNode};
 
 /// Makes the call of this name, and answers whether it gave the right answer.
 pub fn made(alloc: Global, name: &str, depth: usize) -> Result<Option<bool>> {
+    let Some(name) = name.strip_suffix(", deep") else {
+        return Ok(None);
+    };
+    let root = chain(alloc, depth)?;
     Ok(Some(match name {
-        "path, deep" => is_as_deep(alloc, &chain(alloc, depth)?, depth)?,
-        "leaf_at, deep" => is_leaf(alloc, &chain(alloc, depth)?)?,
-        "next_leaf, deep" => is_next(alloc, depth)?,
-        "clone, deep" => is_cloned(&chain(alloc, depth)?)?,
-        "full_text, deep" => chain(alloc, depth)?.full_text(alloc)?.as_str() == "ab",
-        "errors_and_warnings, deep" => is_told(alloc, depth)?,
-        "find, deep" => is_found(alloc, depth)?,
-        "replace, deep" => is_replaced(alloc, depth)?,
+        "build" => {
+            mem::forget(root);
+            true
+        }
+        "drop" => {
+            drop(root);
+            true
+        }
+        "number" => numbered(root).map(mem::forget).is_some(),
+        "is_numbered" => is_numbered(root),
+        "find" => is_found(alloc, root, depth),
+        "replace" => is_replaced(alloc, root, depth)?,
+        "next_leaf" => is_next(alloc, root, depth)?,
+        _ => {
+            let right = read(alloc, name, &root, depth)?;
+            mem::forget(root);
+            return Ok(right);
+        }
+    }))
+}
+
+/// Makes a call that reads a chain.
+fn read(alloc: Global, name: &str, root: &SyntaxNode, depth: usize) -> Result<Option<bool>> {
+    Ok(Some(match name {
+        "path" => is_as_deep(alloc, root, depth)?,
+        "leaf_at" => is_leaf(alloc, root)?,
+        "clone" => is_cloned(root, depth)?,
+        "compare" => is_equal(alloc, root, depth)?,
+        "hash" => {
+            let mut state = DefaultHasher::new();
+            root.hash(&mut state);
+            let _ = state.finish();
+            true
+        }
+        "full_text" => root.full_text(alloc)?.as_str() == "ab",
+        "errors_and_warnings" => is_told(alloc, depth)?,
         _ => return Ok(None),
     }))
 }
 
-/// The text at the end of a chain.
-fn text(alloc: Global) -> Result<SyntaxNode> {
-    Ok(SyntaxNode::leaf(alloc, SyntaxKind::Text, "ab")?)
+/// Whether a clone is such a chain.
+fn is_cloned(root: &SyntaxNode, depth: usize) -> Result<bool> {
+    let same = root.clone()?;
+    let right = end_of(&same, depth).is_some_and(|leaf| leaf.leaf_text() == "ab");
+    mem::forget(same);
+    Ok(right)
 }
 
-/// A chain of `depth` nodes, with a text in the last.
-fn chain(alloc: Global, depth: usize) -> Result<SyntaxNode> {
-    chain_over(alloc, text(alloc)?, depth)
-}
-
-/// A chain of `depth` nodes, with this node in the last.
-fn chain_over(alloc: Global, last: SyntaxNode, depth: usize) -> Result<SyntaxNode> {
-    let mut node = last;
-    for _ in 0..depth {
-        node = SyntaxNode::inner(alloc, SyntaxKind::Markup, vec![in alloc; node]?)?;
-    }
-    Ok(node)
-}
-
-/// Whether a clone equals the tree.
-fn is_cloned(tree: &SyntaxNode) -> Result<bool> {
-    let same = tree.clone()?;
-    Ok(same == *tree)
+/// Whether the chain equals another one.
+fn is_equal(alloc: Global, root: &SyntaxNode, depth: usize) -> Result<bool> {
+    let same = chain(alloc, depth)?;
+    let right = same == *root;
+    mem::forget(same);
+    Ok(right)
 }
 
 /// Whether the path to the text has as many steps as there are levels.
@@ -61,10 +91,17 @@ fn is_leaf(alloc: Global, tree: &SyntaxNode) -> Result<bool> {
 }
 
 /// Whether of two chains side by side each has the other's text next to its own.
-fn is_next(alloc: Global, depth: usize) -> Result<bool> {
-    let chains = vec![in alloc; chain(alloc, depth)?, chain(alloc, depth)?]?;
+fn is_next(alloc: Global, root: SyntaxNode, depth: usize) -> Result<bool> {
+    let chains = vec![in alloc; root, chain(alloc, depth)?]?;
     let tree = SyntaxNode::inner(alloc, SyntaxKind::Markup, chains)?;
-    let root = LinkedNode::new(&tree);
+    let right = are_neighbors(alloc, &tree)?;
+    mem::forget(tree);
+    Ok(right)
+}
+
+/// Whether the first text is the one before the last, which begins at byte 2.
+fn are_neighbors(alloc: Global, tree: &SyntaxNode) -> Result<bool> {
+    let root = LinkedNode::new(tree);
     let Some(first) = root.leftmost_leaf(alloc)? else {
         return Ok(false);
     };
@@ -79,42 +116,50 @@ fn is_next(alloc: Global, depth: usize) -> Result<bool> {
     )
 }
 
-/// Whether an error at the end of the chain is reported.
+/// Whether an error at the end of a chain is reported.
 fn is_told(alloc: Global, depth: usize) -> Result<bool> {
     let tree = chain_over(alloc, SyntaxNode::error(alloc, "m", "ab")?, depth)?;
     let (errors, warnings) = tree.errors_and_warnings(alloc)?;
+    mem::forget(tree);
     Ok(errors.len() == 1 && warnings.is_empty())
 }
 
-/// A chain with numbers, or nothing if there are too few numbers, which there aren't.
-fn numbered_chain(alloc: Global, depth: usize) -> Result<Option<NumberedTree>> {
-    Ok(numbered(chain(alloc, depth)?))
+/// Whether a chain with numbers is found to have them.
+fn is_numbered(root: SyntaxNode) -> bool {
+    let Some(tree) = numbered(root) else {
+        return false;
+    };
+    let right = tree.root().is_numbered();
+    mem::forget(tree);
+    right
 }
 
 /// Whether the text is found by its number.
-fn is_found(alloc: Global, depth: usize) -> Result<bool> {
-    let Some(tree) = numbered_chain(alloc, depth)? else {
-        return Ok(false);
+fn is_found(alloc: Global, root: SyntaxNode, depth: usize) -> bool {
+    let Some(tree) = numbered(root) else {
+        return false;
     };
-    let Some(leaf) = LinkedNode::new(tree.root()).leftmost_leaf(alloc)? else {
-        return Ok(false);
-    };
-    let Reply::Found { path, offset, .. } = tree.find(alloc, leaf.get().span()) else {
-        return Ok(false);
-    };
-    Ok(path.len() == depth && offset == 0)
+    let reply = end_of(tree.root(), depth).map(|leaf| tree.find(alloc, leaf.span()));
+    mem::forget(tree);
+    match reply {
+        Some(Reply::Found { path, offset, .. }) => path.len() == depth && offset == 0,
+        _ => false,
+    }
 }
 
-/// Whether the text is removed, and all nodes above it are empty then.
-fn is_replaced(alloc: Global, depth: usize) -> Result<bool> {
-    let Some(mut tree) = numbered_chain(alloc, depth)? else {
-        return Ok(false);
-    };
+/// Whether the text is removed, and all nodes above it are empty then. Other texts would find no room, because a deep
+/// chain has as many numbers there as nodes.
+fn is_replaced(alloc: Global, root: SyntaxNode, depth: usize) -> Result<bool> {
     let request = Request::Replace {
         path: vec![in alloc; 0; depth.saturating_sub(1)]?,
         range: 0..1,
         replacement: Vec::new(alloc),
     };
+    let Some(mut tree) = numbered(root) else {
+        return Ok(false);
+    };
     let reply = tree.serve(alloc, request);
-    Ok(matches!(reply, Reply::Renumbered(_)) && tree.root().is_empty())
+    let is_empty = tree.root().is_empty();
+    mem::forget(tree);
+    Ok(is_empty && matches!(reply, Reply::Renumbered(_)))
 }

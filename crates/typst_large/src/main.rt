@@ -1,5 +1,6 @@
 //! Makes calls on large trees, long chains of nodes, long texts and long lists. The gate compares how each call ends
-//! with memory at hand. bench/growth.py counts the instructions of calls at two sizes.
+//! with memory at hand. bench/growth.py counts the instructions of calls at two sizes, and bench/depth.py looks for the
+//! longest chains that a stack holds.
 //!
 //! A line of standard input is a call's name, a size and a count, as `find 70000 1`. The program builds what the call
 //! needs, and makes the call that many times. It prints the line with `right`, or with `wrong` if one call gave a wrong
@@ -10,6 +11,7 @@ use anyhow::Result;
 use std::alloc::Global;
 use std::process::ExitCode;
 
+mod chains;
 mod deep;
 mod edits;
 mod lists;
