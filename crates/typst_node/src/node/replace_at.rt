@@ -1,5 +1,5 @@
 //! Replacements at any depth.
-ghost use Rattle.std.specs.Prelude.{[], ◌∷◌, ◌≡◌, ◌+◌, ◌^◌, ◌<◌, ◌≤◌, ◌↔◌, suc, length, set, false, Ok, OnErr, IfOk, IfSome, IfNone, IfErr, IsSome, IsTrue};
+ghost use Rattle.std.specs.Prelude.{[], ◌∷◌, ◌≡◌, ◌+◌, ◌^◌, ◌<◌, ◌≤◌, ◌↔◌, suc, length, set, false, Ok, Err, Some, OnErr, IfOk, IfSome, IfNone, IfErr, IsSome, IsTrue};
 ghost use Rattle.typst_node.specs.Tree.{trees};
 ghost use Rattle.typst_node.specs.Text.{text, text_of_all};
 ghost use Rattle.typst_node.specs.Count.{SumsFit, count, count_of_all};
@@ -12,11 +12,13 @@ ghost use Rattle.typst_node.specs.Growth.{ChildrenCanGrow};
 ghost use Rattle.typst_node.specs.ChangedChildren.{StaysLongest};
 ghost use Rattle.typst_node.specs.Edit.{Fits, IsNumberedOrUnfiled, edit_of};
 ghost use Rattle.typst_node.specs.Accepted.{IsAccepted};
-ghost use Rattle.typst_node.specs.Refusals.{IsRefusedBy};
+ghost use Rattle.typst_node.specs.Refusals.{IsRefusedBy, IsRefusedFollowing};
+ghost use Rattle.typst_node.specs.Following.{IsFollowed, nothing_followed};
 ghost use Rattle.typst_node.specs.EditBelow.{child_of};
-ghost use Rattle.typst_node.specs.Errand.{FitsAt, IsCarriedOut, IsErrand};
+ghost use Rattle.typst_node.specs.Errand.{FitsAt, HasMoves, IsCarriedOut, IsErrand, IsSparing};
 
 use crate::node::inner::Sums;
+use crate::node::moves::Moves;
 use crate::node::replace::{Renumbered, ReplaceError, Splice};
 use crate::node::settle::Change;
 use crate::node::{InnerNode, Node, SyntaxNode};
@@ -31,6 +33,17 @@ struct Errand {
     edit: Splice,
     // The outcome, once it reached an inner node whose children hold the range.
     answer: Option<Result<Renumbered, ReplaceError>>,
+    // The moves, if they are asked for.
+    moves: Option<Moves>,
+}
+
+/// The answer of an edit that says where the nodes are after it.
+#[derive(Drop)]
+pub struct Followed {
+    /// The window that was numbered anew.
+    pub renumbered: Renumbered,
+    /// Where the nodes are.
+    pub moves: Moves,
 }
 
 impl Errand {
@@ -43,6 +56,9 @@ impl Errand {
         ensures err { IfSome self.new.answer (λ answer. OnErr answer (node.new ≡ node.old)) }
         ensures label { node.new.label ≡ node.old.label }
         ensures done { IsCarriedOut self.old self.new node.old node.new }
+        ensures asked { IsSome self.new.moves ↔ IsSome self.old.moves }
+        ensures moves { HasMoves self.old self.new node.old node.new }
+        ensures sparing { IsSparing self.old self.new }
     {
         let empty = Vec::new(*self.edit.others.allocator());
         let others = mem::replace(&mut self.edit.others, empty);
@@ -52,12 +68,29 @@ impl Errand {
             growth,
             ..
         } = self.edit;
-        self.answer = node.replace_range(Splice {
+        let rest = Splice {
             from,
             to,
             others,
             growth,
-        });
+        };
+        self.answer = node.replace_range(rest, &mut self.moves);
+    }
+}
+
+impl Errand {
+    /// The answer and the moves, which were asked for.
+    fn followed(self) -> Option<Result<Followed, ReplaceError>>
+        requires asked { IsSome self.moves }
+        ensures made { IsSome result ↔ IsSome self.answer }
+        ensures done { IfSome result (λ answer. IfOk answer (λ followed. (self.answer ≡ Some (Ok followed.renumbered))
+            × (self.moves ≡ Some followed.moves))) }
+        ensures refused { IfSome result (λ answer. IfErr answer (λ why. self.answer ≡ Some (Err why))) }
+    {
+        match (self.answer?, self.moves?) {
+            (Ok(renumbered), moves) => Some(Ok(Followed { renumbered, moves })),
+            (Err(why), _) => Some(Err(why)),
+        }
     }
 }
 
@@ -72,6 +105,9 @@ impl SyntaxNode {
         ensures err { IfSome errand.new.answer (λ answer. OnErr answer (self.new ≡ self.old)) }
         ensures frame { StaysBeside path.now self.old self.new }
         ensures at { IsCarriedOut errand.old errand.new (tree_at path.now self.old) (tree_at path.now self.new) }
+        ensures asked { IsSome errand.new.moves ↔ IsSome errand.old.moves }
+        ensures moves { HasMoves errand.old errand.new (tree_at path.now self.old) (tree_at path.now self.new) }
+        ensures sparing { IsSparing errand.old errand.new }
     {
         match path.split_first() {
             None => errand.arrive(self),
@@ -112,6 +148,10 @@ impl InnerNode {
             (child_of self.new.children.items index) }
         ensures at { IsCarriedOut errand.old errand.new (tree_at path.now (child_of self.old.children.items index))
             (tree_at path.now (child_of self.new.children.items index)) }
+        ensures asked { IsSome errand.new.moves ↔ IsSome errand.old.moves }
+        ensures moves { HasMoves errand.old errand.new (tree_at path.now (child_of self.old.children.items index))
+            (tree_at path.now (child_of self.new.children.items index)) }
+        ensures sparing { IsSparing errand.old errand.new }
     {
         let gone = self.children[index].measures();
         self.children[index].replace_below(path, errand);
@@ -121,7 +161,7 @@ impl InnerNode {
     /// Corrects what is kept after the child at an index changed. Before, the child had the sums `gone`. This call has
     /// a stack frame of its own, so that the way down takes less stack.
     #[inline(never)]
-    fn settle_child(&mut self, index: usize, gone: Sums)
+    pub(super) fn settle_child(&mut self, index: usize, gone: Sums)
         requires index { index < length self.old.children.items }
         requires stale { IsStale index (index + 1) 1 gone self.old }
         requires fits { SumsFit self.old.children.items }
@@ -193,7 +233,11 @@ impl SyntaxNode {
             others: replacement,
             growth: self.growth(),
         };
-        let mut errand = Errand { edit, answer: None };
+        let mut errand = Errand {
+            edit,
+            answer: None,
+            moves: None,
+        };
         self.replace_below(path, &mut errand);
         errand.answer
     }
@@ -231,6 +275,77 @@ impl SyntaxNode {
             None => Ok(Renumbered {
                 window: 0..0,
                 tried: 0,
+            }),
+        }
+    }
+
+    /// Replaces children as [`SyntaxNode::try_replace_at`] does, and also says where the nodes of the tree are after it.
+    ///
+    /// It also takes time and memory in proportion to the nodes that stay in the window. So `Memory` can come for any
+    /// replacement. It asks for this memory before it changes anything.
+    #[tactic(auto, using(crate::proofs::Trimmed::stays_longest))]
+    pub fn try_replace_following(
+        &mut self,
+        alloc: Global,
+        path: &[usize],
+        range: Range<usize>,
+        replacement: Vec<SyntaxNode>,
+    ) -> Option<Result<Followed, ReplaceError>>
+        requires numbered_ask_is_numbered { IsNumberedOrUnfiled path.now self.old }
+        ensures fits { IsSome result ↔ Fits (edit_of path.now range replacement.items) self.old }
+        ensures misfit { IfNone result (self.new ≡ self.old) }
+        ensures accepted { IfSome result (λ answer. IfOk answer (λ done.
+            IsAccepted (edit_of path.now range replacement.items) self.old done.renumbered self.new)) }
+        ensures followed { IfSome result (λ answer. IfOk answer (λ done.
+            IsFollowed (edit_of path.now range replacement.items) self.old self.new done.moves)) }
+        ensures refused { IfSome result (λ answer. IfErr answer (λ why.
+            IsRefusedFollowing why (edit_of path.now range replacement.items) self.old)) }
+        ensures err { IfSome result (λ answer. OnErr answer (self.new ≡ self.old)) }
+        ensures stays { StaysLongest range.start range.end replacement.items (trees_at path.now self.old) }
+    {
+        let edit = Splice {
+            from: range.start,
+            to: range.end,
+            others: replacement,
+            growth: self.growth(),
+        };
+        let mut errand = Errand {
+            edit,
+            answer: None,
+            moves: Some(Moves::none(alloc)),
+        };
+        self.replace_below(path, &mut errand);
+        errand.followed()
+    }
+
+    /// Replaces children as [`SyntaxNode::replace_at`] does, and also says where the nodes of the tree are after it.
+    pub fn replace_following(
+        &mut self,
+        alloc: Global,
+        path: &[usize],
+        range: Range<usize>,
+        replacement: Vec<SyntaxNode>,
+    ) -> Result<Followed, ReplaceError>
+        requires fits_ask_edit_fits { EditFits path.now range.start range.end self.old }
+        requires numbered_ask_is_numbered { IsNumberedOrUnfiled path.now self.old }
+        ensures leaf { ¬ (IsInnerAt path.now self.old) → (self.new ≡ self.old) × (result ≡ Ok nothing_followed) }
+        ensures accepted { IfOk result (λ done. IsInnerAt path.now self.old
+            → IsAccepted (edit_of path.now range replacement.items) self.old done.renumbered self.new) }
+        ensures followed { IfOk result (λ done. IsInnerAt path.now self.old
+            → IsFollowed (edit_of path.now range replacement.items) self.old self.new done.moves) }
+        ensures refused { IfErr result (λ why. IsRefusedFollowing why (edit_of path.now range replacement.items)
+            self.old) }
+        ensures err { OnErr result (self.new ≡ self.old) }
+        ensures stays { StaysLongest range.start range.end replacement.items (trees_at path.now self.old) }
+    {
+        match self.try_replace_following(alloc, path, range, replacement) {
+            Some(answer) => answer,
+            None => Ok(Followed {
+                renumbered: Renumbered {
+                    window: 0..0,
+                    tried: 0,
+                },
+                moves: Moves::none(alloc),
             }),
         }
     }

@@ -5,6 +5,7 @@ ghost use Rattle.typst_node.specs.ChangedChildren.{IsCommonBeginning, common_fir
 use crate::node::SyntaxNode;
 
 /// The number of nodes that both lists have alike at the beginning.
+#[inline(always)]
 pub(super) fn count_common_first(nodes: &[SyntaxNode], others: &[SyntaxNode]) -> usize
     ensures is { result ≡ common_first nodes.now others.now }
     ensures longest { IsCommonBeginning nodes.now others.now result }
@@ -21,6 +22,7 @@ pub(super) fn count_common_first(nodes: &[SyntaxNode], others: &[SyntaxNode]) ->
 }
 
 /// The number of nodes that both lists have alike at the end.
+#[inline(always)]
 pub(super) fn count_common_last(nodes: &[SyntaxNode], others: &[SyntaxNode]) -> usize
     ensures is { result ≡ common_last nodes.now others.now }
     ensures longest { IsCommonBeginning (reverse nodes.now) (reverse others.now) result }
@@ -34,6 +36,20 @@ pub(super) fn count_common_last(nodes: &[SyntaxNode], others: &[SyntaxNode]) -> 
         }
     }
     most
+}
+
+/// The same for lists that have no node alike at the beginning. It doesn't compare a single node of each once more.
+#[tactic(auto, using(crate::proofs::OnlyChange::last_of_one))]
+pub(super) fn count_last_of_differing(nodes: &[SyntaxNode], others: &[SyntaxNode]) -> usize
+    requires { common_first nodes.now others.now ≡ 0 }
+    ensures is { result ≡ common_last nodes.now others.now }
+    ensures within { result ≤ length nodes.now }
+    ensures within_others { result ≤ length others.now }
+{
+    if nodes.len() == 1 && others.len() == 1 {
+        return 0;
+    }
+    count_common_last(nodes, others)
 }
 
 /// Drops `first` nodes at the beginning and `last` nodes at the end. It takes no memory.

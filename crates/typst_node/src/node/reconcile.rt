@@ -1,0 +1,184 @@
+//! Replacements at any depth that leave the nodes that go on their numbers.
+ghost use Rattle.std.specs.Prelude.{◌≡◌, ◌↔◌, IfOk, IfErr, OnErr, OnOk, IsErrOf, IsTrue};
+ghost use Rattle.typst_node.specs.Numbered.{IsNumbered};
+ghost use Rattle.typst_node.specs.Paths.{IsInnerAt, IsPath};
+ghost use Rattle.typst_node.specs.PlainEdit.{EditFits, TreeFits};
+ghost use Rattle.typst_node.specs.Edit.{Fits, edit_of, edited_by};
+ghost use Rattle.typst_node.specs.Renumbering.{no_window};
+ghost use Rattle.typst_node.specs.Narrowing.{edit_in, IsLeafPair};
+ghost use Rattle.typst_node.specs.Put.{with_tree, with_span};
+ghost use Rattle.typst_node.specs.Reconciled.{IsReconciled, IsLeafReconciled, IsUnreconciledBy};
+ghost use Rattle.typst_node.specs.Moves.{no_moves};
+ghost use Rattle.typst_node.specs.declared.node.replace.ReplaceError.TheVariants.{Overflow, Unnumberable};
+
+use crate::node::SyntaxNode;
+use crate::node::moves::Moves;
+use crate::node::narrow::{Pair, PathEdit, push_index};
+use crate::node::replace::{Renumbered, ReplaceError};
+use std::alloc::Global;
+use std::ops::Range;
+use typst_base::Span;
+
+/// What an accepted reconciliation changed.
+#[derive(Clone, Debug, PartialEq, Eq, Drop)]
+pub struct Reconciled {
+    /// The path to the node whose children were changed.
+    pub path: Vec<usize>,
+    /// The window among its children. If no window was tried, it holds one leaf or error, which kept its number.
+    pub renumbered: Renumbered,
+    /// Where the nodes of the tree are after it.
+    pub moves: Moves,
+}
+
+/// # A leaf that goes on
+impl SyntaxNode {
+    /// Gives the node this span. Those below it keep theirs.
+    fn set_span(&mut self, span: Span)
+        ensures { self.new ≡ with_span span self.old }
+    {
+        self.span = span;
+    }
+
+    /// Whether the sums fit a usize after another tree is put in place of one of this tree.
+    fn can_put(&self, path: &[usize], other: &SyntaxNode) -> bool
+        requires { IsPath path.now self.now }
+        ensures { IsTrue result ↔ TreeFits (with_tree path.now other.now self.now) }
+    {
+        let gone = self.node_at(path);
+        (self.len() - gone.len()).checked_add(other.len()).is_some()
+            && (self.descendants() - gone.descendants())
+                .checked_add(other.descendants())
+                .is_some()
+    }
+
+    /// Puts a leaf or an error in place of the one that goes on as it, and gives it that one's span.
+    fn put_leaf(
+        &mut self,
+        alloc: Global,
+        edit: PathEdit,
+        pair: Pair,
+    ) -> Result<Reconciled, ReplaceError>
+        requires fits { Fits (edit_in edit) self.old }
+        requires pair { IsLeafPair (edit_in edit) self.old pair }
+        ensures path { IfOk result (λ done. done.path.items ≡ edit.path.items) }
+        ensures kept { IfOk result (λ done. IsLeafReconciled (edit_in edit) self.old done.renumbered done.moves
+            self.new) }
+        ensures sums { OnOk result (TreeFits (edited_by (edit_in edit) self.old)) }
+        ensures numberable { ¬ (IsErrOf result Unnumberable) }
+        ensures overflow { IsErrOf result Overflow → ¬ (TreeFits (edited_by (edit_in edit) self.old)) }
+        ensures err { OnErr result (self.new ≡ self.old) }
+    {
+        let PathEdit {
+            mut path,
+            mut others,
+            ..
+        } = edit;
+        let mut leaf = others.swap_remove(pair.other);
+        push_index(&mut path, pair.child)?;
+        leaf.set_span(self.node_at(&path).span());
+        if !self.can_put(&path, &leaf) {
+            return Err(ReplaceError::Overflow);
+        }
+        self.put_at(&path, &mut leaf);
+        path.truncate(path.len() - 1);
+        Ok(Reconciled {
+            path,
+            renumbered: Renumbered {
+                window: pair.child..pair.child + 1,
+                tried: 0,
+            },
+            moves: Moves::none(alloc),
+        })
+    }
+
+    /// Makes an edit at its narrowest place.
+    fn reconcile(&mut self, alloc: Global, mut edit: PathEdit) -> Result<Reconciled, ReplaceError>
+        requires fits { Fits (edit_in edit) self.old }
+        requires numbered { IsNumbered self.old }
+        ensures reconciled { IfOk result (λ done. IsReconciled (edit_in edit) self.old done.path.items done.renumbered
+            done.moves self.new) }
+        ensures refused { IfErr result (λ why. IsUnreconciledBy why (edit_in edit) self.old) }
+        ensures err { OnErr result (self.new ≡ self.old) }
+    {
+        if let Some(pair) = self.narrow(alloc, &mut edit)? {
+            return self.put_leaf(alloc, edit, pair);
+        }
+        let PathEdit {
+            path,
+            from,
+            to,
+            others,
+        } = edit;
+        match self.replace_following(alloc, &path, from..to, others) {
+            Ok(done) => Ok(Reconciled {
+                path,
+                renumbered: done.renumbered,
+                moves: done.moves,
+            }),
+            Err(why) => Err(why),
+        }
+    }
+}
+
+/// # Replacing children at any depth
+impl SyntaxNode {
+    /// Replaces the children in a range of the node that a path of child indices leads to, as far down as it can.
+    ///
+    /// The plain tree is then the one that [`SyntaxNode::replace_at`] makes. If all that changes is below one child, and
+    /// this child and the new node in its place are inner nodes of one kind with the same warnings, the child stays, and
+    /// its children are replaced instead, as long as its numbers suffice. This is repeated. At last, if a single leaf or
+    /// error changes into one of its kind, that one takes over its span. Then no number changes, and the answer is the
+    /// window of this node alone and 0 tried windows. Otherwise the children are replaced as
+    /// [`SyntaxNode::replace_at`] does at that place.
+    ///
+    /// The answer also has the moves: [`Moves::follow`] gives the number of each node that goes on.
+    ///
+    /// A leaf or an error at the path stays as it is. The answer is then the window `0..0` and 0 tried windows.
+    ///
+    /// The tests of the conditions are [`SyntaxNode::edit_fits`] and [`SyntaxNode::is_numbered`]. After an error nothing
+    /// has changed, and the replacement is dropped. `Unnumberable` and `Overflow` come only if
+    /// [`SyntaxNode::replace_at`] would answer them.
+    ///
+    /// At each level it compares the children with the new nodes from both ends, up to the first difference. Then it
+    /// takes as long as [`SyntaxNode::replace_following`] at the place that it finds.
+    pub fn reconcile_at(
+        &mut self,
+        alloc: Global,
+        path: &[usize],
+        range: Range<usize>,
+        replacement: Vec<SyntaxNode>,
+    ) -> Result<Reconciled, ReplaceError>
+        requires fits_ask_edit_fits { EditFits path.now range.start range.end self.old }
+        requires numbered_ask_is_numbered { IsNumbered self.old }
+        ensures leaf { ¬ (IsInnerAt path.now self.old) → (self.new ≡ self.old)
+            × IfOk result (λ done. (done.path.items ≡ path.now) × (done.renumbered ≡ no_window) × (done.moves ≡ no_moves)) }
+        ensures reconciled { IfOk result (λ done. IsInnerAt path.now self.old
+            → IsReconciled (edit_of path.now range replacement.items) self.old done.path.items done.renumbered
+            done.moves self.new) }
+        ensures refused { IfErr result (λ why. IsUnreconciledBy why (edit_of path.now range replacement.items)
+            self.old) }
+        ensures err { OnErr result (self.new ≡ self.old) }
+    {
+        let inner = self.node_at(path).is_inner();
+        let path = path.to_vec(alloc)?;
+        if inner {
+            return self.reconcile(
+                alloc,
+                PathEdit {
+                    path,
+                    from: range.start,
+                    to: range.end,
+                    others: replacement,
+                },
+            );
+        }
+        Ok(Reconciled {
+            path,
+            renumbered: Renumbered {
+                window: 0..0,
+                tried: 0,
+            },
+            moves: Moves::none(alloc),
+        })
+    }
+}
