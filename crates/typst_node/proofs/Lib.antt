@@ -11,7 +11,13 @@ pub mod Edited
 pub mod EditsBelow
 pub mod EditStep
 pub mod WholeTreeEdited
+pub mod Put
 pub mod Outside
+pub mod Following
+pub mod Noted
+pub mod MovedPaths
+pub mod Moved
+pub mod WholeMoved
 pub mod Settled
 pub mod PathsInPreorder
 pub mod FirstThatPasses
@@ -34,6 +40,12 @@ pub mod SamePlain
 pub mod EntryLemmas
 pub mod TellAlike
 pub mod Decided
+pub mod Narrowed
+pub mod OnlyChange
+pub mod LeafKept
+pub mod NodeNumbers
+pub mod Trails
+pub mod AtNarrowest
 pub mod Measured
 pub mod Blocks
 pub mod Lasts

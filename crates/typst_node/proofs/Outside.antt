@@ -26,15 +26,15 @@ suc_plus n j = omega arith
 zero_plus : (j : ℕ) → 0 + j ≡ j
 zero_plus j = omega arith
 
-get_drop : {X : Type 0} (n j : ℕ) (xs : List X) (d : X) → get_or (drop n xs) j d ≡ get_or xs (n + j) d
+pub get_drop : {X : Type 0} (n j : ℕ) (xs : List X) (d : X) → get_or (drop n xs) j d ≡ get_or xs (n + j) d
 get_drop zero j xs d = ap (λ k. get_or xs k d) (sym (zero_plus j))
 get_drop (suc n) j [] d = refl
 get_drop (suc n) j (x ∷ xs) d = get_drop n j xs d ∙ ap (λ k. get_or (x ∷ xs) k d) (sym (suc_plus n j))
 
-not_below : (a b : ℕ) → nat_lt a b ≡ false → b ≤ a
+pub not_below : (a b : ℕ) → nat_lt a b ≡ false → b ≤ a
 not_below a b e = let never : a < b → ⊥ = λ h. let yes = lt-ltb a b h in cc in omega (arith, never)
 
-not_equal : (i j : ℕ) → (i == j) ≡ false → ¬ (i ≡ j)
+pub not_equal : (i j : ℕ) → (i == j) ≡ false → ¬ (i ≡ j)
 not_equal i j e h = let t = eq-eqb i j h in cc
 
 -- a child that is outside of the window, of the new children ks and of the old ones ts
@@ -100,7 +100,7 @@ keeps (i ∷ p) (j ∷ q) ks t from to back h front rest many path n =
     keeps_below i p j q ks t from to (length (trees (tree_at (i ∷ p) t).children)) (length ks) h.0 path n
     (λ path m. keeps p q ks (get_or (trees t.children) i no_tree) from to back h.1 front rest many path m) (i == j) refl
 
-keeps_whole : (p q : List ℕ) (ks : List Tree) (t u : Tree) (from to back : ℕ) → u ≡ with_children p ks t → IsPath p t → take from ks ≡ take from (trees (tree_at p t).children) → drop to ks ≡ drop back (trees (tree_at p t).children)
+pub keeps_whole : (p q : List ℕ) (ks : List Tree) (t u : Tree) (from to back : ℕ) → u ≡ with_children p ks t → IsPath p t → take from ks ≡ take from (trees (tree_at p t).children) → drop to ks ≡ drop back (trees (tree_at p t).children)
     → back + length ks ≡ to + length (trees (tree_at p t).children) → IsPath q u → ¬ (IsInWindow p from to q)
     → IsKeptAs q u (old_place p to (length (trees (tree_at p t).children)) (length ks) q) t
 keeps_whole p q ks t u from to back is h front rest many path n =
@@ -115,16 +115,16 @@ module _ (from to : ℕ) (others ts : List Tree) (order : from ≤ to) (inside :
   abbrev pub e : ℕ
   e = kept_last from to others ts
 
-  p_old : p ≤ to - from
+  pub p_old : p ≤ to - from
   p_old = omega (arith, first_within (slice_range ts from to) others, length-take (to - from) (drop from ts))
 
-  p_new : p ≤ length others
+  pub p_new : p ≤ length others
   p_new = first_within_others (slice_range ts from to) others
 
-  e_old : e ≤ to - (from + p)
+  pub e_old : e ≤ to - (from + p)
   e_old = omega (arith, first_within (reverse (slice_range ts (from + p) to)) (reverse (drop p others)), length-reverse (slice_range ts (from + p) to), length-take (to - (from + p)) (drop (from + p) ts))
 
-  e_new : e ≤ length others - p
+  pub e_new : e ≤ length others - p
   e_new = omega (arith, first_within_others (reverse (slice_range ts (from + p) to)) (reverse (drop p others)), length-reverse (drop p others), length-drop p others)
 
   module _ (first end : ℕ) (r : Renumbered) (new : List Tree) (ok : IsRenumbering (site_among first end from to others ts) r new) where

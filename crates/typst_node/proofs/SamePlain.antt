@@ -7,10 +7,10 @@ use Rattle.typst_node.specs.Paths.{IsPath, tree_at, no_tree}
 use Rattle.typst_node.specs.PlainEdit.{RangeFits, EditFits}
 use Rattle.typst_node.proofs.EditStep.{kids_plain}
 
-many_alike : (ts us : List Tree) → map plain ts ≡ map plain us → length ts ≡ length us
+pub many_alike : (ts us : List Tree) → map plain ts ≡ map plain us → length ts ≡ length us
 many_alike ts us same = sym (length-map ts plain) ∙ (ap length same ∙ length-map us plain)
 
-one_alike : (ts us : List Tree) (i : ℕ) → map plain ts ≡ map plain us → plain (get_or ts i no_tree) ≡ plain (get_or us i no_tree)
+pub one_alike : (ts us : List Tree) (i : ℕ) → map plain ts ≡ map plain us → plain (get_or ts i no_tree) ≡ plain (get_or us i no_tree)
 one_alike ts us i same = sym (get_plain ts i) ∙ (ap (λ vs. get_or vs i (plain no_tree)) same ∙ get_plain us i)
   where
     get_plain : (ts : List Tree) (i : ℕ) → get_or (map plain ts) i (plain no_tree) ≡ plain (get_or ts i no_tree)

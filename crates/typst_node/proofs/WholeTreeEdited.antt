@@ -25,20 +25,20 @@ use Rattle.typst_node.proofs.Ordered.{within_from_numbered, numbered_from_within
 use Rattle.typst_node.proofs.Edited.{below_within, file_within}
 
 -- counts
-count_set : (ts : List Tree) (i : ℕ) (new d : Tree) → i < length ts → count_of_all (set ts i new) + count (get_or ts i d) ≡ count_of_all ts + count new
+pub count_set : (ts : List Tree) (i : ℕ) (new d : Tree) → i < length ts → count_of_all (set ts i new) + count (get_or ts i d) ≡ count_of_all ts + count new
 count_set [] i new d h = absurd (omega arith)
 count_set (t ∷ ts) zero new d h = omega (arith, count_of_all-cons t ts, count_of_all-cons new ts)
 count_set (t ∷ ts) (suc i) new d h = omega (arith, count_of_all-cons t ts, count_of_all-cons t (set ts i new), count_set ts i new d (omega arith))
 
-text_set : (ts : List Tree) (i : ℕ) (new d : Tree) → i < length ts → length (text_of_all (set ts i new)) + length (text (get_or ts i d)) ≡ length (text_of_all ts) + length (text new)
+pub text_set : (ts : List Tree) (i : ℕ) (new d : Tree) → i < length ts → length (text_of_all (set ts i new)) + length (text (get_or ts i d)) ≡ length (text_of_all ts) + length (text new)
 text_set [] i new d h = absurd (omega arith)
 text_set (t ∷ ts) zero new d h = omega (arith, length-text_of_all-cons t ts, length-text_of_all-cons new ts)
 text_set (t ∷ ts) (suc i) new d h = omega (arith, length-text_of_all-cons t ts, length-text_of_all-cons t (set ts i new), text_set ts i new d (omega arith))
 
-count_tree : (t : Tree) → count t ≡ suc (count_of_all (trees t.children))
+pub count_tree : (t : Tree) → count t ≡ suc (count_of_all (trees t.children))
 count_tree t = ap suc (sym (count_of_trees t.children))
 
-text_tree : (t : Tree) → length (text t) ≡ length (own_text t.label) + length (text_of_all (trees t.children))
+pub text_tree : (t : Tree) → length (text t) ≡ length (own_text t.label) + length (text_of_all (trees t.children))
 text_tree t = length-append (own_text t.label) (joined (preorder t.children)) ∙ ap (λ f. length (own_text t.label) + length (joined (preorder f))) (sym (forest-trees t.children))
 
 pub text_forest : (t : Tree) (ts : List Tree) → length (text (with_children [] ts t)) ≡ length (own_text t.label) + length (text_of_all ts)
@@ -102,11 +102,11 @@ within_set file a b [] i new d h same below w = absurd (omega arith)
 within_set file a b (t ∷ ts) zero new d h same below w = (coe 1 0 (i. (same i).span.file ≡ file) w.0, coe 1 0 (i. a ≤ number (same i)) w.1, below, coe 1 0 (i. IsWithin file (bound (same i)) b (forest ts)) w.3)
 within_set file a b (t ∷ ts) (suc i) new d h same below w = (w.0, w.1, w.2, within_set file (bound t.label) b ts i new d (omega arith) same below w.3)
 
-label_kids : (path : List ℕ) (ks : List Tree) (t : Tree) → (with_children path ks t).label ≡ t.label
+pub label_kids : (path : List ℕ) (ks : List Tree) (t : Tree) → (with_children path ks t).label ≡ t.label
 label_kids [] ks t = refl
 label_kids (i ∷ path) ks t = refl
 
-below_kids : (path : List ℕ) (file : ℕ) (ks : List Tree) (t : Tree) → IsPath path t → IsWithin file (number t.label + 1) (bound t.label) t.children → IsWithin file (number (tree_at path t).label + 1) (bound (tree_at path t).label) (forest ks)
+pub below_kids : (path : List ℕ) (file : ℕ) (ks : List Tree) (t : Tree) → IsPath path t → IsWithin file (number t.label + 1) (bound t.label) t.children → IsWithin file (number (tree_at path t).label + 1) (bound (tree_at path t).label) (forest ks)
     → IsWithin file (number t.label + 1) (bound t.label) (with_children path ks t).children
 below_kids [] file ks t h w k = k
 below_kids (i ∷ path) file ks t h w k =
@@ -117,7 +117,7 @@ below_kids (i ∷ path) file ks t h w k =
     within_set file (number t.label + 1) (bound t.label) (trees t.children) i (with_children path ks old) no_tree h.0 (label_kids path ks old)
     (coe 1 0 (j. IsWithin file (number (label_kids path ks old j) + 1) (bound (label_kids path ks old j)) (with_children path ks old).children) new) kids
 
-file_at : (path : List ℕ) (file a b : ℕ) (t : Tree) → IsPath path t → IsTreeWithin file a b t → (tree_at path t).label.span.file ≡ file
+pub file_at : (path : List ℕ) (file a b : ℕ) (t : Tree) → IsPath path t → IsTreeWithin file a b t → (tree_at path t).label.span.file ≡ file
 file_at [] file a b t h w = w.0
 file_at (i ∷ path) file a b t h w =
     let kids = subst (λ f. IsWithin file (number t.label + 1) (bound t.label) f) (sym (forest-trees t.children)) w.2 in

@@ -1,5 +1,5 @@
 -- The working forms of a replacement: how it changes the children and their node.
-use Rattle.std.specs.Prelude.{ℕ, ◌≡◌, ◌-◌, ◌≤◌, ◌⊎◌, ◌↔◌, List, ◌++◌, length, map, get_or, Option, None, MatchOption, Result, IsErrOf, IfOk, OnOk, OnErr}
+use Rattle.std.specs.Prelude.{ℕ, ◌≡◌, ◌⊎◌, ◌↔◌, List, ◌++◌, length, map, get_or, Option, None, MatchOption, Result, IsErrOf, IfOk, OnOk, OnErr}
 use Rattle.typst_node.specs.Tree.{Tree, forest, trees}
 use Rattle.typst_node.specs.Text.{text_of_all}
 use Rattle.typst_node.specs.Plain.{plain}
@@ -17,7 +17,7 @@ use Rattle.typst_node.specs.declared.node.InnerNode.{InnerNode}
 use Rattle.typst_node.specs.declared.node.replace.Renumbered.{Renumbered}
 use Rattle.typst_node.specs.declared.node.replace.Growth.{Growth}
 use Rattle.typst_node.specs.declared.node.replace.ReplaceError.{ReplaceError}
-use Rattle.typst_node.specs.declared.node.replace.ReplaceError.TheVariants.{Unnumberable, Overflow, Memory}
+use Rattle.typst_node.specs.declared.node.replace.ReplaceError.TheVariants.{Unnumberable, Overflow}
 
 -- the node has no file id, or no window has room for others in place of some children
 abbrev pub HasNoRoom : ℕ → ℕ → List Tree → Tree → Type 0
@@ -48,7 +48,6 @@ pub record AreReplaced (s : Site) (growth : Growth) (id : Option ℕ) (old new :
 pub record IsReplacement (from to : ℕ) (others : List Tree) (growth : Growth) (old new : Tree) (result : Result Renumbered ReplaceError) : Type 0 where
   pub unnumberable : IsErrOf result Unnumberable ↔ (GrowWithin growth (trees old.children) (spliced from to others old) × HasNoRoom from to others old)
   pub overflow : IsErrOf result Overflow ↔ ¬ (GrowWithin growth (trees old.children) (spliced from to others old))
-  pub memory : length others ≤ to - from → ¬ (IsErrOf result Memory)
   pub ok : IfOk result (λ r. IsRenumbering (site_of from to others old) r (trees new.children))
   pub label : new.label ≡ old.label
   pub plain : OnOk result (plain new ≡ plain (edited from to others old))

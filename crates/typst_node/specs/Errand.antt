@@ -1,10 +1,12 @@
 -- A replacement on its way down to its node.
-use Rattle.std.specs.Prelude.{ℕ, ◌≡◌, List, None, IfSome}
+use Rattle.std.specs.Prelude.{ℕ, ◌≡◌, ◌-◌, ◌≤◌, List, length, None, IsNone, IfSome, IsErrOf}
 use Rattle.typst_node.specs.Tree.{Tree}
 use Rattle.typst_node.specs.PlainEdit.{FitsInner}
 use Rattle.typst_node.specs.Edit.{IsNumberedOrUnfiled}
 use Rattle.typst_node.specs.Growth.{CanGrow}
 use Rattle.typst_node.specs.EditBelow.{IsReplacement}
+use Rattle.typst_node.specs.Moves.{AreMovesOf}
+use Rattle.typst_node.specs.declared.node.replace.ReplaceError.TheVariants.{Memory}
 use Rattle.typst_node.specs.declared.node.replace_at.Errand.{Errand}
 
 -- the path leads to an inner node whose children hold the errand's range
@@ -19,3 +21,14 @@ IsErrand path e t = (e.answer ≡ None) × CanGrow e.edit.growth t × (FitsAt pa
 -- the answer of the errand says how its replacement changed the node
 abbrev pub IsCarriedOut : Errand → Errand → Tree → Tree → Type 0
 IsCarriedOut before after old new = IfSome after.answer (IsReplacement before.edit.from before.edit.to before.edit.others.items before.edit.growth old new)
+
+-- the moves, if the errand asks for them, are those of its replacement
+abbrev pub HasMoves : Errand → Errand → Tree → Tree → Type 0
+HasMoves before after old new =
+    IfSome after.answer (AreMovesOf before.edit.from before.edit.to before.edit.others.items old new after.moves)
+
+-- unless the errand asks for moves, it needs memory only if the number of children grows
+abbrev pub IsSparing : Errand → Errand → Type 0
+IsSparing before after =
+    IsNone before.moves → length before.edit.others.items ≤ before.edit.to - before.edit.from
+    → IfSome after.answer (λ answer. ¬ (IsErrOf answer Memory))

@@ -27,6 +27,10 @@ pub mod FirstWindow
 pub mod Renumbering
 pub mod Edit
 pub mod Refusals
+pub mod Put
+pub mod Narrower
+pub mod Narrowing
+pub mod Reconciled
 pub mod Growth
 pub mod EditBelow
 pub mod Errand
@@ -35,6 +39,9 @@ pub mod Stale
 pub mod BinaryDigits
 pub mod Change
 pub mod Outside
+pub mod Moves
+pub mod EqualMoves
+pub mod Following
 pub mod Warnings
 pub mod Hints
 pub mod Synthesized

@@ -24,3 +24,10 @@ IsRefusedBy Memory e t =
     × ¬ (IsUnfiled (tree_at e.path t))
     × ¬ (HasNoFirst (site_by e t))
     × (e.to - e.from < length e.others)
+
+-- the same, with `Memory` whether or not the number of children grows, since moves take memory
+abbrev pub IsRefusedFollowing : ReplaceError → Edit → Tree → Type 0
+IsRefusedFollowing Overflow e t = IsRefusedBy Overflow e t
+IsRefusedFollowing Unnumberable e t = IsRefusedBy Unnumberable e t
+IsRefusedFollowing Memory e t =
+    Fits e t × TreeFits (edited_by e t) × ¬ (IsUnfiled (tree_at e.path t)) × ¬ (HasNoFirst (site_by e t))

@@ -20,7 +20,9 @@ pub use node::SyntaxNode;
 pub use node::build::InnerError;
 pub use node::diagnostics::SyntaxDiagnostic;
 pub use node::mapped::SynthesizeError;
+pub use node::moves::Moves;
 pub use node::number::Unnumberable;
+pub use node::reconcile::{Reconciled, Touched};
 pub use node::replace::{Renumbered, ReplaceError};
 
 pub mod ast_node;

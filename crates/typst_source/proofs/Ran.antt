@@ -1,14 +1,16 @@
 -- What a whole run leaves.
-use Rattle.std.proofs.Common.{◌≡◌, ℕ, List, [], ◌∷◌, ◌++◌, refl, sym, ap, subst, ◌∙◌, is_ok, true}
+use Rattle.std.proofs.Common.{◌≡◌, ℕ, inl, inr, List, [], ◌∷◌, ◌++◌, refl, sym, ap, subst, ◌∙◌, is_ok, true}
 use Rattle.std.specs.Prelude.{Result, Ok, Err, OnErr}
+use Rattle.typst_base.specs.Span.{SpanParts}
 use Rattle.typst_node.specs.Tree.{Tree}
+use Rattle.typst_node.specs.Labels.{number}
 use Rattle.typst_node.specs.Text.{text}
 use Rattle.typst_node.specs.Plain.{plain}
 use Rattle.typst_node.specs.Numbered.{IsNumbered, IsNumberedFor}
 use Rattle.typst_node.specs.Paths.{IsPath, tree_at}
 use Rattle.typst_source.specs.Blocks.{Block, document}
 use Rattle.typst_source.specs.Runs.{IsServed, IsRun, if_edited, edited_text}
-use Rattle.typst_source.specs.Kept.{GoesOn, StaysThrough, KeepsLabel}
+use Rattle.typst_source.specs.Kept.{GoesOn, NumberGoesOn, StaysThrough, NumberStaysThrough, KeepsLabel}
 use Rattle.typst_source.specs.declared.runs.TextEdit.{TextEdit}
 use Rattle.typst_source.specs.declared.runs.Outcome.{Outcome}
 use Rattle.typst_source.specs.declared.runs.Outcome.TheVariants.{Edited, Misfit, Refused}
@@ -77,6 +79,24 @@ module _ (first : List ℕ → Block) where
       (rest.0, rest.1 ∙ over.1)
   kept_same [] (out ∷ outs) old new p q kept there = absurd kept
   kept_same (edit ∷ edits) [] old new p q kept there = absurd kept
+
+  -- and so do the numbers that go on
+  number_after : (edit : TextEdit) (out : Outcome) (old new : Tree) (p q : List ℕ) → IsServed first old edit out new → NumberGoesOn out old new p q → IsPath p old → IsPath q new × (number (tree_at q new).label ≡ number (tree_at p old).label)
+  number_after edit (Edited done) old new p q s (inl on) there = let same = served_same edit (Edited done) old new p q s on there in (same.0, ap number same.1)
+  number_after edit (Edited done) old new p q s (inr still) there =
+      let kept = s.1.still still.0 q still.1 in
+      (still.1, ap (λ (span : SpanParts). span.low) kept.1 ∙ ap (λ place. number (tree_at place old).label) still.2)
+  number_after edit Misfit old new p q s on there = let same = same_tree old new p q s.1 on there in (same.0, ap number same.1)
+  number_after edit (Refused error) old new p q s on there = let same = same_tree old new p q s.2 on there in (same.0, ap number same.1)
+
+  pub number_kept : (edits : List TextEdit) (outs : List Outcome) (old new : Tree) (p q : List ℕ) → NumberStaysThrough first old edits outs new p q → IsPath p old → IsPath q new × (number (tree_at q new).label ≡ number (tree_at p old).label)
+  number_kept [] [] old new p q kept there = let same = same_tree old new p q kept.0 kept.1 there in (same.0, ap number same.1)
+  number_kept (edit ∷ edits) (out ∷ outs) old new p q kept there =
+      let over = number_after edit out old kept.0 p kept.1 kept.2 kept.3 there in
+      let rest = number_kept edits outs kept.0 new kept.1 q kept.4 over.0 in
+      (rest.0, rest.1 ∙ over.1)
+  number_kept [] (out ∷ outs) old new p q kept there = absurd kept
+  number_kept (edit ∷ edits) [] old new p q kept there = absurd kept
 
 -- a numbered tree is numbered for its own file
 pub own_file : (t : Tree) → IsNumbered t → IsNumberedFor t.label.span.file t

@@ -8,8 +8,9 @@ use Rattle.typst_node.specs.Plain.{plain}
 use Rattle.typst_node.specs.Count.{count}
 use Rattle.typst_node.specs.Labels.{number, bound}
 use Rattle.typst_node.specs.Numbered.{IsNumberedFor}
+use Rattle.typst_node.specs.Following.{AllGoOnOrGo}
 use Rattle.typst_node.specs.Outside.{KeepsOutside}
-use Rattle.typst_node.specs.Accepted.{IsAccepted}
+use Rattle.typst_node.specs.Reconciled.{IsReconciled, KeepsNumbers}
 use Rattle.typst_source.specs.Blocks.{Block, document}
 use Rattle.typst_source.specs.Reparsed.{AreReparsed, AreSeams, cut_of}
 use Rattle.typst_source.specs.Source.{IsTooLarge}
@@ -18,22 +19,25 @@ use Rattle.typst_source.specs.declared.edited.Edited.{Edited}
 use Rattle.typst_source.specs.declared.error.SourceError.{SourceError}
 use Rattle.typst_source.specs.declared.error.SourceError.TheVariants.{Unnumberable, Overflow, Memory}
 
--- an accepted edit replaced the children of the blocks that were parsed anew
+-- the children of the blocks that were parsed anew were replaced, as far down as nodes go on
 abbrev pub IsReplaced : (List ℕ → Block) → Cut → Tree → Edited → Tree → Type 0
 IsReplaced first cut old done new =
     (from to : ℕ) × (others : List Tree) × AreSeams first (text old) (text new) cut done.reparsed from to (length others)
-    × IsAccepted (record { path = []; from = from; to = to; others = others }) old done.renumbered new
+    × IsReconciled (record { path = []; from = from; to = to; others = others }) old done.path.items done.renumbered done.moves new
 
 -- An edit was done. The text is the edited one. The tree is the one that the text is parsed into, numbered for the same
--- file. The bytes that were parsed anew are those of `AreReparsed`. The nodes of the first window with room were
--- numbered anew, and all nodes outside it keep their labels.
+-- file. The bytes that were parsed anew are those of `AreReparsed`. The nodes that go on stay, and all nodes outside the
+-- window keep their labels. Each node of the old tree goes on or is gone, as the moves say. If no window was tried, all
+-- nodes keep their numbers.
 pub record IsEdited (first : List ℕ → Block) (old : Tree) (range : Range ℕ) (with : List ℕ) (done : Edited) (new : Tree) : Type 0 where
   pub edited : text new ≡ replace_range (text old) range.start range.end with
   pub fresh : plain new ≡ document first (text new)
   pub numbered : IsNumberedFor old.label.span.file new
   pub reparsed : AreReparsed first (text old) (text new) (cut_of range (length with)) done.reparsed
   pub replaced : IsReplaced first (cut_of range (length with)) old done new
-  pub outside : KeepsOutside [] done.renumbered old new
+  pub outside : KeepsOutside done.path.items done.renumbered old new
+  pub all : AllGoOnOrGo done.moves old new
+  pub still : done.renumbered.tried ≡ 0 → KeepsNumbers old new
 
 -- the numbers after the root's own and below its bound are fewer than the nodes of the tree that a text is parsed into
 abbrev pub IsCrowdedBy : (List ℕ → Block) → Tree → List ℕ → Type 0

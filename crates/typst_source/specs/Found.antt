@@ -1,8 +1,7 @@
 -- Where a found node is in the text.
-use Rattle.std.specs.Prelude.{ℕ, [], ◌≡◌, ◌+◌, length, Option, Some, None}
+use Rattle.std.specs.Prelude.{ℕ, ◌≡◌, ◌+◌, length, Option, Some, None}
 use Rattle.std.specs.Option.{ForSome}
 use Rattle.std.specs.declared.ops.Range.{Range}
-use Rattle.typst_node.specs.Tree.{Tree}
 use Rattle.typst_node.specs.Text.{text}
 use Rattle.typst_linked.specs.Place.{Place, subtree}
 use Rattle.typst_linked.specs.Ranges.{begin_of}

@@ -7,7 +7,7 @@ ghost use Rattle.typst_node.specs.Paths.{IsPath, tree_at};
 ghost use Rattle.typst_node.specs.Plain.{plain};
 ghost use Rattle.typst_node.specs.Text.{text};
 ghost use Rattle.typst_source.specs.Blocks.{document};
-ghost use Rattle.typst_source.specs.Kept.{StaysThrough, KeepsLabel};
+ghost use Rattle.typst_source.specs.Kept.{StaysThrough, NumberStaysThrough, KeepsLabel};
 ghost use Rattle.typst_source.specs.Runs.{IsServed, IsRun, edited_text};
 
 use crate::edited::Edited;
@@ -67,7 +67,7 @@ impl<P: BlockParser + Drop> Source<P> {
             → StaysThrough P.first self.old edits.now outcomes.items self.new p q
             → KeepsLabel p q self.old self.new) }
         ensures found_again { IfOk result (λ outcomes. (p q : List ℕ) → IsPath p self.old
-            → StaysThrough P.first self.old edits.now outcomes.items self.new p q
+            → NumberStaysThrough P.first self.old edits.now outcomes.items self.new p q
             → with_number (number (tree_at p self.old).label) self.new ≡ Some q) }
     {
         // Read for the proof: the tree is numbered, and is that of its text.

@@ -101,7 +101,7 @@ fn only_touched_lines_are_parsed_anew(rt: HostRuntime) -> Result<(), Fail> {
                 with: "",
             },
         ],
-        "3..7 1..2 of 1; 7..10 2..3 of 1; misfit; 3..3 1..1 of 1; \"ab\\nef\\n\" true",
+        "3..7 1..2 of 0; 7..10 2..3 of 1; misfit; 3..3 1..1 of 1; \"ab\\nef\\n\" true",
     )
 }
 
@@ -124,7 +124,7 @@ fn an_edit_ends_between_characters(rt: HostRuntime) -> Result<(), Fail> {
                 with: "e",
             },
         ],
-        "misfit; misfit; 0..2 0..1 of 1; \"e\\n\" true",
+        "misfit; misfit; 0..2 0..1 of 0; \"e\\n\" true",
     )
 }
 

@@ -124,6 +124,7 @@ impl InnerNode {
 
 /// Numbers the nodes one after the other, from `start` on. Each node gets its node count times `stride` numbers.
 #[cycle(number)]
+#[inline(always)]
 pub(super) fn number_all(nodes: &mut [SyntaxNode], id: FileId, start: u64, stride: u64)
     requires low { 2 ≤ start }
     requires positive { 1 ≤ stride }

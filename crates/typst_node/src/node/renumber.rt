@@ -15,6 +15,7 @@ use typst_base::FileId;
 impl InnerNode {
     /// Numbers the children of a window anew, from the start of the numbering on. Each child gets its node count times
     /// the stride.
+    #[inline(always)]
     pub(super) fn renumber(&mut self, id: FileId, window: Range<usize>, numbering: Numbering)
         requires measured { IsMeasured self.old }
         requires window { window.start ≤ window.end }

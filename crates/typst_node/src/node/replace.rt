@@ -1,9 +1,11 @@
 //! Replacements of children.
-ghost use Rattle.std.specs.Prelude.{[], List, ◌≡◌, ◌+◌, ◌-◌, ◌^◌, ◌<◌, ◌≤◌, ◌↔◌, length, IfSome, IfNone, IsSome, Ok, IsOk, IfErr, IfOk, IsTrue, OnOk, OnErr, IsErrOf, MatchOption};
+ghost use Rattle.std.specs.Prelude.{[], List, ◌++◌, slice_range, IsNone, ◌≡◌, ◌+◌, ◌-◌, ◌^◌, ◌<◌, ◌≤◌, ◌↔◌, length, IfSome, IfNone, IsSome, Ok, IsOk, IfErr, IfOk, IsTrue, OnOk, OnErr, IsErrOf, MatchOption};
 ghost use Rattle.std.specs.List.{splice};
 ghost use Rattle.typst_node.specs.Tree.{Tree, forest, trees, IsInner};
+ghost use Rattle.typst_node.specs.Numbered.{Rise};
+ghost use Rattle.typst_node.specs.Moves.{numbers, AreMoves, AreMovesOf, AreNoted};
 ghost use Rattle.typst_node.specs.Text.{text_of_all};
-ghost use Rattle.typst_node.specs.Count.{SumsFit};
+ghost use Rattle.typst_node.specs.Count.{SumsFit, count_of_all};
 ghost use Rattle.typst_node.specs.Interval.{IsWithin};
 ghost use Rattle.typst_node.specs.View.{IsMeasured};
 ghost use Rattle.typst_node.specs.PlainEdit.{FitsInner, RangeFits};
@@ -22,9 +24,10 @@ ghost use Rattle.typst_node.specs.declared.node.replace.ReplaceError.TheVariants
 
 use crate::exchange::exchange;
 use crate::node::inner::sums_of;
+use crate::node::moves::Noted;
 use crate::node::settle::Change;
 use crate::node::trim::{count_common_first, count_common_last, trim};
-use crate::node::window::{Found, Row, find};
+use crate::node::window::{Found, Row, find, open_before, open_behind};
 use crate::node::{InnerNode, Node, SyntaxNode};
 use std::alloc::{AllocError, Global};
 use std::ops::Range;
@@ -170,12 +173,90 @@ impl InnerNode {
 }
 
 impl InnerNode {
+    /// The moves of an edit before it is made: the numbers of the children that stay in its window, and room for those
+    /// after it. It is a call of its own, so that edits without moves have a small function.
+    #[inline(never)]
+    fn noted(&self, edit: &Splice, first: u64, window: Range<usize>) -> Result<Noted, AllocError>
+        requires order { edit.now.from ≤ edit.now.to }
+        requires inside { edit.now.to ≤ length self.now.children.items }
+        requires start { window.start ≤ edit.now.from }
+        requires changed { edit.now.from + length edit.now.others.items ≤ window.end }
+        requires end { window.end + edit.now.to
+            ≤ edit.now.from + length edit.now.others.items + length self.now.children.items }
+        requires fits { SumsFit self.now.children.items }
+        requires rise { Rise (numbers self.now.children.items) }
+        ensures { let s : Site = site_at first self.now.upper edit.now.from edit.now.to edit.now.others.items
+            self.now.children.items in IfOk result (AreNoted s window) }
+    {
+        let ahead = &self.children[window.start..edit.from];
+        let last = edit.to + (window.end - (edit.from + edit.others.len()));
+        let behind = &self.children[edit.to..last];
+        let (before, _) = self.children.split_at(edit.from);
+        let (_, rest) = self.children.split_at(edit.to);
+        let gone = open_behind(before, first)..open_before(rest, self.upper);
+        let alloc = *self.children.allocator();
+        let noted = Noted::note(alloc, ahead, behind, gone)?;
+        Ok(noted)
+    }
+
+    /// Notes the moves of an edit, before it is made, if they are asked for.
+    #[inline(always)]
+    fn note(
+        &self,
+        edit: &Splice,
+        first: u64,
+        window: Range<usize>,
+        moves: &mut Option<Noted>,
+    ) -> Result<(), AllocError>
+        requires order { edit.now.from ≤ edit.now.to }
+        requires inside { edit.now.to ≤ length self.now.children.items }
+        requires start { window.start ≤ edit.now.from }
+        requires changed { edit.now.from + length edit.now.others.items ≤ window.end }
+        requires end { window.end + edit.now.to
+            ≤ edit.now.from + length edit.now.others.items + length self.now.children.items }
+        requires fits { SumsFit self.now.children.items }
+        requires rise { Rise (numbers self.now.children.items) }
+        ensures asked { IsSome moves.new ↔ IsSome moves.old }
+        ensures noted { let s : Site = site_at first self.now.upper edit.now.from edit.now.to edit.now.others.items
+            self.now.children.items in OnOk result (IfSome moves.new (AreNoted s window)) }
+        ensures memory { IsNone moves.old → IsOk result }
+    {
+        if moves.is_some() {
+            *moves = Some(self.noted(edit, first, window)?);
+        }
+        Ok(())
+    }
+
+    /// Notes the numbers of the children that stay in the window, after the edit, if moves are asked for.
+    #[inline(always)]
+    fn renew(&self, change: &Change, window: Range<usize>, moves: &mut Option<Noted>)
+        requires start { window.start ≤ change.now.from }
+        requires changed { change.now.from + change.now.many ≤ window.end }
+        requires end { window.end ≤ length self.now.children.items }
+        requires room { IfSome moves.old (λ m. length m.news
+            ≡ count_of_all (slice_range self.now.children.items window.start change.now.from)
+            + count_of_all (slice_range self.now.children.items (change.now.from + change.now.many) window.end)) }
+        ensures asked { IsSome moves.new ↔ IsSome moves.old }
+        ensures renewed { MatchOption moves.old (IsNone moves.new) (λ m. IfSome moves.new (λ n. (n.olds ≡ m.olds)
+            × (n.gone ≡ m.gone) × (n.news ≡ numbers (slice_range self.now.children.items window.start change.now.from
+            ++ slice_range self.now.children.items (change.now.from + change.now.many) window.end)))) }
+    {
+        if let Some(moves) = moves {
+            let ahead = &self.children[window.start..change.from];
+            let behind = &self.children[change.from + change.many..window.end];
+            moves.renew(ahead, behind);
+        }
+    }
+}
+
+impl InnerNode {
     /// Replaces some children, none of which stays. It decides by counts alone, asks for memory, and only then writes.
     fn replace_changed(
         &mut self,
         len: &mut usize,
         owner: Owner,
         edit: Splice,
+        moves: &mut Option<Noted>,
     ) -> Result<Renumbered, ReplaceError>
         requires len { len.old ≡ length (text_of_all self.old.children.items) }
         requires measured { IsMeasured self.old }
@@ -189,7 +270,12 @@ impl InnerNode {
         ensures made { let site : Site = site_at (owner.number + 1) self.old.upper
             edit.from edit.to edit.others.items self.old.children.items in
             AreReplaced site edit.growth owner.id self.old self.new len.new result }
-        ensures memory { length edit.others.items ≤ edit.to - edit.from → ¬ (IsErrOf result Memory) }
+        ensures asked { IsSome moves.new ↔ IsSome moves.old }
+        ensures moves { let site : Site = site_at (owner.number + 1) self.old.upper
+            edit.from edit.to edit.others.items self.old.children.items in
+            IfOk result (λ r. IfSome moves.new (AreMoves site r.window self.new.children.items)) }
+        ensures memory { IsNone moves.old → length edit.others.items ≤ edit.to - edit.from
+            → ¬ (IsErrOf result Memory) }
     {
         let Some(change) = self.change(&edit) else {
             return Err(ReplaceError::Overflow);
@@ -202,9 +288,11 @@ impl InnerNode {
         };
         let start = edit.from.saturating_sub(found.width);
         let end = edit.from + edit.others.len() + found.width.min(self.children.len() - edit.to);
+        self.note(&edit, owner.number + 1, start..end, moves)?;
         self.put(edit, &change)?;
         *len = *len - change.gone.len + change.added.len;
         self.renumber(id, start..end, found.numbering);
+        self.renew(&change, start..end, moves);
         Ok(Renumbered {
             window: start..end,
             tried: found.tried,
@@ -226,6 +314,7 @@ impl InnerNode {
         len: &mut usize,
         owner: Owner,
         edit: Splice,
+        moves: &mut Option<Noted>,
     ) -> Result<Renumbered, ReplaceError>
         requires len { len.old ≡ length (text_of_all self.old.children.items) }
         requires measured { IsMeasured self.old }
@@ -239,7 +328,12 @@ impl InnerNode {
         ensures made { let site : Site = site_among (owner.number + 1) self.old.upper
             edit.from edit.to edit.others.items self.old.children.items in
             AreReplaced site edit.growth owner.id self.old self.new len.new result }
-        ensures memory { length edit.others.items ≤ edit.to - edit.from → ¬ (IsErrOf result Memory) }
+        ensures asked { IsSome moves.new ↔ IsSome moves.old }
+        ensures moves { let site : Site = site_among (owner.number + 1) self.old.upper
+            edit.from edit.to edit.others.items self.old.children.items in
+            IfOk result (λ r. IfSome moves.new (AreMoves site r.window self.new.children.items)) }
+        ensures memory { IsNone moves.old → length edit.others.items ≤ edit.to - edit.from
+            → ¬ (IsErrOf result Memory) }
     {
         let Splice {
             from,
@@ -257,7 +351,7 @@ impl InnerNode {
             others,
             growth,
         };
-        self.replace_changed(len, owner, rest)
+        self.replace_changed(len, owner, rest, moves)
     }
 }
 
@@ -274,13 +368,21 @@ impl SyntaxNode {
 
     /// Replaces the children in a range, if this is an inner node and the range lies within its children.
     #[inline(never)]
-    pub(super) fn replace_range(&mut self, edit: Splice) -> Option<Result<Renumbered, ReplaceError>>
+    pub(super) fn replace_range(
+        &mut self,
+        edit: Splice,
+        moves: &mut Option<Noted>,
+    ) -> Option<Result<Renumbered, ReplaceError>>
         requires numbered { FitsInner [] edit.from edit.to self.old → IsNumberedOrUnfiled [] self.old }
         requires growth { CanGrow edit.growth self.old }
         ensures fits { IsSome result ↔ FitsInner [] edit.from edit.to self.old }
         ensures misfit { IfNone result (self.new ≡ self.old) }
         ensures err { IfSome result (λ answer. OnErr answer (self.new ≡ self.old)) }
         ensures made { IfSome result (IsReplacement edit.from edit.to edit.others.items edit.growth self.old self.new) }
+        ensures asked { IsSome moves.new ↔ IsSome moves.old }
+        ensures moves { IfSome result (AreMovesOf edit.from edit.to edit.others.items self.old self.new moves.new) }
+        ensures memory { IsNone moves.old → length edit.others.items ≤ edit.to - edit.from
+            → IfSome result (λ answer. ¬ (IsErrOf answer Memory)) }
     {
         let id = self.span.id();
         let number = self.span.number();
@@ -289,7 +391,7 @@ impl SyntaxNode {
                 if !inner.holds(&edit) {
                     return None;
                 }
-                return Some(inner.replace(len, Owner { id, number }, edit));
+                return Some(inner.replace(len, Owner { id, number }, edit, moves));
             }
             Node::Short(..) | Node::Long(..) | Node::Leaf(..) | Node::Error(_) => None,
         }
@@ -340,7 +442,8 @@ impl SyntaxNode {
             others: replacement,
             growth: self.growth(),
         };
-        if let Some(answer) = self.replace_range(edit) {
+        let answer = self.replace_range(edit, &mut None);
+        if let Some(answer) = answer {
             return answer;
         }
         Ok(Renumbered {

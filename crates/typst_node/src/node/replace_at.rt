@@ -1,5 +1,6 @@
 //! Replacements at any depth.
-ghost use Rattle.std.specs.Prelude.{[], ◌∷◌, ◌≡◌, ◌+◌, ◌^◌, ◌<◌, ◌≤◌, ◌↔◌, suc, length, set, false, Ok, OnErr, IfOk, IfSome, IfNone, IfErr, IsSome, IsTrue};
+ghost use Rattle.std.specs.Prelude.{[], ◌∷◌, ◌≡◌, ◌+◌, ◌^◌, ◌<◌, ◌≤◌, ◌↔◌, suc, length, set, false, Ok, Err, Some, OnErr, IfOk, IfSome, IfNone, IfErr, IsSome, IsTrue};
+ghost use Rattle.std.specs.List.{AllByRecursion};
 ghost use Rattle.typst_node.specs.Tree.{trees};
 ghost use Rattle.typst_node.specs.Text.{text, text_of_all};
 ghost use Rattle.typst_node.specs.Count.{SumsFit, count, count_of_all};
@@ -12,11 +13,15 @@ ghost use Rattle.typst_node.specs.Growth.{ChildrenCanGrow};
 ghost use Rattle.typst_node.specs.ChangedChildren.{StaysLongest};
 ghost use Rattle.typst_node.specs.Edit.{Fits, IsNumberedOrUnfiled, edit_of};
 ghost use Rattle.typst_node.specs.Accepted.{IsAccepted};
-ghost use Rattle.typst_node.specs.Refusals.{IsRefusedBy};
+ghost use Rattle.typst_node.specs.Refusals.{IsRefusedBy, IsRefusedFollowing};
+ghost use Rattle.typst_node.specs.Following.{IsFollowed};
+ghost use Rattle.typst_node.specs.Moves.{IsNodeNumber};
+ghost use Rattle.typst_node.specs.Numbered.{IsNumbered};
 ghost use Rattle.typst_node.specs.EditBelow.{child_of};
-ghost use Rattle.typst_node.specs.Errand.{FitsAt, IsCarriedOut, IsErrand};
+ghost use Rattle.typst_node.specs.Errand.{FitsAt, HasMoves, IsCarriedOut, IsErrand, IsSparing};
 
 use crate::node::inner::Sums;
+use crate::node::moves::Noted;
 use crate::node::replace::{Renumbered, ReplaceError, Splice};
 use crate::node::settle::Change;
 use crate::node::{InnerNode, Node, SyntaxNode};
@@ -31,6 +36,15 @@ struct Errand {
     edit: Splice,
     // The outcome, once it reached an inner node whose children hold the range.
     answer: Option<Result<Renumbered, ReplaceError>>,
+    // The moves, if they are asked for.
+    moves: Option<Noted>,
+}
+
+/// The window that an edit numbered anew, and where the nodes are after it.
+#[derive(Drop)]
+pub(super) struct Followed {
+    pub(super) renumbered: Renumbered,
+    pub(super) moves: Noted,
 }
 
 impl Errand {
@@ -43,6 +57,9 @@ impl Errand {
         ensures err { IfSome self.new.answer (λ answer. OnErr answer (node.new ≡ node.old)) }
         ensures label { node.new.label ≡ node.old.label }
         ensures done { IsCarriedOut self.old self.new node.old node.new }
+        ensures asked { IsSome self.new.moves ↔ IsSome self.old.moves }
+        ensures moves { HasMoves self.old self.new node.old node.new }
+        ensures sparing { IsSparing self.old self.new }
     {
         let empty = Vec::new(*self.edit.others.allocator());
         let others = mem::replace(&mut self.edit.others, empty);
@@ -52,12 +69,30 @@ impl Errand {
             growth,
             ..
         } = self.edit;
-        self.answer = node.replace_range(Splice {
+        let rest = Splice {
             from,
             to,
             others,
             growth,
-        });
+        };
+        self.answer = node.replace_range(rest, &mut self.moves);
+    }
+}
+
+impl Errand {
+    /// The answer and the moves, which were asked for.
+    fn followed(self) -> Result<Followed, ReplaceError>
+        requires made { IsSome self.answer }
+        requires asked { IsSome self.moves }
+        ensures done { IfOk result (λ followed. (self.answer ≡ Some (Ok followed.renumbered))
+            × (self.moves ≡ Some followed.moves)) }
+        ensures refused { IfErr result (λ why. self.answer ≡ Some (Err why)) }
+    {
+        let moves = self.moves.unwrap();
+        match self.answer.unwrap() {
+            Ok(renumbered) => Ok(Followed { renumbered, moves }),
+            Err(why) => Err(why),
+        }
     }
 }
 
@@ -72,6 +107,9 @@ impl SyntaxNode {
         ensures err { IfSome errand.new.answer (λ answer. OnErr answer (self.new ≡ self.old)) }
         ensures frame { StaysBeside path.now self.old self.new }
         ensures at { IsCarriedOut errand.old errand.new (tree_at path.now self.old) (tree_at path.now self.new) }
+        ensures asked { IsSome errand.new.moves ↔ IsSome errand.old.moves }
+        ensures moves { HasMoves errand.old errand.new (tree_at path.now self.old) (tree_at path.now self.new) }
+        ensures sparing { IsSparing errand.old errand.new }
     {
         match path.split_first() {
             None => errand.arrive(self),
@@ -112,6 +150,10 @@ impl InnerNode {
             (child_of self.new.children.items index) }
         ensures at { IsCarriedOut errand.old errand.new (tree_at path.now (child_of self.old.children.items index))
             (tree_at path.now (child_of self.new.children.items index)) }
+        ensures asked { IsSome errand.new.moves ↔ IsSome errand.old.moves }
+        ensures moves { HasMoves errand.old errand.new (tree_at path.now (child_of self.old.children.items index))
+            (tree_at path.now (child_of self.new.children.items index)) }
+        ensures sparing { IsSparing errand.old errand.new }
     {
         let gone = self.children[index].measures();
         self.children[index].replace_below(path, errand);
@@ -121,7 +163,7 @@ impl InnerNode {
     /// Corrects what is kept after the child at an index changed. Before, the child had the sums `gone`. This call has
     /// a stack frame of its own, so that the way down takes less stack.
     #[inline(never)]
-    fn settle_child(&mut self, index: usize, gone: Sums)
+    pub(super) fn settle_child(&mut self, index: usize, gone: Sums)
         requires index { index < length self.old.children.items }
         requires stale { IsStale index (index + 1) 1 gone self.old }
         requires fits { SumsFit self.old.children.items }
@@ -193,7 +235,11 @@ impl SyntaxNode {
             others: replacement,
             growth: self.growth(),
         };
-        let mut errand = Errand { edit, answer: None };
+        let mut errand = Errand {
+            edit,
+            answer: None,
+            moves: None,
+        };
         self.replace_below(path, &mut errand);
         errand.answer
     }
@@ -233,5 +279,42 @@ impl SyntaxNode {
                 tried: 0,
             }),
         }
+    }
+
+    /// Replaces children as [`SyntaxNode::replace_at`] does, and also says where the nodes of the tree are after it.
+    ///
+    /// It also takes time and memory in proportion to the nodes that stay in the window. It asks for this memory before
+    /// it changes anything.
+    pub(super) fn replace_following(
+        &mut self,
+        alloc: Global,
+        path: &[usize],
+        range: Range<usize>,
+        replacement: Vec<SyntaxNode>,
+    ) -> Result<Followed, ReplaceError>
+        requires fits { Fits (edit_of path.now range replacement.items) self.old }
+        requires numbered { IsNumbered self.old }
+        ensures accepted { IfOk result (λ done.
+            IsAccepted (edit_of path.now range replacement.items) self.old done.renumbered self.new) }
+        ensures followed { IfOk result (λ done.
+            IsFollowed (edit_of path.now range replacement.items) self.old self.new done.moves) }
+        ensures numbers { IfOk result (λ done. AllByRecursion IsNodeNumber done.moves.news) }
+        ensures refused { IfErr result (λ why.
+            IsRefusedFollowing why (edit_of path.now range replacement.items) self.old) }
+        ensures err { OnErr result (self.new ≡ self.old) }
+    {
+        let edit = Splice {
+            from: range.start,
+            to: range.end,
+            others: replacement,
+            growth: self.growth(),
+        };
+        let mut errand = Errand {
+            edit,
+            answer: None,
+            moves: Some(Noted::none(alloc)),
+        };
+        self.replace_below(path, &mut errand);
+        errand.followed()
     }
 }

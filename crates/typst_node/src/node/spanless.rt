@@ -109,6 +109,7 @@ impl SyntaxNode {
 
 impl Node {
     #[cycle(alike)]
+    #[tactic(auto, using(crate::proofs::Plain::same_text_of_all, crate::proofs::Plain::same_count_of_all))]
     fn spanless_eq(&self, other: &Node) -> bool
         requires kept { IsConsistent self.now }
         requires other { IsConsistent other.now }
@@ -119,9 +120,12 @@ impl Node {
             Node::Short(kind, len, bytes) => other.is_leaf_of(*kind, text_in(*len, bytes)),
             Node::Long(kind, text) => other.is_leaf_of(*kind, text.as_str()),
             Node::Leaf(kind, leaf) => other.is_leaf_of(*kind, leaf.text.as_str()),
-            Node::Inner(kind, _, inner) => match other {
-                Node::Inner(other_kind, _, other_inner) => {
+            // Where the sums differ, nothing below needs to be read.
+            Node::Inner(kind, len, inner) => match other {
+                Node::Inner(other_kind, other_len, other_inner) => {
                     same_kind(*kind, *other_kind)
+                        && *len == *other_len
+                        && inner.descendants == other_inner.descendants
                         && all_alike(&inner.children, &other_inner.children)
                 }
                 Node::Short(..) | Node::Long(..) | Node::Leaf(..) | Node::Error(_) => false,
@@ -140,7 +144,7 @@ impl Node {
 
 /// Whether both lists hold the same trees apart from spans and bounds.
 #[cycle(alike)]
-fn all_alike(nodes: &[SyntaxNode], others: &[SyntaxNode]) -> bool
+pub(super) fn all_alike(nodes: &[SyntaxNode], others: &[SyntaxNode]) -> bool
     ensures { IsTrue result ↔ (map plain nodes.now ≡ map plain others.now) }
 {
     if nodes.len() != others.len() {

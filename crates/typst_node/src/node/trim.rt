@@ -5,6 +5,7 @@ ghost use Rattle.typst_node.specs.ChangedChildren.{IsCommonBeginning, common_fir
 use crate::node::SyntaxNode;
 
 /// The number of nodes that both lists have alike at the beginning.
+#[inline(always)]
 pub(super) fn count_common_first(nodes: &[SyntaxNode], others: &[SyntaxNode]) -> usize
     ensures is { result ≡ common_first nodes.now others.now }
     ensures longest { IsCommonBeginning nodes.now others.now result }
@@ -21,6 +22,7 @@ pub(super) fn count_common_first(nodes: &[SyntaxNode], others: &[SyntaxNode]) ->
 }
 
 /// The number of nodes that both lists have alike at the end.
+#[inline(always)]
 pub(super) fn count_common_last(nodes: &[SyntaxNode], others: &[SyntaxNode]) -> usize
     ensures is { result ≡ common_last nodes.now others.now }
     ensures longest { IsCommonBeginning (reverse nodes.now) (reverse others.now) result }

@@ -40,7 +40,7 @@ pub(super) struct Found {
 }
 
 /// The number of nodes in the trees. It takes time in proportion to the length of the list.
-fn count_all(nodes: &[SyntaxNode]) -> usize
+pub(super) fn count_all(nodes: &[SyntaxNode]) -> usize
     requires { count_of_all nodes.now < 2 ^ 64 }
     ensures { result ≡ count_of_all nodes.now }
 {
@@ -52,7 +52,7 @@ fn count_all(nodes: &[SyntaxNode]) -> usize
 }
 
 /// The first open number after the nodes.
-fn open_behind(nodes: &[SyntaxNode], first: u64) -> u64
+pub(super) fn open_behind(nodes: &[SyntaxNode], first: u64) -> u64
     ensures { result ≡ open_from first nodes.now }
 {
     if nodes.is_empty() {
@@ -63,7 +63,7 @@ fn open_behind(nodes: &[SyntaxNode], first: u64) -> u64
 }
 
 /// The end of the open numbers before the nodes.
-fn open_before(nodes: &[SyntaxNode], end: u64) -> u64
+pub(super) fn open_before(nodes: &[SyntaxNode], end: u64) -> u64
     ensures { result ≡ open_to end nodes.now }
 {
     match nodes.first() {

@@ -1,4 +1,4 @@
-use Rattle.std.proofs.Common.{◌+◌, ◌<◌, ◌≤◌, length, arith, take, refl, ap, sym, ◌∙◌, subst}
+use Rattle.std.proofs.Common.{◌+◌, ◌<◌, ◌≤◌, length, arith, refl, ap, sym, subst}
 use Rattle.typst_source.specs.Extents.{IsBeginning}
 use Rattle.typst_source.specs.declared.extents.Beginning.{Beginning}
 use Rattle.typst_source.proofs.Sums.{sums_more, reach_more, looked_at, nodes_parts, bytes_reach}

@@ -12,6 +12,8 @@ use Rattle.typst_node.specs.Edit.{IsNumberedOrUnfiled}
 use Rattle.typst_node.specs.Window.{Site, site_of, site_among}
 use Rattle.typst_node.specs.Renumbering.{IsRenumbering}
 use Rattle.typst_node.specs.FirstWindow.{HasNoFirst}
+use Rattle.std.specs.Prelude.{IfOk, IfSome}
+use Rattle.typst_node.specs.Moves.{AreMoves}
 use Rattle.typst_node.specs.Growth.{ChildrenCanGrow, GrowWithin}
 use Rattle.typst_node.specs.EditBelow.{AreReplaced, all_at}
 use Rattle.typst_node.proofs.Trees.{trees_of_forest}
@@ -114,7 +116,6 @@ returns-in-Inner-clause-made c =
         λ h fits. e.overflow.0 h (from (all_at s) (within_same g (trees t.children) (spliced a b ys t) (all_at s) (sym alike) fits)),
         λ n. e.overflow.1 (λ fits. n (within_same g (trees t.children) (all_at s) (spliced a b ys t) alike (into (all_at s) fits))),
       );
-      memory = c.replace.ensures.memory;
       ok = IfOk-weaker result _ _ (λ r h. coe 0 1 (i. IsRenumbering s r (sym (trees_of_forest new.children.items) i)) h) e.ok;
       label = label;
       plain = IfOk-weaker result _ _
@@ -125,3 +126,17 @@ returns-in-Inner-clause-made c =
           (λ r h. numbered_after c.id-id.result t (tree_of record { node = Inner _ c.in-Inner.len (with_value c.in-Inner.inner new); span = c.self.inside.span }) (number t.label) (bound t.label)
           id numbered refl refl label h) e.within;
     }
+
+pub returns-in-Inner-clause-moves : goal.returns-in-Inner-clause-moves
+returns-in-Inner-clause-moves c =
+    let t = c.args.self.now in
+    let items : trees t.children ≡ c.in-Inner.inner.value.children.items = inner_kids c.self.inside _ _ c.in-Inner.inner t c.in-Inner.is c.self.view_is in
+    let kids : trees t.children ≡ c.deref_mut.result.now.children.items = items ∙ sym (ap (λ b. b.children.items) c.deref_mut.ensures.value) in
+    let num : number t.label ≡ c.number-number.result = inner_number c.self.inside _ _ c.in-Inner.inner t c.in-Inner.is c.self.view_is ∙ sym c.number-number.ensures.is in
+    let up : bound t.label ≡ c.deref_mut.result.now.upper = inner_bound c.self.inside _ _ c.in-Inner.inner t c.in-Inner.is c.self.view_is ∙ sym (ap (λ b. b.upper) c.deref_mut.ensures.value) in
+    let a = c.args.edit.from in
+    let b = c.args.edit.to in
+    let ys = c.args.edit.others.items in
+    let new = c.replace.new.self in
+    let at : site_among (c.number-number.result + 1) c.deref_mut.result.now.upper a b ys c.deref_mut.result.now.children.items ≡ site_of a b ys t = λ i. site_among (sym num i + 1) (sym up i) a b ys (sym kids i) in
+    coe 0 1 (i. IfOk c.replace.result (λ r. IfSome c.replace.new.moves (AreMoves (at i) r.window (sym (trees_of_forest new.children.items) i)))) c.replace.ensures.moves

@@ -1,8 +1,6 @@
-use Rattle.std.proofs.Common.{◌≡◌, ◌∙◌, ◌-◌, ◌≤◌, length, drop, refl, sym, ap, subst, arith, length-drop}
-use Rattle.std.specs.List.{AllByRecursion}
+use Rattle.std.proofs.Common.{◌≡◌, ◌-◌, length, drop, refl, sym, ap, subst, arith, length-drop}
 use Rattle.typst_node.specs.Text.{text}
 use Rattle.typst_source.specs.Extents.{bytes_in, nodes_in}
-use Rattle.typst_source.specs.declared.extents.Extent.{Extent}
 use Rattle.std.specs.Prelude.{Err}
 use Rattle.typst_node.specs.declared.node.build.InnerError.TheVariants as inner
 use Rattle.typst_source.specs.Source.{IsTooLarge}

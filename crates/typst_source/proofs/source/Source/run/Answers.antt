@@ -2,13 +2,13 @@ use Rattle.std.proofs.Common.{◌≡◌, ◌∙◌, ◌++◌, ◌∷◌, [], sym
 use Rattle.std.proofs.ResultArms.{chosen}
 use Rattle.std.proofs.Math.Seq.{take-length}
 use Rattle.std.proofs.lemmas.List.{take_more}
-use Rattle.typst_linked.proofs.OneNumber.{found_by_label, still_numbered}
+use Rattle.typst_linked.proofs.OneNumber.{own_number, still_numbered}
+use Rattle.typst_linked.specs.Search.{with_number}
 use Rattle.typst_node.specs.Numbered.{IsNumberedFor}
-use Rattle.typst_node.specs.Paths.{tree_at}
 use Rattle.typst_source.specs.Runs.{IsRun}
 use Rattle.typst_source.specs.declared.runs.Outcome.{Outcome}
 use Rattle.typst_source.specs.declared.runs.TextEdit.{TextEdit}
-use Rattle.typst_source.proofs.Ran.{ok_of, own_file, run_more, run_text, run_fresh, run_numbered, kept_same}
+use Rattle.typst_source.proofs.Ran.{ok_of, own_file, run_more, run_text, run_fresh, run_numbered, kept_same, number_kept}
 use Rattle.typst_source.proofs.source.Source.run.Given as given
 use Rattle.typst_source.proofs.source.Source.run.Goals as goal
 use Rattle.typst_source.proofs.source.Source.run.Goals.{After-loop-edit}
@@ -51,7 +51,7 @@ returns-clause-kept g c p q there kept = kept_same g.P.BlockParser.first c.args.
 
 pub returns-clause-found_again : goal.returns-clause-found_again
 returns-clause-found_again g c p q there kept =
-    let same = kept_same g.P.BlockParser.first c.args.edits.now c.loop-edit.outcomes.items c.args.self.now c.loop-edit.self p q kept there in
+    let same = number_kept g.P.BlockParser.first c.args.edits.now c.loop-edit.outcomes.items c.args.self.now c.loop-edit.self p q kept there in
     let numbered : IsNumberedFor c.args.self.now.label.span.file c.loop-edit.self = run_numbered g.P.BlockParser.first c.args.self.now.label.span.file c.args.self.now c.args.edits.now c.loop-edit.outcomes.items c.loop-edit.self
     (own_file c.args.self.now c.root-root.ensures.numbered) (run_is g c) in
-    found_by_label c.loop-edit.self q (tree_at p c.args.self.now).label (still_numbered c.args.self.now c.loop-edit.self c.root-root.ensures.numbered numbered) same.0 same.1
+    ap (λ n. with_number n c.loop-edit.self) (sym same.1) ∙ own_number c.loop-edit.self q (still_numbered c.args.self.now c.loop-edit.self c.root-root.ensures.numbered numbered) same.0
