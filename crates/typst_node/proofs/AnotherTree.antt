@@ -12,7 +12,7 @@ use Rattle.typst_node.specs.Edit.{Fits, edited_by}
 use Rattle.typst_node.specs.Put.{with_span}
 use Rattle.typst_node.specs.Moves.{NumberMoves, followed, is_within, no_moves}
 use Rattle.typst_node.specs.Following.{AllGoOnOrGo}
-use Rattle.typst_node.specs.Narrower.{GoesOnAs, EndsOnAs}
+use Rattle.typst_node.specs.Narrower.{GoesOnWithin, EndsOnAs}
 use Rattle.typst_node.specs.Refusals.{LacksNumbers}
 use Rattle.typst_node.specs.Reconciled.{IsReconciled, IsUnreconciledBy}
 use Rattle.typst_node.specs.Updated.{edit_to, all_gone, IsRootUpdated, IsUpdated}
@@ -35,12 +35,12 @@ numbered_at (i ∷ path) t there numbered =
     numbered_at path (get_or (trees t.children) i no_tree) there.1 (child_numbered t i there.0 numbered)
 
 -- ---- a root that goes on
-module _ (old other : Tree) (on : GoesOnAs old other) where
+module _ (old other : Tree) (on : GoesOnWithin old other) where
   pub fits_update : Fits (edit_to old other) old
-  fits_update = (tt, on.inner, omega arith, omega arith)
+  fits_update = (tt, on.0.inner, omega arith, omega arith)
 
   whole : plain (edited_by (edit_to old other) old) ≡ plain other
-  whole = ap (λ ks. plain (with_children [] ks old)) (splice_all (trees old.children) (trees other.children)) ∙ goes_on_plain old other on
+  whole = ap (λ ks. plain (with_children [] ks old)) (splice_all (trees old.children) (trees other.children)) ∙ goes_on_plain old other on.0
 
   -- an update of it isn't refused for want of numbers, and not for sums
   pub never_refused : (why : ReplaceError) → IsNumbered old → TreeFits other → IsUnreconciledBy why (edit_to old other) old → why ≡ Memory
@@ -59,7 +59,7 @@ module _ (old other : Tree) (on : GoesOnAs old other) where
             count_plain (edited_by (edit_to old other) old),
             ap count whole,
             count_plain other,
-            on.numbers,
+            on.1,
           )
 
   pub root_goes_on : (below : Below) (m : NumberMoves) (new : Tree) → IsReconciled (edit_to old other) old below.path.items below.touched m new → IsUpdated old other (record { below = Some below; moves = m }) new
@@ -95,7 +95,7 @@ module _ (old other : Tree) (ends : EndsOnAs old other) where
   stays [] there = inl ([], tt, sym ends.kind, nothing_moves (number old.label))
   stays (i ∷ p) there = absurd (omega (arith, there.0, ap length ends.childless))
 
-  pub leaf_updated : ¬ (GoesOnAs old other) → IsNumbered old → IsUpdated old other (record { below = None; moves = no_moves }) (with_span old.label.span other)
+  pub leaf_updated : ¬ (GoesOnWithin old other) → IsNumbered old → IsUpdated old other (record { below = None; moves = no_moves }) (with_span old.label.span other)
   leaf_updated off numbered =
       let filed = numbered.2.in_file.0 in
       record {
@@ -117,7 +117,7 @@ all_go old new numbered p there =
     let at = (numbered_at p old there numbered).2.in_file.0 in
     inr (gone_number old.label.span.file (number (tree_at p old).label) at.1 at.2)
 
-pub root_updated : (old other : Tree) (m : NumberMoves) (new : Tree) → ¬ (GoesOnAs old other) → IsNumbered old → IsRootUpdated old other m new → IsUpdated old other (record { below = None; moves = m }) new
+pub root_updated : (old other : Tree) (m : NumberMoves) (new : Tree) → ¬ (GoesOnWithin old other) → IsNumbered old → IsRootUpdated old other m new → IsUpdated old other (record { below = None; moves = m }) new
 root_updated old other m new off numbered (inl (ends, nothing, is)) =
     subst (λ (t : Tree). IsUpdated old other (record { below = None; moves = m }) t) (sym is)
     (subst (λ (k : NumberMoves). IsUpdated old other (record { below = None; moves = k }) (with_span old.label.span other)) (sym nothing) (leaf_updated old other ends off numbered))

@@ -10,18 +10,19 @@ use Rattle.typst_node.specs.PlainEdit.{TreeFits}
 use Rattle.typst_node.specs.Edit.{Edit, Fits, edited_by}
 use Rattle.typst_node.specs.Accepted.{IsAccepted}
 use Rattle.typst_node.specs.Outside.{KeepsBeside}
-use Rattle.typst_node.specs.Narrower.{HasNoLeaf, IsNarrowest}
-use Rattle.typst_node.specs.Reconciled.{IsReconciled, IsLeafKept, IsMadeAt, IsUnreconciledBy, KeepsNumbers}
+use Rattle.typst_node.specs.Narrower.{EndsWithoutLeaf, GoesOnAs, GoesOnWithin, IsLowest, IsNarrowest}
+use Rattle.typst_node.specs.Reconciled.{IsReconciled, IsLeafKept, IsUnreconciledBy, KeepsNumbers}
 use Rattle.typst_node.specs.Labels.{number}
 use Rattle.typst_node.specs.Moves.{NumberMoves, followed, in_file, no_moves}
 use Rattle.typst_node.specs.Following.{IsGone, IsFollowed, GoesOn, AllGoOnOrGo, StayInPlace, place_after}
 use Rattle.typst_node.specs.declared.node.reconcile.Reconciled.{Reconciled}
+use Rattle.typst_node.specs.declared.node.reconcile.Touched.{Touched}
 use Rattle.typst_node.specs.declared.node.reconcile.Touched.TheVariants.{Leaf, Window}
 use Rattle.typst_node.specs.declared.node.replace.Renumbered.{Renumbered}
 use Rattle.typst_node.specs.declared.node.replace.ReplaceError.{ReplaceError}
 use Rattle.typst_node.specs.declared.node.replace.ReplaceError.TheVariants.{Unnumberable, Overflow, Memory}
 use Rattle.typst_node.proofs.TellAlike.{tells_alike}
-use Rattle.typst_node.proofs.Narrowed.{leads_fits, leads_plain, tree_fits_alike}
+use Rattle.typst_node.proofs.Narrowed.{as_it_is, as_within, leads_fits, leads_plain, tree_fits_alike}
 use Rattle.typst_node.proofs.LeafKept.{leaf_plain, leaf_outside, leaf_numbered, leaf_still, leaf_stays}
 use Rattle.typst_node.proofs.NodeNumbers.{spans_follow, spans_stay}
 use Rattle.typst_node.proofs.Edited.{file_within}
@@ -59,25 +60,20 @@ followed_in id f old new m moves = record {
   others = moves.others;
 }
 
-module _ (e : Edit) (old : Tree) (f : Edit) (fit : Fits e old) (narrowest : IsNarrowest e old f) where
-  pub fits_there : Fits f old
-  fits_there = leads_fits narrowest.steps e old f fit narrowest.leads
+module _ (e : Edit) (old : Tree) (f : Edit) (fit : Fits e old) where
+  -- an edit was accepted at the narrowest place
+  pub fits_narrow : IsNarrowest e old f → Fits f old
+  fits_narrow narrowest = leads_fits GoesOnWithin as_within narrowest.steps e old f fit narrowest.leads
 
-  same_edit : plain (edited_by f old) ≡ plain (edited_by e old)
-  same_edit = leads_plain narrowest.steps e old f fit narrowest.leads
-
-  -- an edit was accepted there
-  pub accepted_there : (id : Option ℕ) (r : Renumbered) (m : NumberMoves) (new : Tree) → SomeIff id (0 < old.label.span.file) old.label.span.file → IsNumbered old → HasNoLeaf f old → IsAccepted f old r new → IsFollowed f old new m
-      → IsReconciled e old f.path (Window r) (in_file id m) new
-  accepted_there id r m new file numbered none accepted moves =
+  pub accepted_there : (id : Option ℕ) (r : Renumbered) (m : NumberMoves) (new : Tree) → SomeIff id (0 < old.label.span.file) old.label.span.file → IsNumbered old → IsNarrowest e old f → EndsWithoutLeaf e old → IsAccepted f old r new
+      → IsFollowed f old new m → IsReconciled e old f.path (Window r) (in_file id m) new
+  accepted_there id r m new file numbered narrowest none accepted moves =
+      let same_edit : plain (edited_by f old) ≡ plain (edited_by e old) = leads_plain GoesOnWithin as_within narrowest.steps e old f fit narrowest.leads in
       let whole : plain new ≡ plain (edited_by e old) = accepted.plain ∙ same_edit in
       let is : old.label.span.file ≡ numbered.0 = file_within numbered.0 old numbered.2 in
       let some : id ≡ Some numbered.0 = filed id old.label.span.file (omega (arith, is, numbered.1)) file ∙ ap Some is in
       record {
-        narrowest = f;
-        is_narrowest = narrowest;
-        path_is = refl;
-        made = (none, accepted, followed_in id f old new m moves);
+        made = record { no_leaf = none; narrowest = f; is_narrowest = narrowest; path_is = refl; accepted = accepted; followed = followed_in id f old new m moves };
         sums = tree_fits_alike (edited_by f old) (edited_by e old) same_edit accepted.sums;
         plain = whole;
         reads = tells_alike new (edited_by e old) whole;
@@ -92,32 +88,35 @@ module _ (e : Edit) (old : Tree) (f : Edit) (fit : Fits e old) (narrowest : IsNa
       filed (Some x) n h is = ap Some is.1
       filed None n h never = absurd (never h)
 
-  -- a leaf went on there
-  kept_there : (path : List ℕ) (index : ℕ) (m : NumberMoves) (new : Tree) → IsNumbered old → path ≡ f.path → TreeFits (edited_by f old) → IsLeafKept f old index new × (m ≡ no_moves) → IsReconciled e old path (Leaf index) m new
-  kept_there path index m new numbered is sums (kept, none) =
-      let whole : plain new ≡ plain (edited_by e old) = ap plain kept.put ∙ (leaf_plain f old kept.c kept.u fits_there kept.only ∙ same_edit) in
-      let stay : StayInPlace m old new = subst (StayInPlace m old) (sym kept.put) (leaf_stays f old kept.c kept.u fits_there kept.only kept.goes_on m none) in
+-- a leaf went on at the lowest place
+module _ (e : Edit) (old : Tree) (f : Edit) (fit : Fits e old) (lowest : IsLowest e old f) where
+  pub fits_low : Fits f old
+  fits_low = leads_fits GoesOnAs as_it_is lowest.steps e old f fit lowest.leads
+
+  same_edit : plain (edited_by f old) ≡ plain (edited_by e old)
+  same_edit = leads_plain GoesOnAs as_it_is lowest.steps e old f fit lowest.leads
+
+  kept_there : (path : List ℕ) (index : ℕ) (m : NumberMoves) (new : Tree) → IsNumbered old → path ≡ f.path → TreeFits (edited_by f old) → IsLeafKept f old index new → m ≡ no_moves → IsReconciled e old path (Leaf index) m new
+  kept_there path index m new numbered is sums kept none =
+      let whole : plain new ≡ plain (edited_by e old) = ap plain kept.put ∙ (leaf_plain f old kept.c kept.u fits_low kept.only ∙ same_edit) in
+      let stay : StayInPlace m old new = subst (StayInPlace m old) (sym kept.put) (leaf_stays f old kept.c kept.u fits_low kept.only kept.goes_on m none) in
       record {
-        narrowest = f;
-        is_narrowest = narrowest;
-        path_is = is;
-        made = (kept, none);
+        made = record { lowest = f; is_lowest = lowest; path_is = is; kept = kept; still = none };
         sums = tree_fits_alike (edited_by f old) (edited_by e old) same_edit sums;
         plain = whole;
         reads = tells_alike new (edited_by e old) whole;
-        numbered = subst (IsNumberedFor old.label.span.file) (sym kept.put) (leaf_numbered f old kept.c kept.u fits_there kept.only kept.goes_on numbered);
-        outside = coe 1 0 (i. KeepsBeside (is i) (record { start = kept.answer i; end = kept.answer i + 1 }) old (kept.put i)) (leaf_outside f old kept.c kept.u fits_there kept.only);
+        numbered = subst (IsNumberedFor old.label.span.file) (sym kept.put) (leaf_numbered f old kept.c kept.u fits_low kept.only kept.goes_on numbered);
+        outside = coe 1 0 (i. KeepsBeside (is i) (record { start = kept.answer i; end = kept.answer i + 1 }) old (kept.put i)) (leaf_outside f old kept.c kept.u fits_low kept.only);
         all = all_in_place old new m stay;
         spans = spans_stay old m none;
-        still = (subst (KeepsNumbers old) (sym kept.put) (leaf_still f old kept.c kept.u fits_there kept.only kept.goes_on), stay);
+        still = (subst (KeepsNumbers old) (sym kept.put) (leaf_still f old kept.c kept.u fits_low kept.only kept.goes_on), stay);
       }
 
-  pub kept_if_ok : (r : Result Reconciled ReplaceError) (index : ℕ) (new : Tree) → IsNumbered old → IfOk r (λ done. done.path.items ≡ f.path) → IfOk r (λ done. done.touched ≡ Leaf index) → OnOk r (TreeFits (edited_by f old)) → IfOk r (λ done. IsMadeAt f old done.touched done.moves new)
-      → IfOk r (λ done. IsReconciled e old done.path.items done.touched done.moves new)
-  kept_if_ok (Ok done) index new numbered is leaf sums kept =
-      subst (λ touched. IsReconciled e old done.path.items touched done.moves new) (sym leaf)
-      (kept_there done.path.items index done.moves new numbered is sums (subst (λ touched. IsMadeAt f old touched done.moves new) leaf kept))
-  kept_if_ok (Err why) index new numbered is leaf sums kept = tt
+  pub kept_if_ok : (r : Result Reconciled ReplaceError) (index : ℕ) (new : Tree) → IsNumbered old → IfOk r (λ done. done.path.items ≡ f.path) → IfOk r (λ done. done.touched ≡ Leaf index) → OnOk r (TreeFits (edited_by f old)) → IfOk r (λ done. IsLeafKept f old index new)
+      → IfOk r (λ done. done.moves ≡ no_moves) → IfOk r (λ done. IsReconciled e old done.path.items done.touched done.moves new)
+  kept_if_ok (Ok done) index new numbered is leaf sums kept none =
+      subst (λ touched. IsReconciled e old done.path.items touched done.moves new) (sym leaf) (kept_there done.path.items index done.moves new numbered is sums kept none)
+  kept_if_ok (Err why) index new numbered is leaf sums kept none = tt
 
   -- why a leaf isn't put there
   pub leaf_refused : (r : Result Reconciled ReplaceError) → ¬ (IsErrOf r Unnumberable) → (IsErrOf r Overflow → ¬ (TreeFits (edited_by f old))) → IfErr r (λ why. IsUnreconciledBy why e old)

@@ -15,7 +15,7 @@ use Rattle.typst_node.specs.Window.{Site}
 use Rattle.typst_node.specs.Room.{new_count}
 use Rattle.typst_node.specs.Edit.{Edit, Fits, edited_by, site_by}
 use Rattle.typst_node.specs.Refusals.{LacksNumbers, IsRefusedBy, IsRefusedFollowing}
-use Rattle.typst_node.specs.Narrower.{IsOnlyChange, GoesOnAs, IsNarrower, LeadsTo, edit_inside}
+use Rattle.typst_node.specs.Narrower.{IsOnlyChange, GoesOnAs, GoesOnWithin, HasNumbersFor, IsStep, LeadsTo, edit_inside}
 use Rattle.typst_node.specs.Reconciled.{IsUnreconciledBy}
 use Rattle.typst_node.specs.declared.node.replace.ReplaceError.{ReplaceError}
 use Rattle.typst_node.specs.declared.node.replace.ReplaceError.TheVariants.{Unnumberable, Overflow, Memory}
@@ -131,38 +131,43 @@ module _ (e : Edit) (t c u : Tree) (fit : Fits e t) (only : IsOnlyChange (site_b
       ap suc (same_count_of_all ((site_by below t).before ++ ((site_by below t).changed ++ (site_by below t).behind)) (splice kids 0 (length (trees c.children)) (trees u.children)) all ∙ ap count_of_all whole)
       ∙ sym (count_tree u)
 
-  numbers_inside : IsNumbered t → ¬ (LacksNumbers below t)
-  numbers_inside n (inl none) =
+  numbers_inside : IsNumbered t → HasNumbersFor c u → ¬ (LacksNumbers below t)
+  numbers_inside n enough (inl none) =
       let file = file_at below.path n.0 2 (2 ^ 47) t fits_inside.0 (within_from_numbered n.0 t n.2) in
       omega (arith, n.1, file, none)
-  numbers_inside n (inr crowded) =
-      omega (arith, crowded.1.0, count_inside, on.numbers, ap (λ (d : Tree). number d.label) there, ap (λ (d : Tree). bound d.label) there)
+  numbers_inside n enough (inr crowded) =
+      omega (arith, crowded.1.0, count_inside, enough, ap (λ (d : Tree). number d.label) there, ap (λ (d : Tree). bound d.label) there)
 
--- the same, for any edit that is narrower
-pub narrower_fits : (e : Edit) (t : Tree) (f : Edit) → Fits e t → IsNarrower e t f → Fits f t
-narrower_fits e t f fit n = subst (λ g. Fits g t) (sym n.is) (fits_inside e t n.c n.u fit n.only n.goes_on)
+-- the same, for any step
+module _ (Goes : Tree → Tree → Type 0) (plainly : (c u : Tree) → Goes c u → GoesOnAs c u) where
+  pub step_fits : (e : Edit) (t : Tree) (f : Edit) → Fits e t → IsStep Goes e t f → Fits f t
+  step_fits e t f fit n = subst (λ g. Fits g t) (sym n.is) (fits_inside e t n.c n.u fit n.only (plainly n.c n.u n.goes_on))
 
-pub narrower_plain : (e : Edit) (t : Tree) (f : Edit) → Fits e t → IsNarrower e t f → plain (edited_by f t) ≡ plain (edited_by e t)
-narrower_plain e t f fit n = ap (λ g. plain (edited_by g t)) n.is ∙ plain_inside e t n.c n.u fit n.only n.goes_on
+  pub step_plain : (e : Edit) (t : Tree) (f : Edit) → Fits e t → IsStep Goes e t f → plain (edited_by f t) ≡ plain (edited_by e t)
+  step_plain e t f fit n = ap (λ g. plain (edited_by g t)) n.is ∙ plain_inside e t n.c n.u fit n.only (plainly n.c n.u n.goes_on)
 
-pub narrower_fewer : (e : Edit) (t : Tree) (f : Edit) → Fits e t → IsNarrower e t f → count (tree_at f.path t) < count (tree_at e.path t)
-narrower_fewer e t f fit n = subst (λ (g : Edit). count (tree_at g.path t) < count (tree_at e.path t)) (sym n.is) (fewer_inside e t n.c n.u fit n.only n.goes_on)
+  -- steps
+  pub leads_cons : (n : ℕ) (e : Edit) (t : Tree) (g f : Edit) → IsStep Goes e t g → LeadsTo Goes n g t f → LeadsTo Goes (suc n) e t f
+  leads_cons zero e t g h one is = (e, refl, subst (IsStep Goes e t) (sym is) one)
+  leads_cons (suc n) e t g h one more = (more.0, leads_cons n e t g more.0 one more.1, more.2)
 
-narrower_numbers : (e : Edit) (t : Tree) (f : Edit) → Fits e t → IsNumbered t → IsNarrower e t f → ¬ (LacksNumbers f t)
-narrower_numbers e t f fit numbered n lacks = numbers_inside e t n.c n.u fit n.only n.goes_on numbered (subst (λ g. LacksNumbers g t) n.is lacks)
+  pub leads_fits : (n : ℕ) (e : Edit) (t : Tree) (f : Edit) → Fits e t → LeadsTo Goes n e t f → Fits f t
+  leads_fits zero e t f fit is = subst (λ g. Fits g t) (sym is) fit
+  leads_fits (suc n) e t f fit leads = step_fits leads.0 t f (leads_fits n e t leads.0 fit leads.1) leads.2
 
--- steps
-pub leads_cons : (n : ℕ) (e : Edit) (t : Tree) (g f : Edit) → IsNarrower e t g → LeadsTo n g t f → LeadsTo (suc n) e t f
-leads_cons zero e t g h one is = (e, refl, subst (IsNarrower e t) (sym is) one)
-leads_cons (suc n) e t g h one more = (more.0, leads_cons n e t g more.0 one more.1, more.2)
+  pub leads_plain : (n : ℕ) (e : Edit) (t : Tree) (f : Edit) → Fits e t → LeadsTo Goes n e t f → plain (edited_by f t) ≡ plain (edited_by e t)
+  leads_plain zero e t f fit is = ap (λ g. plain (edited_by g t)) is
+  leads_plain (suc n) e t f fit leads = step_plain leads.0 t f (leads_fits n e t leads.0 fit leads.1) leads.2 ∙ leads_plain n e t leads.0 fit leads.1
 
-pub leads_fits : (n : ℕ) (e : Edit) (t : Tree) (f : Edit) → Fits e t → LeadsTo n e t f → Fits f t
-leads_fits zero e t f fit is = subst (λ g. Fits g t) (sym is) fit
-leads_fits (suc n) e t f fit leads = narrower_fits leads.0 t f (leads_fits n e t leads.0 fit leads.1) leads.2
+-- the two ways to go on
+pub as_it_is : (c u : Tree) → GoesOnAs c u → GoesOnAs c u
+as_it_is c u on = on
 
-pub leads_plain : (n : ℕ) (e : Edit) (t : Tree) (f : Edit) → Fits e t → LeadsTo n e t f → plain (edited_by f t) ≡ plain (edited_by e t)
-leads_plain zero e t f fit is = ap (λ g. plain (edited_by g t)) is
-leads_plain (suc n) e t f fit leads = narrower_plain leads.0 t f (leads_fits n e t leads.0 fit leads.1) leads.2 ∙ leads_plain n e t leads.0 fit leads.1
+pub as_within : (c u : Tree) → GoesOnWithin c u → GoesOnAs c u
+as_within c u on = on.0
+
+within_numbers : (e : Edit) (t : Tree) (f : Edit) → Fits e t → IsNumbered t → IsStep GoesOnWithin e t f → ¬ (LacksNumbers f t)
+within_numbers e t f fit numbered n lacks = numbers_inside e t n.c n.u fit n.only n.goes_on.0 numbered n.goes_on.1 (subst (λ g. LacksNumbers g t) n.is lacks)
 
 -- sums fit of trees with one plain tree
 pub tree_fits_alike : (t u : Tree) → plain t ≡ plain u → TreeFits t → TreeFits u
@@ -171,16 +176,10 @@ tree_fits_alike t u same fits =
     (omega (arith, fits.0, tells.length), omega (arith, fits.1, tells.count))
 
 -- what is refused at the narrowest place is refused where the edit was
-pub refused_before : (n : ℕ) (e : Edit) (t : Tree) (f : Edit) (why : ReplaceError) → Fits e t → IsNumbered t → LeadsTo n e t f → IsRefusedBy why f t → IsUnreconciledBy why e t
+pub refused_before : (n : ℕ) (e : Edit) (t : Tree) (f : Edit) (why : ReplaceError) → Fits e t → IsNumbered t → LeadsTo GoesOnWithin n e t f → IsRefusedFollowing why f t → IsUnreconciledBy why e t
 refused_before n e t f Overflow fit numbered leads why =
-    (fit, λ fits. why.1 (tree_fits_alike (edited_by e t) (edited_by f t) (sym (leads_plain n e t f fit leads)) fits))
+    (fit, λ fits. why.1 (tree_fits_alike (edited_by e t) (edited_by f t) (sym (leads_plain GoesOnWithin as_within n e t f fit leads)) fits))
 refused_before n e t f Memory fit numbered leads why = tt
 refused_before zero e t f Unnumberable fit numbered is why = subst (λ g. IsRefusedBy Unnumberable g t) is why
 refused_before (suc n) e t f Unnumberable fit numbered leads why =
-    absurd (narrower_numbers leads.0 t f (leads_fits n e t leads.0 fit leads.1) numbered leads.2 why.2)
-
--- the same, if moves are asked for
-pub refused_following_before : (n : ℕ) (e : Edit) (t : Tree) (f : Edit) (why : ReplaceError) → Fits e t → IsNumbered t → LeadsTo n e t f → IsRefusedFollowing why f t → IsUnreconciledBy why e t
-refused_following_before n e t f Overflow fit numbered leads why = refused_before n e t f Overflow fit numbered leads why
-refused_following_before n e t f Unnumberable fit numbered leads why = refused_before n e t f Unnumberable fit numbered leads why
-refused_following_before n e t f Memory fit numbered leads why = tt
+    absurd (within_numbers leads.0 t f (leads_fits GoesOnWithin as_within n e t leads.0 fit leads.1) numbered leads.2 why.2)

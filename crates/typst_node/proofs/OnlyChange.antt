@@ -1,26 +1,26 @@
 -- The only change of an edit, and whether it goes on.
-use Rattle.std.proofs.Common.{◌≡◌, ℕ, ◌+◌, ◌-◌, ◌<◌, ◌≤◌, List, [], ◌∷◌, ◌++◌, length, map, get_or, take, drop, reverse, refl, sym, ap, subst, ◌∙◌, arith, length-append, length-take, length-drop}
-use Rattle.std.proofs.lemmas.List.{take-append-drop, reverse-reverse, map-append}
+use Rattle.std.proofs.Common.{◌≡◌, ℕ, suc, zero, ◌+◌, ◌-◌, ◌<◌, ◌≤◌, List, [], ◌∷◌, ◌++◌, length, map, get_or, take, drop, reverse, refl, sym, ap, subst, ◌∙◌, arith, length-append, length-take, length-drop}
+use Rattle.std.proofs.lemmas.List.{take-append-drop, reverse-reverse, reverse-append, length-reverse, map-append}
 use Rattle.std.proofs.Math.Seq.{take-add}
 use Rattle.typst_node.specs.Plain.{plain}
-use Rattle.typst_node.proofs.Trimmed.{first_within, first_within_others, first_alike, first_longest, drop_slice}
+use Rattle.typst_node.proofs.Trimmed.{first_within, first_within_others, first_alike, first_longest, first_more, drop_slice}
 use Rattle.std.specs.Prelude.{slice_range}
 use Rattle.typst_node.specs.Tree.{Tree, IsInner, trees, forest}
-use Rattle.typst_node.specs.Paths.{no_tree, trees_at}
+use Rattle.typst_node.specs.Paths.{no_tree}
 use Rattle.typst_node.specs.View.{tree_of, content, below, shown_warnings, warning_text}
 use Rattle.typst_node.specs.ChangedChildren.{common_first, common_last, kept_first, kept_last}
-use Rattle.typst_node.specs.Window.{site_of}
-use Rattle.typst_node.specs.Edit.{Edit, site_by}
-use Rattle.typst_node.specs.Narrower.{IsOnlyChange, GoesOnAs, EndsOnAs, HasNoLeaf, IsLast}
-use Rattle.typst_node.specs.Narrowing.{IsPair}
+use Rattle.typst_node.specs.Window.{Site, site_of}
+use Rattle.typst_node.specs.Narrower.{IsOnlyChange}
+use Rattle.typst_node.specs.Narrowing.{IsOnlyPair}
+use Rattle.typst_node.specs.EditBelow.{child_of}
 use Rattle.typst_node.specs.declared.node.Warning.{Warning}
 use Rattle.typst_node.specs.declared.node.Node.{Node}
 use Rattle.typst_node.specs.declared.node.Node.TheVariants.{Short, Long, Leaf, Inner, Error}
 use Rattle.typst_node.specs.declared.node.SyntaxNode.TheInside.{Inside}
 use Rattle.typst_node.proofs.Trees.{drop_next}
 use Rattle.typst_node.proofs.Settled.{slice_one}
-use Rattle.typst_node.proofs.Outside.{p_old, p_new, e_old, e_new}
-use Rattle.typst_node.proofs.Narrowed.{only_same}
+use Rattle.typst_node.proofs.Outside.{get_drop, p_old, p_new, e_old, e_new}
+use Rattle.typst_node.proofs.SamePlain.{many_alike, one_alike}
 
 -- after the longest common beginning nothing is alike at the beginning
 first_after : (ts us : List Tree) → common_first (drop (common_first ts us) ts) (drop (common_first ts us) us) ≡ 0
@@ -36,13 +36,12 @@ first_after ts us =
     let longest : p + n ≤ p = first_longest ts us (p + n) (omega (arith, few, more, length-drop p ts)) (omega (arith, few_others, more_others, length-drop p us)) same in
     omega (arith, longest)
 
--- so a single node of each isn't alike at the end either
-pub last_of_one : (ts us : List Tree) → length ts ≡ 1 → length us ≡ 1 → common_first ts us ≡ 0 → common_last ts us ≡ 0
-last_of_one [] us one other none = absurd (omega arith)
-last_of_one (t ∷ []) [] one other none = absurd (omega arith)
-last_of_one (t ∷ []) (u ∷ []) one other none = none
-last_of_one (t ∷ []) (u ∷ v ∷ us) one other none = absurd (omega arith)
-last_of_one (t ∷ s ∷ ts) us one other none = absurd (omega arith)
+-- the child at the one index is the only one that changes, and the node at the other index comes in its place
+pub record IsPairAt (s : Site) (ts others : List Tree) (i k : ℕ) : Type 0 where
+  pub child : i ≡ length s.before
+  pub inside : i < length ts
+  pub other : k < length others
+  pub only : IsOnlyChange s ts (child_of ts i) (child_of others k)
 
 -- how many children and nodes are left between those that stay
 module _ (from to : ℕ) (others : List Tree) (t : Tree) (order : from ≤ to) (inside : to ≤ length (trees t.children)) where
@@ -60,7 +59,7 @@ module _ (from to : ℕ) (others : List Tree) (t : Tree) (order : from ≤ to) (
       ap (λ us. common_first us (drop p others)) (sym (drop_slice kids from to p (omega (arith, p_old from to others kids order inside))))
       ∙ first_after (slice_range kids from to) others
 
-  pub is_pair : to - from - p - e ≡ 1 → length others - p - e ≡ 1 → IsPair (site_of from to others t) kids others record { child = from + p; other = p }
+  pub is_pair : to - from - p - e ≡ 1 → length others - p - e ≡ 1 → IsPairAt (site_of from to others t) kids others (from + p) p
   is_pair one other =
       let one_old : to - e ≡ from + p + 1 = omega (arith, one) in
       let one_new : length others - e ≡ p + 1 = omega (arith, other) in
@@ -87,24 +86,130 @@ module _ (from to : ℕ) (others : List Tree) (t : Tree) (order : from ≤ to) (
         omega (arith, ap length only.new, few_others, last_others, length-take (length others - e - p) (drop p others), length-drop p others),
       )
 
--- where nothing is the only change
-pub none_narrower : (e : Edit) (t : Tree) → ((c u : Tree) → ¬ (IsOnlyChange (site_by e t) (trees_at e.path t) c u)) → IsLast e t × HasNoLeaf e t
-none_narrower e t none = ((λ g n. none n.c n.u n.only), (λ c u only ends. none c u only))
+-- ---- the only pair of two lists that changes
+-- a list without its first items
+drop_is : (ts : List Tree) (i : ℕ) → i < length ts → drop i ts ≡ child_of ts i ∷ drop (suc i) ts
+drop_is [] i h = absurd (omega arith)
+drop_is (t ∷ ts) zero h = refl
+drop_is (t ∷ ts) (suc i) h = drop_is ts i (omega arith)
 
--- where the only change doesn't go on
-module _ (e : Edit) (t c u : Tree) (only : IsOnlyChange (site_by e t) (trees_at e.path t) c u) where
-  pub not_narrower : ¬ (GoesOnAs c u) → IsLast e t
-  not_narrower never g n =
-      let same = only_same (site_by e t) (trees_at e.path t) c u only n.c n.u n.only in
-      never (coe 0 1 (i. GoesOnAs (same.0 i) (same.1 i)) n.goes_on)
+pub taken : (n i : ℕ) (ts : List Tree) → i < n → child_of (take n ts) i ≡ child_of ts i
+taken zero i ts h = absurd (omega arith)
+taken (suc n) i [] h = refl
+taken (suc n) zero (t ∷ ts) h = refl
+taken (suc n) (suc i) (t ∷ ts) h = taken n i ts (omega arith)
 
-  pub leaf_last : EndsOnAs c u → IsLast e t
-  leaf_last ends = not_narrower (λ on. ends.leaf on.inner)
+last_is : (ts : List Tree) (t : Tree) → child_of (ts ++ t ∷ []) (length ts) ≡ t
+last_is [] t = refl
+last_is (s ∷ ts) t = last_is ts t
 
-  pub not_leaf : ¬ (EndsOnAs c u) → HasNoLeaf e t
-  not_leaf never d v other ends =
-      let same = only_same (site_by e t) (trees_at e.path t) c u only d v other in
-      never (coe 0 1 (i. EndsOnAs (same.0 i) (same.1 i)) ends)
+front_is : (ts us : List Tree) → take (length ts) (ts ++ us) ≡ ts
+front_is [] us = refl
+front_is (t ∷ ts) us = ap (λ vs. t ∷ vs) (front_is ts us)
+
+turned : {X : Type 0} (x : X) (xs : List X) → reverse (x ∷ xs) ≡ reverse xs ++ x ∷ []
+turned x xs = reverse-append (x ∷ []) xs
+
+map_turned : (ts : List Tree) → map plain (reverse ts) ≡ reverse (map plain ts)
+map_turned [] = refl
+map_turned (t ∷ ts) = ap (map plain) (turned t ts) ∙ (map-append plain (reverse ts) (t ∷ []) ∙ (ap (λ us. us ++ plain t ∷ []) (map_turned ts) ∙ sym (turned (plain t) (map plain ts))))
+
+-- two lists that differ in their first items alone
+module _ (c u : Tree) (zs ws : List Tree) (many : length zs ≡ length ws) where
+  long : (xs : List Tree) → length (reverse xs) ≡ length xs
+  long xs = length-reverse xs
+
+  front_of : (x : Tree) (xs : List Tree) → take (length xs) (reverse (x ∷ xs)) ≡ reverse xs
+  front_of x xs = ap (take (length xs)) (turned x xs) ∙ (ap (λ n. take n (reverse xs ++ x ∷ [])) (sym (long xs)) ∙ front_is (reverse xs) (x ∷ []))
+
+  last_few : map plain zs ≡ map plain ws → ¬ (plain c ≡ plain u) → common_last (c ∷ zs) (u ∷ ws) ≡ length zs
+  last_few same differ =
+      let p = common_last (c ∷ zs) (u ∷ ws) in
+      let least : length zs ≤ p =
+      first_longest (reverse (c ∷ zs)) (reverse (u ∷ ws)) (length zs) (omega (arith, long (c ∷ zs))) (omega (arith, long (u ∷ ws), many))
+      (ap (map plain) (front_of c zs) ∙ (map_turned zs ∙ (ap reverse same ∙ (sym (map_turned ws) ∙ ap (map plain) (sym (ap (λ n. take n (reverse (u ∷ ws))) many ∙ front_of u ws)))))) in
+      let most : length zs < p → ⊥ =
+      λ more.
+      let both = one_alike (take p (reverse (c ∷ zs))) (take p (reverse (u ∷ ws))) (length zs) (first_alike (reverse (c ∷ zs)) (reverse (u ∷ ws))) in
+      let old : child_of (take p (reverse (c ∷ zs))) (length zs) ≡ c =
+      taken p (length zs) (reverse (c ∷ zs)) more ∙ (ap (λ ts. child_of ts (length zs)) (turned c zs) ∙ (ap (child_of (reverse zs ++ c ∷ [])) (sym (long zs)) ∙ last_is (reverse zs) c)) in
+      let new : child_of (take p (reverse (u ∷ ws))) (length zs) ≡ u =
+      taken p (length zs) (reverse (u ∷ ws)) more ∙ (ap (λ ts. child_of ts (length zs)) (turned u ws) ∙ (ap (child_of (reverse ws ++ u ∷ [])) (many ∙ sym (long ws)) ∙ last_is (reverse ws) u)) in
+      differ (ap plain (sym old) ∙ (both ∙ ap plain new)) in
+      omega (arith, least, most)
+
+  rest_alike : common_last (c ∷ zs) (u ∷ ws) ≡ length zs → map plain zs ≡ map plain ws
+  rest_alike is =
+      let all = first_alike (reverse (c ∷ zs)) (reverse (u ∷ ws)) in
+      let here : map plain (reverse zs) ≡ map plain (reverse ws) =
+      ap (map plain) (sym (front_of c zs) ∙ ap (λ n. take n (reverse (c ∷ zs))) (sym is)) ∙ (all ∙ ap (map plain) (ap (λ n. take n (reverse (u ∷ ws))) (is ∙ many) ∙ front_of u ws)) in
+      sym (reverse-reverse (map plain zs)) ∙ (ap reverse (sym (map_turned zs) ∙ (here ∙ map_turned ws)) ∙ reverse-reverse (map plain ws))
+
+-- the only pair that changes is the only change of an edit
+module _ (from to : ℕ) (others : List Tree) (t : Tree) (order : from ≤ to) (inside : to ≤ length (trees t.children)) where
+  abbrev xs : List Tree
+  xs = slice_range (trees t.children) from to
+
+  xs_long : length xs ≡ to - from
+  xs_long = omega (arith, length-take (to - from) (drop from (trees t.children)), length-drop from (trees t.children), inside)
+
+  pub at_slice : (i : ℕ) → i < length xs → child_of xs i ≡ child_of (trees t.children) (from + i)
+  at_slice i h = taken (to - from) i (drop from (trees t.children)) (omega (arith, xs_long)) ∙ get_drop from i (trees t.children) no_tree
+
+  drop_long : (i : ℕ) (ts us : List Tree) → length ts ≡ length us → length (drop i ts) ≡ length (drop i us)
+  drop_long i ts us h = omega (arith, length-drop i ts, length-drop i us)
+
+  first_is : (i : ℕ) → IsOnlyPair xs others i → common_first xs others ≡ i
+  first_is i pair =
+      let p = common_first xs others in
+      let least : i ≤ p = first_longest xs others i (omega (arith, pair.inside)) (omega (arith, pair.inside, pair.many)) pair.before in
+      let most : i < p → ⊥ =
+      λ more.
+      pair.differ
+      (ap plain (sym (taken p i xs more)) ∙ (one_alike (take p xs) (take p others) i (first_alike xs others) ∙ ap plain (taken p i others more))) in
+      omega (arith, least, most)
+
+  last_is_rest : (i : ℕ) → IsOnlyPair xs others i → common_last (drop i xs) (drop i others) ≡ length (drop (suc i) xs)
+  last_is_rest i pair =
+      (λ k. common_last (drop_is xs i pair.inside k) (drop_is others i (omega (arith, pair.inside, pair.many)) k))
+      ∙ last_few (child_of xs i) (child_of others i) (drop (suc i) xs) (drop (suc i) others) (drop_long (suc i) xs others pair.many) pair.behind pair.differ
+
+  pub pair_changes : (i : ℕ) → IsOnlyPair xs others i → IsPairAt (site_of from to others t) (trees t.children) others (from + i) i
+  pair_changes i pair =
+      let p : kept_first from to others (trees t.children) ≡ i = first_is i pair in
+      let dropped : slice_range (trees t.children) (from + i) to ≡ drop i xs = sym (drop_slice (trees t.children) from to i (omega (arith, pair.inside, xs_long))) in
+      let e : kept_last from to others (trees t.children) ≡ length xs - suc i =
+      (λ k. common_last (slice_range (trees t.children) (from + p k) to) (drop (p k) others)) ∙ (ap (λ ts. common_last ts (drop i others)) dropped ∙ (last_is_rest i pair ∙ length-drop (suc i) xs)) in
+      let one : to - from - kept_first from to others (trees t.children) - kept_last from to others (trees t.children) ≡ 1 = omega (arith, p, e, xs_long, pair.inside) in
+      let other : length others - kept_first from to others (trees t.children) - kept_last from to others (trees t.children) ≡ 1 = omega (arith, p, e, pair.many, pair.inside) in
+      subst (λ n. IsPairAt (site_of from to others t) (trees t.children) others (from + n) n) p (is_pair from to others t order inside one other)
+
+  -- and the other way round
+  pub change_is_pair : (c u : Tree) → IsOnlyChange (site_of from to others t) (trees t.children) c u → IsOnlyPair xs others (kept_first from to others (trees t.children))
+  change_is_pair c u only =
+      let p = kept_first from to others (trees t.children) in
+      let e = kept_last from to others (trees t.children) in
+      let ones = only_one from to others t order inside c u only in
+      let many : length xs ≡ length others = omega (arith, ones.0, ones.1, xs_long) in
+      let here : p < length xs = omega (arith, ones.0, xs_long) in
+      let there : p < length others = omega (arith, here, many) in
+      let dropped : slice_range (trees t.children) (from + p) to ≡ drop p xs = sym (drop_slice (trees t.children) from to p (omega (arith, here, xs_long))) in
+      let rest_many : length (drop (suc p) xs) ≡ length (drop (suc p) others) = drop_long (suc p) xs others many in
+      let last : common_last (child_of xs p ∷ drop (suc p) xs) (child_of others p ∷ drop (suc p) others) ≡ length (drop (suc p) xs) =
+      (λ k. common_last (sym (dropped ∙ drop_is xs p here) k) (sym (drop_is others p there) k))
+      ∙ omega (arith, ones.0, xs_long, length-drop (suc p) xs) in
+      let none = none_after from to others t order inside in
+      record {
+        many = many;
+        inside = here;
+        before = first_alike xs others;
+        behind = rest_alike (child_of xs p) (child_of others p) (drop (suc p) xs) (drop (suc p) others) rest_many last;
+        differ = λ same.
+            let more = first_more (child_of xs p) (child_of others p) (drop (suc p) xs) (drop (suc p) others) same in
+            let zero_too : common_first (child_of xs p ∷ drop (suc p) xs) (child_of others p ∷ drop (suc p) others) ≡ 0 =
+            (λ k. common_first (sym (dropped ∙ drop_is xs p here) k) (sym (drop_is others p there) k)) ∙ none in
+            omega (arith, more, zero_too);
+      }
 
 -- a node that isn't an inner node has no children
 leaf_below : (n : Node) → ¬ (IsInner (content n)) → below n ≡ []

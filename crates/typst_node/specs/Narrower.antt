@@ -12,14 +12,20 @@ pub record IsOnlyChange (s : Site) (ts : List Tree) (c u : Tree) : Type 0 where
   pub old : ts ≡ s.before ++ c ∷ s.behind
   pub new : s.changed ≡ u ∷ []
 
--- An inner node goes on as another one. Both have the same kind and the same warnings, and the numbers after its own and
--- below its bound suffice for all nodes of the other one.
+-- an inner node goes on as another one, which has the same kind and the same warnings
 pub record GoesOnAs (c u : Tree) : Type 0 where
   pub inner : IsInner c.label.content
   pub other_inner : IsInner u.label.content
   pub kind : kind_of c.label.content ≡ kind_of u.label.content
   pub warnings : c.label.warnings ≡ u.label.warnings
-  pub numbers : number c.label + count u < bound c.label
+
+-- the numbers after that of the node c and below its bound suffice for all nodes of u
+abbrev pub HasNumbersFor : Tree → Tree → Type 0
+HasNumbersFor c u = number c.label + count u < bound c.label
+
+-- an inner node goes on as another one, and its numbers suffice
+abbrev pub GoesOnWithin : Tree → Tree → Type 0
+GoesOnWithin c u = GoesOnAs c u × HasNumbersFor c u
 
 -- A leaf or an error goes on as another one. Neither is an inner node, so neither has children. Both have the same kind.
 pub record EndsOnAs (c u : Tree) : Type 0 where
@@ -42,25 +48,40 @@ edit_inside e i c u = record {
   others = trees u.children;
 }
 
--- one step: the only child that changes goes on as the node in its place, and its children are edited instead
-pub record IsNarrower (e : Edit) (t : Tree) (f : Edit) : Type 0 where
+-- One step down: the only child that changes goes on, in this way, as the node in its place, and its children are edited
+-- instead.
+pub record IsStep (Goes : Tree → Tree → Type 0) (e : Edit) (t : Tree) (f : Edit) : Type 0 where
   pub c : Tree
   pub u : Tree
   pub only : IsOnlyChange (site_by e t) (trees_at e.path t) c u
-  pub goes_on : GoesOnAs c u
+  pub goes_on : Goes c u
   pub is : f ≡ edit_inside e (length (site_by e t).before) c u
 
--- so many steps lead from the edit e to the edit f
-abbrev pub LeadsTo : ℕ → Edit → Tree → Edit → Type 0
-LeadsTo zero e t f = f ≡ e
-LeadsTo (suc n) e t f = (g : Edit) × LeadsTo n e t g × IsNarrower g t f
+-- so many steps lead from the edit e down to the edit f
+abbrev pub LeadsTo : (Tree → Tree → Type 0) → ℕ → Edit → Tree → Edit → Type 0
+LeadsTo Goes zero e t f = f ≡ e
+LeadsTo Goes (suc n) e t f = (g : Edit) × LeadsTo Goes n e t g × IsStep Goes g t f
 
 -- no step leads on
-abbrev pub IsLast : Edit → Tree → Type 0
-IsLast f t = (g : Edit) → ¬ (IsNarrower f t g)
+abbrev pub IsLast : (Tree → Tree → Type 0) → Edit → Tree → Type 0
+IsLast Goes f t = (g : Edit) → ¬ (IsStep Goes f t g)
 
--- the edit f is the narrowest one that does what e does
-pub record IsNarrowest (e : Edit) (t : Tree) (f : Edit) : Type 0 where
+-- the edit f is the last one to which steps lead from the edit e
+pub record IsFurthest (Goes : Tree → Tree → Type 0) (e : Edit) (t : Tree) (f : Edit) : Type 0 where
   pub steps : ℕ
-  pub leads : LeadsTo steps e t f
-  pub last : IsLast f t
+  pub leads : LeadsTo Goes steps e t f
+  pub last : IsLast Goes f t
+
+-- the edit f is the lowest one that does what e does, whether or not the numbers of the nodes above it suffice
+abbrev pub IsLowest : Edit → Tree → Edit → Type 0
+IsLowest e t f = IsFurthest GoesOnAs e t f
+
+-- the edit f is the narrowest one that does what e does, as far as the numbers of the nodes above it suffice
+abbrev pub IsNarrowest : Edit → Tree → Edit → Type 0
+IsNarrowest e t f = IsFurthest GoesOnWithin e t f
+
+-- no leaf and no error goes on where the edit is lowest
+pub record EndsWithoutLeaf (e : Edit) (t : Tree) : Type 0 where
+  pub lowest : Edit
+  pub is_lowest : IsLowest e t lowest
+  pub none : HasNoLeaf lowest t

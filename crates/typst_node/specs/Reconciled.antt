@@ -16,7 +16,7 @@ use Rattle.typst_node.specs.Refusals.{IsRefusedBy}
 use Rattle.typst_node.specs.Put.{with_span}
 use Rattle.typst_node.specs.Moves.{NumberMoves, no_moves}
 use Rattle.typst_node.specs.Following.{IsFollowed, AllGoOnOrGo, SpansFollow, StayInPlace}
-use Rattle.typst_node.specs.Narrower.{IsOnlyChange, EndsOnAs, HasNoLeaf, IsNarrowest}
+use Rattle.typst_node.specs.Narrower.{IsOnlyChange, EndsOnAs, EndsWithoutLeaf, IsLowest, IsNarrowest}
 use Rattle.typst_node.specs.declared.node.reconcile.Touched.{Touched}
 use Rattle.typst_node.specs.declared.node.reconcile.Touched.TheVariants.{Leaf, Window}
 use Rattle.typst_node.specs.declared.node.replace.ReplaceError.{ReplaceError}
@@ -52,21 +52,35 @@ pub record IsLeafKept (f : Edit) (old : Tree) (index : ℕ) (new : Tree) : Type 
   pub put : new ≡ with_children f.path (set (trees_at f.path old) (length (site_by f old).before) (with_span c.label.span u)) old
   pub answer : index ≡ length (site_by f old).before
 
--- At this edit's place a leaf or an error went on, and nothing moves. Or no leaf and no error goes on there, the edit was
--- accepted, and the moves are followed.
-abbrev pub IsMadeAt : Edit → Tree → Touched → NumberMoves → Tree → Type 0
-IsMadeAt f old (Leaf index) m new = IsLeafKept f old index new × (m ≡ no_moves)
-IsMadeAt f old (Window r) m new = HasNoLeaf f old × IsAccepted f old r new × IsFollowed f old new m
+-- A leaf or an error went on at the lowest place, at this path, and nothing moves.
+pub record IsLeafReconciled (e : Edit) (old : Tree) (path : List ℕ) (index : ℕ) (m : NumberMoves) (new : Tree) : Type 0 where
+  pub lowest : Edit
+  pub is_lowest : IsLowest e old lowest
+  pub path_is : path ≡ lowest.path
+  pub kept : IsLeafKept lowest old index new
+  pub still : m ≡ no_moves
 
--- The tree is the plainly edited tree, numbered for the same file. At the narrowest place, at this path, a leaf or an
--- error went on, or the edit was accepted. All nodes outside the touched children there keep their labels. Each node of
--- the old tree goes on or is gone, as the moves say, by its number and by its span. If a leaf or an error went on, all
--- nodes keep their places and numbers.
-pub record IsReconciled (e : Edit) (old : Tree) (path : List ℕ) (touched : Touched) (m : NumberMoves) (new : Tree) : Type 0 where
+-- No leaf and no error goes on at the lowest place. The edit was accepted at the narrowest place, at this path, and the
+-- moves are followed.
+pub record IsEditReconciled (e : Edit) (old : Tree) (path : List ℕ) (r : Renumbered) (m : NumberMoves) (new : Tree) : Type 0 where
+  pub no_leaf : EndsWithoutLeaf e old
   pub narrowest : Edit
   pub is_narrowest : IsNarrowest e old narrowest
   pub path_is : path ≡ narrowest.path
-  pub made : IsMadeAt narrowest old touched m new
+  pub accepted : IsAccepted narrowest old r new
+  pub followed : IsFollowed narrowest old new m
+
+-- a leaf or an error went on, or an edit was accepted
+abbrev pub IsMade : Edit → Tree → List ℕ → Touched → NumberMoves → Tree → Type 0
+IsMade e old path (Leaf index) m new = IsLeafReconciled e old path index m new
+IsMade e old path (Window r) m new = IsEditReconciled e old path r m new
+
+-- The tree is the plainly edited tree, numbered for the same file. A leaf or an error went on at the lowest place, or the
+-- edit was accepted at the narrowest one. All nodes outside the touched children there keep their labels. Each node of
+-- the old tree goes on or is gone, as the moves say, by its number and by its span. If a leaf or an error went on, all
+-- nodes keep their places and numbers.
+pub record IsReconciled (e : Edit) (old : Tree) (path : List ℕ) (touched : Touched) (m : NumberMoves) (new : Tree) : Type 0 where
+  pub made : IsMade e old path touched m new
   pub sums : TreeFits (edited_by e old)
   pub plain : plain new ≡ plain (edited_by e old)
   pub reads : TellsAs new (edited_by e old)

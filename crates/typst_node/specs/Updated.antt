@@ -8,7 +8,7 @@ use Rattle.typst_node.specs.Edit.{Edit}
 use Rattle.typst_node.specs.Put.{with_span}
 use Rattle.typst_node.specs.Moves.{NumberMoves, no_moves}
 use Rattle.typst_node.specs.Following.{AllGoOnOrGo, SpansFollow}
-use Rattle.typst_node.specs.Narrower.{GoesOnAs, EndsOnAs}
+use Rattle.typst_node.specs.Narrower.{GoesOnWithin, EndsOnAs}
 use Rattle.typst_node.specs.Reconciled.{IsReconciled}
 use Rattle.typst_node.specs.declared.node.update.Below.{Below}
 use Rattle.typst_node.specs.declared.node.update.Updated.{Updated}
@@ -28,10 +28,10 @@ IsRootUpdated old other m new =
     (EndsOnAs old other × (m ≡ no_moves) × (new ≡ with_span old.label.span other))
     ⊎ (¬ (EndsOnAs old other) × (m ≡ all_gone old.label.span.file) × IsNumbering old.label.span.file 2 (2 ^ 47) other new)
 
--- The old root goes on, and its children were reconciled at this path. Or the root itself was changed.
+-- The old root goes on with numbers for all nodes, and its children were reconciled at this path. Or the root itself was changed.
 abbrev pub IsUpdatedAt : Tree → Tree → Option Below → NumberMoves → Tree → Type 0
-IsUpdatedAt old other (Some below) m new = GoesOnAs old other × IsReconciled (edit_to old other) old below.path.items below.touched m new
-IsUpdatedAt old other None m new = ¬ (GoesOnAs old other) × IsRootUpdated old other m new
+IsUpdatedAt old other (Some below) m new = GoesOnWithin old other × IsReconciled (edit_to old other) old below.path.items below.touched m new
+IsUpdatedAt old other None m new = ¬ (GoesOnWithin old other) × IsRootUpdated old other m new
 
 -- Apart from spans and bounds, the tree is the other one. It is numbered for the same file. The nodes that go on stay.
 -- Each node of the old tree goes on or is gone, as the moves say, by its number and by its span.

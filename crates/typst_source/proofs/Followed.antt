@@ -10,7 +10,7 @@ use Rattle.typst_node.specs.Plain.{plain_label, unbounded}
 use Rattle.typst_node.specs.Edit.{Edit}
 use Rattle.typst_node.specs.Moves.{NumberMoves, followed}
 use Rattle.typst_node.specs.Following.{AllGoOnOrGo}
-use Rattle.typst_node.specs.Reconciled.{IsMadeAt, LeafKeepsNumbers}
+use Rattle.typst_node.specs.Reconciled.{LeafKeepsNumbers}
 use Rattle.typst_node.specs.declared.node.reconcile.Touched.{Touched}
 use Rattle.typst_node.specs.declared.node.reconcile.Touched.TheVariants.{Leaf, Window}
 use Rattle.typst_source.specs.Blocks.{Block}
@@ -34,15 +34,15 @@ kind_unbounded (AsInner kind bound) = refl
 same_kind : (a b : Label) → plain_label a ≡ plain_label b → kind_of a.content ≡ kind_of b.content
 same_kind a b same = sym (kind_unbounded a.content) ∙ (ap (λ l. kind_of l.content) same ∙ kind_unbounded b.content)
 
--- a node that an edit of children takes to a path
-taken_there : (e : Edit) (touched : Touched) (m : NumberMoves) (old new : Tree) (p q : List ℕ) → IsMadeAt e old touched m new → LeafKeepsNumbers touched m old new
-    → TakesTo e touched old new p q → IsPath p old → IsAfter (followed m (number (tree_at p old).label)) old new p q
-taken_there e (Leaf index) m old new p q made still is there =
+-- a node that a reconciliation takes to a path
+taken_there : (e : Edit) (path : List ℕ) (touched : Touched) (m : NumberMoves) (old new : Tree) (p q : List ℕ) → LeafKeepsNumbers touched m old new
+    → TakesTo e old path touched m new p q → IsPath p old → IsAfter (followed m (number (tree_at p old).label)) old new p q
+taken_there e path (Leaf index) m old new p q still is there =
     let stays = still.1 p there in
     subst (IsAfter (followed m (number (tree_at p old).label)) old new p) (sym is) (record { path = stays.0; kind = stays.2; is = stays.3 ∙ ap Some (sym stays.1) })
-taken_there e (Window r) m old new p q made still takes there =
-    let same = made.2.stays p there takes.0 in
-    subst (IsAfter (followed m (number (tree_at p old).label)) old new p) (sym takes.1)
+taken_there e path (Window r) m old new p q still takes there =
+    let same = takes.0.followed.stays p there takes.1 in
+    subst (IsAfter (followed m (number (tree_at p old).label)) old new p) (sym takes.2)
     (record { path = same.path; kind = same_kind _ _ same.plain; is = same.number })
 
 -- no node moves where the tree stays
@@ -62,8 +62,7 @@ module _ (first : List ℕ → Block) where
   taken_once : (edit : TextEdit) (out : Outcome) (old new : Tree) (p q : List ℕ) → IsTakenTo first edit out old new p q → IsServed first old edit out new → IsPath p old
       → IsAfter (followed_by out (number (tree_at p old).label)) old new p q
   taken_once edit (Edited done) old new p q taken s there =
-      let made = taken.2 in
-      taken_there made.narrowest done.touched done.moves old new p q made.made made.still taken.3 there
+      taken_there taken.0 done.path.items done.touched done.moves old new p q s.1.still taken.2 there
   taken_once edit Misfit old new p q taken s there = after_same old new p q s.1 taken there
   taken_once edit (Refused error) old new p q taken s there = after_same old new p q s.2 taken there
 

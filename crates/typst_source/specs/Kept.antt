@@ -5,10 +5,10 @@ use Rattle.typst_node.specs.Labels.{number}
 use Rattle.typst_node.specs.Text.{text}
 use Rattle.typst_node.specs.Paths.{IsPath, tree_at}
 use Rattle.typst_node.specs.Edit.{Edit}
-use Rattle.typst_node.specs.Moves.{followed}
+use Rattle.typst_node.specs.Moves.{NumberMoves, followed}
 use Rattle.typst_node.specs.Following.{IsGone, place_after}
 use Rattle.typst_node.specs.Outside.{IsInWindow, place_beside}
-use Rattle.typst_node.specs.Reconciled.{IsReconciled, touched_children}
+use Rattle.typst_node.specs.Reconciled.{IsEditReconciled, touched_children}
 use Rattle.typst_node.specs.declared.node.reconcile.Touched.{Touched}
 use Rattle.typst_node.specs.declared.node.reconcile.Touched.TheVariants.{Leaf, Window}
 use Rattle.typst_linked.specs.Search.{with_number}
@@ -42,19 +42,19 @@ NumberGoesOn edit (Edited done) old new p q =
 NumberGoesOn edit Misfit old new p q = q ≡ p
 NumberGoesOn edit (Refused error) old new p q = q ≡ p
 
--- An edit of children takes the node at the path p to the path q. Where a leaf or an error went on, each node stays at
--- its path. Otherwise the node isn't one of those that went, and q is its place after the edit.
-abbrev pub TakesTo : Edit → Touched → Tree → Tree → List ℕ → List ℕ → Type 0
-TakesTo e (Leaf index) old new p q = q ≡ p
-TakesTo e (Window renumbered) old new p q = ¬ (IsGone e old p) × (q ≡ place_after e old new p)
+-- A reconciliation takes the node at the path p to the path q. Where a leaf or an error went on, each node stays at its
+-- path. Otherwise the node isn't one of those that went, and q is its place after the narrowest edit.
+abbrev pub TakesTo : Edit → Tree → List ℕ → Touched → NumberMoves → Tree → List ℕ → List ℕ → Type 0
+TakesTo e old path (Leaf index) m new p q = q ≡ p
+TakesTo e old path (Window renumbered) m new p q =
+    (made : IsEditReconciled e old path renumbered m new) × ¬ (IsGone made.narrowest old p) × (q ≡ place_after made.narrowest old new p)
 
--- An edit that was done takes the node at p to q: the narrowest edit of the blocks that were parsed anew does. Any other
--- edit leaves the path as it is.
+-- An edit that was done takes the node at p to q, as the edit of the blocks that were parsed anew does. Any other edit
+-- leaves the path as it is.
 abbrev pub IsTakenTo : (List ℕ → Block) → TextEdit → Outcome → Tree → Tree → List ℕ → List ℕ → Type 0
 IsTakenTo first edit (Edited done) old new p q =
     (e : Edit) × ReplacesBlocks first (cut_of edit.range (length edit.with.now)) (text old) (text new) done.reparsed e
-    × (made : IsReconciled e old done.path.items done.touched done.moves new)
-    × TakesTo made.narrowest done.touched old new p q
+    × TakesTo e old done.path.items done.touched done.moves new p q
 IsTakenTo first edit Misfit old new p q = q ≡ p
 IsTakenTo first edit (Refused error) old new p q = q ≡ p
 

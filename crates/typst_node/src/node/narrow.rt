@@ -1,14 +1,13 @@
 //! The narrowest place of an edit: the node furthest down that holds all that changes.
-ghost use Rattle.std.specs.Prelude.{[], ◌∷◌, ◌++◌, ◌≡◌, ◌<◌, ◌≤◌, ◌↔◌, length, get_or, OnOk, IfOk, MatchOption, IsTrue};
-ghost use Rattle.typst_node.specs.Tree.{Tree, trees};
-ghost use Rattle.typst_node.specs.Paths.{IsPath, no_tree, tree_at};
-ghost use Rattle.typst_node.specs.Window.{Site, site_of};
+ghost use Rattle.std.specs.Prelude.{[], ◌∷◌, ◌++◌, ◌≡◌, ◌+◌, ◌^◌, ◌<◌, ◌≤◌, ◌↔◌, length, OnOk, IfOk, IsTrue};
+ghost use Rattle.typst_node.specs.Tree.{trees};
+ghost use Rattle.typst_node.specs.Paths.{IsPath, tree_at};
 ghost use Rattle.typst_node.specs.Edit.{Fits};
-ghost use Rattle.typst_node.specs.Narrower.{IsOnlyChange, GoesOnAs, EndsOnAs, HasNoLeaf, IsNarrowest};
-ghost use Rattle.typst_node.specs.Narrowing.{edit_in, IsPair, IsLeafPair, IsStep};
+ghost use Rattle.typst_node.specs.EditBelow.{child_of};
+ghost use Rattle.typst_node.specs.Narrower.{GoesOnAs, EndsOnAs, HasNumbersFor};
+ghost use Rattle.typst_node.specs.Narrowing.{edit_in, edit_along, steps_within, ArePaired, IsEmptyTrail, IsNarrowedTo, IsTraced, LeadDown, LeadOn, RaisesBy};
 
-use crate::node::spanless::{same_kind, same_warnings};
-use crate::node::trim::{count_common_first, count_last_of_differing};
+use crate::node::spanless::{all_alike, same_kind, same_warnings};
 use crate::node::{Node, SyntaxNode};
 use std::alloc::{AllocError, Global};
 use std::mem;
@@ -24,6 +23,17 @@ pub(super) struct PathEdit {
     pub(super) others: Vec<SyntaxNode>,
 }
 
+/// The way from some children and the nodes in their place down to what changes. On it are inner nodes that go on, each
+/// the only one that changes beside its siblings.
+#[derive(Drop)]
+pub(super) struct Trail {
+    /// The indices of these nodes, from the lowest one up. The index of the highest one is among the children in the
+    /// range.
+    pub(super) steps: Vec<usize>,
+    /// The index of the leaf or error that goes on below them, if one does.
+    pub(super) leaf: Option<usize>,
+}
+
 /// The only child that changes, by its index, and the only node that comes in its place, by its index among the others.
 #[derive(Clone, Copy)]
 pub(super) struct Pair {
@@ -31,15 +41,17 @@ pub(super) struct Pair {
     pub(super) other: usize,
 }
 
-/// One step of narrowing.
+/// A child and the node in its place.
 #[derive(Clone, Copy)]
-enum Step {
-    /// The edit is narrower now.
-    Narrower,
-    /// It is the narrowest, and a leaf or an error goes on.
-    Leaf(Pair),
-    /// It is the narrowest.
-    Last,
+enum Paired {
+    /// They are the same apart from spans and bounds.
+    Alike,
+    /// The child is an inner node and goes on.
+    GoesOn,
+    /// The child is a leaf or an error and goes on.
+    Ends,
+    /// The child doesn't go on.
+    Other,
 }
 
 /// # What goes on
@@ -55,28 +67,6 @@ impl SyntaxNode {
         }
     }
 
-    /// The only child that changes and the only node in its place, if there is one of each.
-    fn only_change(&self, edit: &PathEdit) -> Option<Pair>
-        requires window { edit.now.from ≤ edit.now.to }
-        requires inside { edit.now.to ≤ length (trees self.now.children) }
-        ensures { let site : Site = site_of edit.now.from edit.now.to edit.now.others.items self.now in
-            MatchOption result ((c : Tree) (u : Tree) → ¬ (IsOnlyChange site (trees self.now.children) c u))
-            (IsPair site (trees self.now.children) edit.now.others.items) }
-    {
-        let children = self.child_slice();
-        let first = count_common_first(&children[edit.from..edit.to], &edit.others);
-        let (_, left) = edit.others.split_at(first);
-        let last = count_last_of_differing(&children[edit.from + first..edit.to], left);
-        if edit.to - edit.from - first - last == 1 && left.len() - last == 1 {
-            Some(Pair {
-                child: edit.from + first,
-                other: first,
-            })
-        } else {
-            None
-        }
-    }
-
     /// Whether this inner node goes on as the other one.
     #[tactic(auto, using(crate::proofs::OnlyChange::shown_same, crate::proofs::OnlyChange::same_shown))]
     pub(super) fn goes_on_as(&self, other: &SyntaxNode) -> bool
@@ -86,7 +76,6 @@ impl SyntaxNode {
             && other.is_inner()
             && same_kind(self.kind(), other.kind())
             && same_warnings(self.node.warnings(), other.node.warnings())
-            && (other.descendants() as u64) < self.upper().saturating_sub(self.span.number())
     }
 
     /// Whether this leaf or error goes on as the other one.
@@ -101,6 +90,13 @@ impl SyntaxNode {
             && same_kind(self.kind(), other.kind())
     }
 
+    /// Whether the numbers of this node suffice for the other one.
+    pub(super) fn has_numbers_for(&self, other: &SyntaxNode) -> bool
+        ensures { IsTrue result ↔ HasNumbersFor self.now other.now }
+    {
+        (other.descendants() as u64) < self.upper().saturating_sub(self.span.number())
+    }
+
     /// The node's children. It copies none of them, and takes no memory.
     pub(super) fn into_children(self, alloc: Global) -> Vec<SyntaxNode>
         ensures { result.items ≡ trees self.children }
@@ -109,6 +105,110 @@ impl SyntaxNode {
         match node {
             Node::Inner(_, _, mut inner) => mem::replace(&mut inner.children, Vec::new(alloc)),
             Node::Short(..) | Node::Long(..) | Node::Leaf(..) | Node::Error(_) => Vec::new(alloc),
+        }
+    }
+}
+
+impl Trail {
+    /// A trail with no steps.
+    pub(super) fn new(alloc: Global) -> Trail
+        ensures { IsEmptyTrail result }
+    {
+        Trail {
+            steps: Vec::new(alloc),
+            leaf: None,
+        }
+    }
+
+    /// Adds the pair at an index, which is the only one that changes, above what is recorded of it.
+    fn raise(&mut self, index: usize, paired: Paired) -> Result<(), AllocError>
+        ensures { OnOk result (RaisesBy index paired self.old self.new) }
+    {
+        match paired {
+            Paired::GoesOn => self.steps.push(index)?,
+            Paired::Ends => self.leaf = Some(index),
+            Paired::Alike | Paired::Other => {}
+        }
+        Ok(())
+    }
+
+    /// Forgets what is recorded.
+    fn clear(&mut self)
+        ensures { IsEmptyTrail self.new }
+    {
+        self.steps.clear();
+        self.leaf = None;
+    }
+}
+
+/// Whether both lists are the same apart from spans and bounds. If not, it records the way down to what changes.
+///
+/// It compares each child with the node in its place at most once.
+#[cycle(trace)]
+pub(super) fn trace(
+    nodes: &[SyntaxNode],
+    others: &[SyntaxNode],
+    trail: &mut Trail,
+) -> Result<bool, AllocError>
+    requires { IsEmptyTrail trail.old }
+    ensures { IfOk result (IsTraced nodes.now others.now trail.new) }
+{
+    if nodes.len() != others.len() {
+        return Ok(false);
+    }
+    for i in 0..nodes.len() {
+        match nodes[i].pair(&others[i], trail)? {
+            Paired::Alike => {}
+            paired => {
+                if all_alike(&nodes[i + 1..], &others[i + 1..]) {
+                    trail.raise(i, paired)?;
+                } else {
+                    trail.clear();
+                }
+                return Ok(false);
+            }
+        }
+    }
+    Ok(true)
+}
+
+impl SyntaxNode {
+    /// Compares a child with the node in its place, and records the way down below it if it goes on.
+    #[cycle(trace)]
+    fn pair(&self, other: &SyntaxNode, trail: &mut Trail) -> Result<Paired, AllocError>
+        requires { IsEmptyTrail trail.old }
+        ensures { IfOk result (ArePaired self.now other.now trail.new) }
+    {
+        if self.goes_on_as(other) {
+            let alike = trace(self.child_slice(), other.child_slice(), trail)?;
+            return Ok(if alike { Paired::Alike } else { Paired::GoesOn });
+        }
+        if self.spanless_eq(other) {
+            return Ok(Paired::Alike);
+        }
+        if self.ends_on_as(other) {
+            return Ok(Paired::Ends);
+        }
+        Ok(Paired::Other)
+    }
+}
+
+/// The number of steps down for which the numbers of the nodes suffice.
+pub(super) fn count_steps(nodes: &[SyntaxNode], others: &[SyntaxNode], steps: &[usize]) -> usize
+    requires { LeadDown nodes.now others.now steps.now }
+    ensures is { result ≡ steps_within nodes.now others.now steps.now }
+    ensures within { result ≤ length steps.now }
+{
+    match steps.split_first() {
+        None => 0,
+        Some((index, rest)) => {
+            let child = &nodes[*index];
+            let other = &others[*index];
+            if child.has_numbers_for(other) {
+                1 + count_steps(child.child_slice(), other.child_slice(), rest)
+            } else {
+                0
+            }
         }
     }
 }
@@ -123,62 +223,73 @@ pub(super) fn push_index(path: &mut Vec<usize>, index: usize) -> Result<(), Allo
 
 impl PathEdit {
     /// Goes on to the children of a child, `len` of them, and to those of the node in its place.
-    fn enter(&mut self, alloc: Global, pair: Pair, len: usize) -> Result<(), AllocError>
-        requires { pair.other < length self.old.others.items }
-        ensures path { OnOk result (self.new.path.items ≡ self.old.path.items ++ pair.child ∷ []) }
-        ensures range { OnOk result ((self.new.from ≡ 0) × (self.new.to ≡ len)) }
-        ensures others { OnOk result (self.new.others.items
-            ≡ trees (get_or self.old.others.items pair.other no_tree).children) }
+    fn enter(&mut self, alloc: Global, index: usize, len: usize) -> Result<(), AllocError>
+        requires other { index < length self.old.others.items }
+        requires child { self.old.from + index < 2 ^ 64 }
+        ensures { OnOk result (edit_in self.new ≡ record {
+          path = self.old.path.items ++ (self.old.from + index) ∷ [];
+          from = 0;
+          to = len;
+          others = trees (child_of self.old.others.items index).children;
+        }) }
     {
-        push_index(&mut self.path, pair.child)?;
+        push_index(&mut self.path, self.from + index)?;
         self.from = 0;
         self.to = len;
-        let other = self.others.swap_remove(pair.other);
+        let other = self.others.swap_remove(index);
         self.others = other.into_children(alloc);
         Ok(())
+    }
+
+    /// Goes down along a trail, from the edited node.
+    pub(super) fn descend(
+        &mut self,
+        alloc: Global,
+        node: &SyntaxNode,
+        steps: &[usize],
+    ) -> Result<(), AllocError>
+        requires { LeadOn (edit_in self.old) node.now steps.now }
+        ensures { OnOk result (edit_in self.new ≡ edit_along (edit_in self.old) node.now steps.now) }
+    {
+        match steps.split_first() {
+            None => Ok(()),
+            Some((index, rest)) => {
+                let child = &node.child_slice()[self.from + *index];
+                self.enter(alloc, *index, child.child_slice().len())?;
+                self.descend(alloc, child, rest)
+            }
+        }
     }
 }
 
 /// # The narrowest edit
 impl SyntaxNode {
-    /// Narrows an edit by one step, if a child goes on as another inner node.
-    fn narrow_once(&self, alloc: Global, edit: &mut PathEdit) -> Result<Step, AllocError>
-        requires { Fits (edit_in edit.old) self.now }
-        ensures { IfOk result (IsStep (edit_in edit.old) self.now (edit_in edit.new)) }
-    {
-        let node = self.node_at(&edit.path);
-        let Some(pair) = node.only_change(edit) else {
-            return Ok(Step::Last);
-        };
-        let child = &node.child_slice()[pair.child];
-        let other = &edit.others[pair.other];
-        if child.ends_on_as(other) {
-            return Ok(Step::Leaf(pair));
-        }
-        if !child.goes_on_as(other) {
-            return Ok(Step::Last);
-        }
-        edit.enter(alloc, pair, child.child_slice().len())?;
-        Ok(Step::Narrower)
-    }
-
-    /// Narrows an edit as far as inner nodes go on. It answers the leaf or error that goes on at last, if one does.
+    /// Narrows an edit as far as inner nodes go on. It goes down to a leaf or an error that goes on, and answers it. If
+    /// there is none, it stops before the first inner node whose numbers don't suffice.
     ///
-    /// At each level it compares the children with the new nodes from both ends, up to the first difference.
+    /// It compares each child with the node in its place at most once.
     pub(super) fn narrow(
         &self,
         alloc: Global,
         edit: &mut PathEdit,
     ) -> Result<Option<Pair>, AllocError>
         requires { Fits (edit_in edit.old) self.now }
-        ensures narrowest { OnOk result (IsNarrowest (edit_in edit.old) self.now (edit_in edit.new)) }
-        ensures leaf { IfOk result (λ found. MatchOption found (HasNoLeaf (edit_in edit.new) self.now)
-            (IsLeafPair (edit_in edit.new) self.now)) }
+        ensures { IfOk result (IsNarrowedTo (edit_in edit.old) self.now (edit_in edit.new)) }
     {
-        match self.narrow_once(alloc, edit)? {
-            Step::Narrower => self.narrow(alloc, edit),
-            Step::Leaf(pair) => Ok(Some(pair)),
-            Step::Last => Ok(None),
+        let node = self.node_at(&edit.path);
+        let nodes = &node.child_slice()[edit.from..edit.to];
+        let mut trail = Trail::new(alloc);
+        trace(nodes, &edit.others, &mut trail)?;
+        trail.steps.reverse();
+        if let Some(index) = trail.leaf {
+            edit.descend(alloc, node, &trail.steps)?;
+            return Ok(Some(Pair {
+                child: edit.from + index,
+                other: index,
+            }));
         }
+        let steps = count_steps(nodes, &edit.others, &trail.steps);
+        edit.descend(alloc, node, &trail.steps[0..steps])?;
+        Ok(None)
     }
 }

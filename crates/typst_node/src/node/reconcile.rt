@@ -6,7 +6,7 @@ ghost use Rattle.typst_node.specs.PlainEdit.{EditFits, TreeFits};
 ghost use Rattle.typst_node.specs.Edit.{Fits, edit_of, edited_by};
 ghost use Rattle.typst_node.specs.Narrowing.{edit_in, IsLeafPair};
 ghost use Rattle.typst_node.specs.Put.{with_tree, with_span};
-ghost use Rattle.typst_node.specs.Reconciled.{IsReconciled, IsMadeAt, IsUnreconciledBy, none_touched};
+ghost use Rattle.typst_node.specs.Reconciled.{IsReconciled, IsLeafKept, IsUnreconciledBy, none_touched};
 ghost use Rattle.typst_node.specs.Moves.{no_moves};
 ghost use Rattle.typst_node.specs.declared.node.reconcile.Touched.TheVariants.{Leaf};
 ghost use Rattle.typst_node.specs.declared.node.replace.ReplaceError.TheVariants.{Overflow, Unnumberable};
@@ -73,7 +73,8 @@ impl SyntaxNode {
         requires fits { Fits (edit_in edit) self.old }
         requires pair { IsLeafPair (edit_in edit) self.old pair }
         ensures path { IfOk result (λ done. done.path.items ≡ edit.path.items) }
-        ensures kept { IfOk result (λ done. IsMadeAt (edit_in edit) self.old done.touched done.moves self.new) }
+        ensures kept { IfOk result (λ done. IsLeafKept (edit_in edit) self.old pair.child self.new) }
+        ensures still { IfOk result (λ done. done.moves ≡ no_moves) }
         ensures leaf { IfOk result (λ done. done.touched ≡ Leaf pair.child) }
         ensures sums { OnOk result (TreeFits (edited_by (edit_in edit) self.old)) }
         ensures numberable { ¬ (IsErrOf result Unnumberable) }
@@ -135,13 +136,16 @@ impl SyntaxNode {
     /// Replaces the children in a range of the node that a path of child indices leads to, as far down as it can.
     ///
     /// The plain tree is then the one that [`SyntaxNode::replace_at`] makes. If all that changes is below one child, and
-    /// this child and the new node in its place are inner nodes of one kind with the same warnings, the child stays, and
-    /// its children are replaced instead, as long as its numbers suffice. This is repeated. At last, if a single leaf or
-    /// error changes into one of its kind, that one takes over its span, no number changes, and the answer is
-    /// [`Touched::Leaf`]. Otherwise the children are replaced as [`SyntaxNode::replace_at`] does at that place, and the
-    /// answer is [`Touched::Window`].
+    /// this child and the new node in its place are inner nodes of one kind with the same warnings, the child goes on: it
+    /// stays, and its children are edited instead. This is repeated.
     ///
-    /// The answer also has the moves: [`Moves::follow`] gives the number of each node that goes on.
+    /// If a single leaf or error changes into one of its kind at last, that one takes over its span. No number changes,
+    /// and the answer is [`Touched::Leaf`]. Otherwise children are replaced as [`SyntaxNode::replace_at`] does, below the
+    /// last of the nodes that go on whose numbers all suffice for the new nodes below them. The answer is then
+    /// [`Touched::Window`].
+    ///
+    /// The answer also has the moves: [`Moves::follow`] gives the number of each node that goes on, and
+    /// [`Moves::follow_span`] its span.
     ///
     /// A leaf or an error at the path stays as it is. The answer is then the window `0..0` and 0 tried windows.
     ///
@@ -150,9 +154,9 @@ impl SyntaxNode {
     /// [`SyntaxNode::replace_at`] would answer them. `Memory` can come for any edit, since the path and the moves take
     /// memory.
     ///
-    /// At each level it compares the children with the new nodes from both ends, up to the first difference. Then it
-    /// takes as long as [`SyntaxNode::replace_at`] at the place that it finds, and time and memory in proportion to the
-    /// nodes that stay in the window.
+    /// On the way down it compares each child with the node in its place once at most, and takes memory in proportion to
+    /// the levels. Then it takes as long as [`SyntaxNode::replace_at`] at the place that it finds, and time and memory in
+    /// proportion to the nodes that stay in the window.
     pub fn reconcile_at(
         &mut self,
         alloc: Global,

@@ -144,7 +144,7 @@ impl Node {
 
 /// Whether both lists hold the same trees apart from spans and bounds.
 #[cycle(alike)]
-fn all_alike(nodes: &[SyntaxNode], others: &[SyntaxNode]) -> bool
+pub(super) fn all_alike(nodes: &[SyntaxNode], others: &[SyntaxNode]) -> bool
     ensures { IsTrue result ↔ (map plain nodes.now ≡ map plain others.now) }
 {
     if nodes.len() != others.len() {

@@ -38,20 +38,6 @@ pub(super) fn count_common_last(nodes: &[SyntaxNode], others: &[SyntaxNode]) -> 
     most
 }
 
-/// The same for lists that have no node alike at the beginning. It doesn't compare a single node of each once more.
-#[tactic(auto, using(crate::proofs::OnlyChange::last_of_one))]
-pub(super) fn count_last_of_differing(nodes: &[SyntaxNode], others: &[SyntaxNode]) -> usize
-    requires { common_first nodes.now others.now ≡ 0 }
-    ensures is { result ≡ common_last nodes.now others.now }
-    ensures within { result ≤ length nodes.now }
-    ensures within_others { result ≤ length others.now }
-{
-    if nodes.len() == 1 && others.len() == 1 {
-        return 0;
-    }
-    count_common_last(nodes, others)
-}
-
 /// Drops `first` nodes at the beginning and `last` nodes at the end. It takes no memory.
 pub(super) fn trim(nodes: &mut Vec<SyntaxNode>, first: usize, last: usize)
     requires { first + last ≤ length nodes.old.items }

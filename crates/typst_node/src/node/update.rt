@@ -90,7 +90,7 @@ impl SyntaxNode {
     {
         // Read for the proof: the sums of the other tree fit a usize.
         let (_len, _nodes) = (other.len(), other.descendants());
-        if self.goes_on_as(&other) {
+        if self.goes_on_as(&other) && self.has_numbers_for(&other) {
             let end = self.child_slice().len();
             return match self.reconcile_at(alloc, &[], 0..end, other.into_children(alloc)) {
                 Ok(done) => Ok(Updated {

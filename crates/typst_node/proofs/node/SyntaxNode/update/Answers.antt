@@ -2,7 +2,7 @@ use Rattle.std.proofs.Common.{◌≡◌, List, [], length, sym, subst, ◌∙◌
 use Rattle.std.proofs.lemmas.Bool.{false≢true}
 use Rattle.typst_node.specs.Tree.{Tree, trees}
 use Rattle.typst_node.specs.Edit.{Edit, edit_of}
-use Rattle.typst_node.specs.Narrower.{GoesOnAs}
+use Rattle.typst_node.specs.Narrower.{GoesOnWithin}
 use Rattle.typst_node.specs.PlainEdit.{TreeFits}
 use Rattle.typst_node.specs.Reconciled.{IsReconciled, IsUnreconciledBy}
 use Rattle.typst_node.specs.Updated.{edit_to, IsUpdated}
@@ -18,7 +18,7 @@ pub returns-in-Ok-clause-updated : goal.returns-in-Ok-clause-updated
 returns-in-Ok-clause-updated c =
     let old = c.args.self.now in
     let on = c.goes_on_as.ensures.0 c.if-goes_on_as.true in
-    let made = c.in-Ok.ensures.reconciled on.inner in
+    let made = c.in-Ok.ensures.reconciled on.0.inner in
     let same = edit_is old c.args.other c.child_slice-end.result.now c.into_children.result.items c.child_slice-end.ensures.children c.into_children.ensures in
     root_goes_on old c.args.other on (record { path = c.in-Ok.done.path; touched = c.in-Ok.done.touched }) c.in-Ok.done.moves c.reconcile_at.new.self
     (subst (λ (e : Edit). IsReconciled e old c.in-Ok.done.path.items c.in-Ok.done.touched c.in-Ok.done.moves c.reconcile_at.new.self) same made)
