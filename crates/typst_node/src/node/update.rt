@@ -1,5 +1,6 @@
 //! A whole tree in place of another one.
-ghost use Rattle.std.specs.Prelude.{◌≡◌, ◌^◌, IfOk, OnErr, OnOk, IsErrOf};
+ghost use Rattle.std.specs.Prelude.{◌≡◌, ◌^◌, ◌↔◌, IfOk, IsTrue, OnErr, OnOk, IsErrOf};
+ghost use Rattle.typst_node.specs.Narrower.{GoesOnWithin};
 ghost use Rattle.typst_node.specs.Numbered.{IsNumbered};
 ghost use Rattle.typst_node.specs.Numbering.{IsNumbering, IsTooShort};
 ghost use Rattle.typst_node.specs.Updated.{IsRootUpdated, IsUpdated, all_gone};
@@ -33,6 +34,13 @@ pub struct Updated {
 }
 
 impl SyntaxNode {
+    /// Whether this inner node goes on as the other one, and its numbers suffice.
+    fn goes_on_within(&self, other: &SyntaxNode) -> bool
+        ensures { IsTrue result ↔ GoesOnWithin self.now other.now }
+    {
+        self.goes_on_as(other) && self.has_numbers_for(other)
+    }
+
     /// Numbers a tree for a file in all numbers. The moves say that each node of the file's old tree is gone.
     fn number_anew(&mut self, alloc: Global, id: FileId) -> Result<Moves, ReplaceError>
         ensures numbering { OnOk result (IsNumbering id 2 (2 ^ 47) self.old self.new) }
@@ -90,7 +98,7 @@ impl SyntaxNode {
     {
         // Read for the proof: the sums of the other tree fit a usize.
         let (_len, _nodes) = (other.len(), other.descendants());
-        if self.goes_on_as(&other) && self.has_numbers_for(&other) {
+        if self.goes_on_within(&other) {
             let end = self.child_slice().len();
             return match self.reconcile_at(alloc, &[], 0..end, other.into_children(alloc)) {
                 Ok(done) => Ok(Updated {

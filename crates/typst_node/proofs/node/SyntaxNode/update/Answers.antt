@@ -17,7 +17,7 @@ edit_is old other kids others children is = λ i. record { path = []; from = 0; 
 pub returns-in-Ok-clause-updated : goal.returns-in-Ok-clause-updated
 returns-in-Ok-clause-updated c =
     let old = c.args.self.now in
-    let on = c.goes_on_as.ensures.0 c.if-goes_on_as.true in
+    let on = c.goes_on_within.ensures.0 c.if-goes_on_within.true in
     let made = c.in-Ok.ensures.reconciled on.0.inner in
     let same = edit_is old c.args.other c.child_slice-end.result.now c.into_children.result.items c.child_slice-end.ensures.children c.into_children.ensures in
     root_goes_on old c.args.other on (record { path = c.in-Ok.done.path; touched = c.in-Ok.done.touched }) c.in-Ok.done.moves c.reconcile_at.new.self
@@ -26,7 +26,7 @@ returns-in-Ok-clause-updated c =
 only_memory : (c : goal.In-Err) → c.in-Err.why ≡ Memory
 only_memory c =
     let old = c.args.self.now in
-    let on = c.goes_on_as.ensures.0 c.if-goes_on_as.true in
+    let on = c.goes_on_within.ensures.0 c.if-goes_on_within.true in
     let same = edit_is old c.args.other c.child_slice-end.result.now c.into_children.result.items c.child_slice-end.ensures.children c.into_children.ensures in
     let refused = subst (λ (e : Edit). IsUnreconciledBy c.in-Err.why e old) same c.in-Err.ensures.refused in
     let fits : TreeFits c.args.other = (omega (arith, c.len-len.ensures, c.len-len.type_inv), omega (arith, c.descendants-nodes.ensures, c.descendants-nodes.type_inv)) in
@@ -41,6 +41,6 @@ returns-in-Err-clause-overflow c = λ is. let memory = only_memory c in cc
 pub returns-clause-updated : goal.returns-clause-updated
 returns-clause-updated c =
     let old = c.args.self.now in
-    let off : ¬ (GoesOnAs old c.args.other) = λ on. false≢true (sym c.if-goes_on_as.false ∙ c.goes_on_as.ensures.1 on) in
+    let off : ¬ (GoesOnAs old c.args.other) = λ on. false≢true (sym c.if-goes_on_within.false ∙ c.goes_on_within.ensures.1 on) in
     subst (IsUpdated old c.args.other (record { below = None; moves = c.in_ok-moves.moves })) (sym c.swap.ensures.x_after)
     (root_updated old c.args.other c.in_ok-moves.moves c.number_instead.new.other off c.requires.numbered_ask_is_numbered c.in_ok-moves.ensures.made)
