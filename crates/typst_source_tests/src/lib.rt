@@ -1,4 +1,5 @@
-//! Tests of `typst_source` with a small parser, which is proved to keep the laws, and of crates that know no trees.
+//! Tests of `typst_source` with a small parser, which is proved to keep the laws, and with that of markup, and of crates that
+//! know no trees.
 #![tactic(auto)]
 
 #[cfg(test)]
@@ -8,3 +9,5 @@ mod lexer;
 pub mod lines;
 #[cfg(test)]
 mod lines_and_columns;
+#[cfg(test)]
+mod typing;

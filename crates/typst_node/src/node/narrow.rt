@@ -69,7 +69,7 @@ impl SyntaxNode {
 
     /// Whether this inner node goes on as the other one.
     #[tactic(auto, using(crate::proofs::OnlyChange::shown_same, crate::proofs::OnlyChange::same_shown))]
-    fn goes_on_as(&self, other: &SyntaxNode) -> bool
+    pub(super) fn goes_on_as(&self, other: &SyntaxNode) -> bool
         ensures { IsTrue result ↔ GoesOnAs self.now other.now }
     {
         self.is_inner()
@@ -80,7 +80,7 @@ impl SyntaxNode {
 
     /// Whether this leaf or error goes on as the other one.
     #[tactic(auto, using(crate::proofs::OnlyChange::childless))]
-    fn ends_on_as(&self, other: &SyntaxNode) -> bool
+    pub(super) fn ends_on_as(&self, other: &SyntaxNode) -> bool
         ensures { IsTrue result ↔ EndsOnAs self.now other.now }
     {
         self.child_slice().is_empty()
@@ -91,14 +91,14 @@ impl SyntaxNode {
     }
 
     /// Whether the numbers of this node suffice for the other one.
-    fn has_numbers_for(&self, other: &SyntaxNode) -> bool
+    pub(super) fn has_numbers_for(&self, other: &SyntaxNode) -> bool
         ensures { IsTrue result ↔ HasNumbersFor self.now other.now }
     {
         (other.descendants() as u64) < self.upper().saturating_sub(self.span.number())
     }
 
     /// The node's children. It copies none of them, and takes no memory.
-    fn into_children(self, alloc: Global) -> Vec<SyntaxNode>
+    pub(super) fn into_children(self, alloc: Global) -> Vec<SyntaxNode>
         ensures { result.items ≡ trees self.children }
     {
         let SyntaxNode { node, span: _ } = self;
