@@ -9,10 +9,10 @@ use Rattle.typst_node.specs.Numbered.{IsNumbered, IsNumberedFor}
 use Rattle.typst_node.specs.Plain.{plain}
 use Rattle.typst_node.specs.Paths.{IsPath, no_tree, tree_at, trees_at, with_children}
 use Rattle.typst_node.specs.Edit.{Edit, Fits, edited_by, site_by}
-use Rattle.typst_node.specs.Outside.{KeepsOutside, old_place}
+use Rattle.typst_node.specs.Outside.{KeepsBeside, old_place}
 use Rattle.typst_node.specs.Put.{with_span, with_tree}
 use Rattle.typst_node.specs.Narrower.{IsOnlyChange, EndsOnAs}
-use Rattle.typst_node.specs.Reconciled.{leaf_window, KeepsNumbers}
+use Rattle.typst_node.specs.Reconciled.{KeepsNumbers}
 use Rattle.typst_node.specs.Moves.{NumberMoves, no_moves, followed}
 use Rattle.typst_node.specs.Following.{StayInPlace}
 use Rattle.typst_base.specs.Span.{SpanParts}
@@ -100,7 +100,7 @@ put_keeps (i ∷ path) x t h span limit none [] at = (tt, refl, refl)
 put_keeps (i ∷ path) x t h span limit none (j ∷ q) at =
     put_keeps_step i path j q x t h.0 at (λ there. put_keeps path x (get_or (trees t.children) i no_tree) h.1 span limit none q there) (i == j) refl
 
-nothing_moves : (n : ℕ) → followed no_moves n ≡ Some n
+pub nothing_moves : (n : ℕ) → followed no_moves n ≡ Some n
 nothing_moves n = followed_other no_moves n (above_end 0 0 n (omega arith)) refl (λ i below. absurd (omega (arith, below)))
 
 -- the place of a node in a tree with another leaf at a path
@@ -189,7 +189,7 @@ module _ (e : Edit) (t c u : Tree) (fit : Fits e t) (only : IsOnlyChange (site_b
       let there : IsThere p whole t = subst (λ v. IsThere p v t) same kept in
       (there.0, ap (λ (s : SpanParts). s.low) there.1, there.2, ap (λ k. followed k (number (tree_at p t).label)) none ∙ nothing_moves (number (tree_at p t).label))
 
-  pub leaf_outside : KeepsOutside e.path (leaf_window i) t whole
+  pub leaf_outside : KeepsBeside e.path record { start = i; end = i + 1 } t whole
   leaf_outside q at n =
       let front : take i kids ≡ take i (trees_at e.path t) = take-set (trees_at e.path t) i x in
       let back : drop (i + 1) kids ≡ drop (i + 1) (trees_at e.path t) = rw add-one (drop_after (trees_at e.path t) i x) in

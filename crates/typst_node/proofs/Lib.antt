@@ -43,6 +43,7 @@ pub mod Decided
 pub mod Narrowed
 pub mod OnlyChange
 pub mod LeafKept
+pub mod NodeNumbers
 pub mod AtNarrowest
 pub mod Measured
 pub mod Blocks

@@ -1,14 +1,13 @@
 -- What the moves of an edit say of the nodes of a tree.
-use Rattle.std.specs.Prelude.{ℕ, ◌≡◌, ◌-◌, ◌+◌, ◌⊎◌, List, length, Some, None}
+use Rattle.std.specs.Prelude.{ℕ, ◌≡◌, ◌-◌, ◌+◌, ◌⊎◌, List, length, Some, None, option_map}
+use Rattle.typst_base.specs.Span.{numbered}
 use Rattle.typst_node.specs.Tree.{Tree, kind_of}
 use Rattle.typst_node.specs.Labels.{number}
 use Rattle.typst_node.specs.Plain.{plain_label}
 use Rattle.typst_node.specs.Paths.{IsPath, tree_at, trees_at}
 use Rattle.typst_node.specs.Edit.{Edit, site_by}
 use Rattle.typst_node.specs.Outside.{IsInWindow, old_place}
-use Rattle.typst_node.specs.Renumbering.{no_window}
-use Rattle.typst_node.specs.Moves.{NumberMoves, followed, no_moves}
-use Rattle.typst_node.specs.declared.node.replace_at.Followed.{Followed}
+use Rattle.typst_node.specs.Moves.{NumberMoves, followed, followed_span}
 
 -- the path of the old tree leads to a node that went
 abbrev pub IsGone : Edit → Tree → List ℕ → Type 0
@@ -65,6 +64,8 @@ StayInPlace m old new =
     × (kind_of (tree_at p new).label.content ≡ kind_of (tree_at p old).label.content)
     × (followed m (number (tree_at p old).label) ≡ Some (number (tree_at p old).label))
 
--- the answer on a leaf or an error, which stays as it is
-abbrev pub nothing_followed : Followed
-nothing_followed = record { renumbered = no_window; moves = no_moves }
+-- the span of each node of the tree is followed as its number is
+abbrev pub SpansFollow : NumberMoves → Tree → Type 0
+SpansFollow m t =
+    (p : List ℕ) → IsPath p t
+    → followed_span m (tree_at p t).label.span ≡ option_map (numbered (tree_at p t).label.span.file) (followed m (number (tree_at p t).label))

@@ -1,6 +1,7 @@
 -- Where the nodes of a tree are after an edit, by their numbers.
-use Rattle.std.specs.Prelude.{ℕ, Bool, ◌≡◌, ◌-◌, ◌+◌, ◌&&◌, ◌==◌, nat_le, nat_lt, if◌then◌else◌, List, [], ◌++◌, length, map, take, drop, slice_range, get_or, Option, Some, None, Result, IfOk, IfSome}
+use Rattle.std.specs.Prelude.{ℕ, Bool, ◌≡◌, ◌-◌, ◌+◌, ◌^◌, ◌<◌, ◌≤◌, ◌&&◌, ◌==◌, false, nat_le, nat_lt, if◌then◌else◌, List, [], ◌++◌, length, map, take, drop, slice_range, get_or, Option, Some, None, option_map, Result, IfOk, IfSome}
 use Rattle.std.specs.List.{position_or_len}
+use Rattle.typst_base.specs.Span.{SpanParts, numbered}
 use Rattle.std.specs.declared.ops.Range.{Range}
 use Rattle.typst_node.specs.Tree.{Tree, forest, trees}
 use Rattle.typst_node.specs.Preorder.{preorder}
@@ -14,9 +15,14 @@ use Rattle.typst_node.specs.declared.node.replace.ReplaceError.{ReplaceError}
 abbrev pub numbers : List Tree → List ℕ
 numbers ts = map number (preorder (forest ts))
 
--- The old numbers of nodes that get new numbers, the new numbers of these nodes, and a range of numbers whose nodes are
--- gone.
+-- a number that a node may have
+abbrev pub IsNodeNumber : ℕ → Type 0
+IsNodeNumber n = (2 ≤ n) × (n < 2 ^ 47)
+
+-- The file of a tree, unless nothing moves; the old numbers of nodes that get new numbers, the new numbers of these
+-- nodes, and a range of numbers whose nodes are gone.
 pub record NumberMoves : Type 0 where
+  pub file : Option ℕ
   pub olds : List ℕ
   pub news : List ℕ
   pub gone : Range ℕ
@@ -29,9 +35,26 @@ is_within range n = nat_le range.start n && nat_lt n range.end
 abbrev pub followed : NumberMoves → ℕ → Option ℕ
 followed m n = if is_within m.gone n then None else Some (get_or m.news (position_or_len (λ x. x == n) m.olds) n)
 
+-- whether this is the file
+abbrev pub is_file : Option ℕ → ℕ → Bool
+is_file None id = false
+is_file (Some file) id = file == id
+
+-- whether a span is that of a number in the file of the moves
+abbrev pub is_span_in : NumberMoves → SpanParts → Bool
+is_span_in m s = nat_lt 0 s.file && is_file m.file s.file && is_within record { start = 2; end = 2 ^ 47 } s.low
+
+-- The new span of the node that had this span, if it is not gone. Any other span stays as it is.
+abbrev pub followed_span : NumberMoves → SpanParts → Option SpanParts
+followed_span m s = if is_span_in m s then option_map (numbered s.file) (followed m s.low) else Some s
+
+-- the moves of numbers in a file
+abbrev pub in_file : Option ℕ → NumberMoves → NumberMoves
+in_file file m = record { file = file; olds = m.olds; news = m.news; gone = m.gone }
+
 -- no node moves, and none is gone
 abbrev pub no_moves : NumberMoves
-no_moves = record { olds = []; news = []; gone = record { start = 0; end = 0 } }
+no_moves = record { file = None; olds = []; news = []; gone = record { start = 0; end = 0 } }
 
 -- the children that stay in a window around a change, before the edit
 abbrev pub stay_before : Site → Range ℕ → List Tree

@@ -1,5 +1,6 @@
 -- The nodes that a replacement leaves alone, and their places before it.
 use Rattle.std.specs.Prelude.{ℕ, ◌≡◌, ◌+◌, ◌-◌, ◌<◌, ◌≤◌, ◌==◌, nat_lt, if◌then◌else◌, List, [], ◌∷◌, length}
+use Rattle.std.specs.declared.ops.Range.{Range}
 use Rattle.typst_node.specs.Tree.{Tree, trees}
 use Rattle.typst_node.specs.Paths.{IsPath, tree_at}
 use Rattle.typst_node.specs.declared.node.replace.Renumbered.{Renumbered}
@@ -24,13 +25,21 @@ old_place [] to old new (j ∷ q) = old_index to old new j ∷ q
 old_place (i ∷ p) to old new [] = []
 old_place (i ∷ p) to old new (j ∷ q) = j ∷ (if i == j then old_place p to old new q else q)
 
+-- the place in the old tree t for a path of the new tree u, after a change of the children in a range at the path p
+abbrev pub place_beside : List ℕ → Range ℕ → Tree → Tree → List ℕ → List ℕ
+place_beside p range t u q = old_place p range.end (length (trees (tree_at p t).children)) (length (trees (tree_at p u).children)) q
+
+-- Each node of the new tree u outside the subtrees of the children in a range at the path p has the label that it had at
+-- its place in the old tree t. So it has the same span and the same bound.
+abbrev pub KeepsBeside : List ℕ → Range ℕ → Tree → Tree → Type 0
+KeepsBeside p range t u =
+    (q : List ℕ) → IsPath q u → ¬ (IsInWindow p range.start range.end q)
+    → IsPath (place_beside p range t u q) t × ((tree_at q u).label ≡ (tree_at (place_beside p range t u q) t).label)
+
 -- the place in the old tree t for a path of the new tree u, after a replacement at the path p
 abbrev pub place_before : List ℕ → Renumbered → Tree → Tree → List ℕ → List ℕ
-place_before p r t u q = old_place p r.window.end (length (trees (tree_at p t).children)) (length (trees (tree_at p u).children)) q
+place_before p r t u q = place_beside p r.window t u q
 
--- Each node of the new tree u outside the window's subtrees has the label that it had at its place in the old tree t.
--- So it has the same span and the same bound.
+-- each node of the new tree u outside the window's subtrees has the label that it had at its place in the old tree t
 abbrev pub KeepsOutside : List ℕ → Renumbered → Tree → Tree → Type 0
-KeepsOutside p r t u =
-    (q : List ℕ) → IsPath q u → ¬ (IsInWindow p r.window.start r.window.end q)
-    → IsPath (place_before p r t u q) t × ((tree_at q u).label ≡ (tree_at (place_before p r t u q) t).label)
+KeepsOutside p r t u = KeepsBeside p r.window t u

@@ -22,9 +22,8 @@ pub use node::diagnostics::SyntaxDiagnostic;
 pub use node::mapped::SynthesizeError;
 pub use node::moves::Moves;
 pub use node::number::Unnumberable;
-pub use node::reconcile::Reconciled;
+pub use node::reconcile::{Reconciled, Touched};
 pub use node::replace::{Renumbered, ReplaceError};
-pub use node::replace_at::Followed;
 
 pub mod ast_node;
 pub mod casts;

@@ -4,11 +4,11 @@ ghost use Rattle.typst_node.specs.Numbered.{IsNumbered};
 ghost use Rattle.typst_node.specs.Paths.{IsInnerAt, IsPath};
 ghost use Rattle.typst_node.specs.PlainEdit.{EditFits, TreeFits};
 ghost use Rattle.typst_node.specs.Edit.{Fits, edit_of, edited_by};
-ghost use Rattle.typst_node.specs.Renumbering.{no_window};
 ghost use Rattle.typst_node.specs.Narrowing.{edit_in, IsLeafPair};
 ghost use Rattle.typst_node.specs.Put.{with_tree, with_span};
-ghost use Rattle.typst_node.specs.Reconciled.{IsReconciled, IsLeafReconciled, IsUnreconciledBy};
+ghost use Rattle.typst_node.specs.Reconciled.{IsReconciled, IsMadeAt, IsUnreconciledBy, none_touched};
 ghost use Rattle.typst_node.specs.Moves.{no_moves};
+ghost use Rattle.typst_node.specs.declared.node.reconcile.Touched.TheVariants.{Leaf};
 ghost use Rattle.typst_node.specs.declared.node.replace.ReplaceError.TheVariants.{Overflow, Unnumberable};
 
 use crate::node::SyntaxNode;
@@ -19,13 +19,25 @@ use std::alloc::Global;
 use std::ops::Range;
 use typst_base::Span;
 
+/// What a reconciliation changed of the children of a node.
+#[derive(Clone, Debug, PartialEq, Eq, Drop)]
+pub enum Touched {
+    /// A leaf or an error changed into one of its kind, and kept its number. No number of the tree changed.
+    Leaf {
+        /// The index of the child.
+        index: usize,
+    },
+    /// Children were replaced, and those in this window were numbered anew.
+    Window(Renumbered),
+}
+
 /// What an accepted reconciliation changed.
 #[derive(Clone, Debug, PartialEq, Eq, Drop)]
 pub struct Reconciled {
     /// The path to the node whose children were changed.
     pub path: Vec<usize>,
-    /// The window among its children. If no window was tried, it holds one leaf or error, which kept its number.
-    pub renumbered: Renumbered,
+    /// What changed of its children.
+    pub touched: Touched,
     /// Where the nodes of the tree are after it.
     pub moves: Moves,
 }
@@ -61,8 +73,8 @@ impl SyntaxNode {
         requires fits { Fits (edit_in edit) self.old }
         requires pair { IsLeafPair (edit_in edit) self.old pair }
         ensures path { IfOk result (λ done. done.path.items ≡ edit.path.items) }
-        ensures kept { IfOk result (λ done. IsLeafReconciled (edit_in edit) self.old done.renumbered done.moves
-            self.new) }
+        ensures kept { IfOk result (λ done. IsMadeAt (edit_in edit) self.old done.touched done.moves self.new) }
+        ensures leaf { IfOk result (λ done. done.touched ≡ Leaf pair.child) }
         ensures sums { OnOk result (TreeFits (edited_by (edit_in edit) self.old)) }
         ensures numberable { ¬ (IsErrOf result Unnumberable) }
         ensures overflow { IsErrOf result Overflow → ¬ (TreeFits (edited_by (edit_in edit) self.old)) }
@@ -83,10 +95,7 @@ impl SyntaxNode {
         path.truncate(path.len() - 1);
         Ok(Reconciled {
             path,
-            renumbered: Renumbered {
-                window: pair.child..pair.child + 1,
-                tried: 0,
-            },
+            touched: Touched::Leaf { index: pair.child },
             moves: Moves::none(alloc),
         })
     }
@@ -95,7 +104,7 @@ impl SyntaxNode {
     fn reconcile(&mut self, alloc: Global, mut edit: PathEdit) -> Result<Reconciled, ReplaceError>
         requires fits { Fits (edit_in edit) self.old }
         requires numbered { IsNumbered self.old }
-        ensures reconciled { IfOk result (λ done. IsReconciled (edit_in edit) self.old done.path.items done.renumbered
+        ensures reconciled { IfOk result (λ done. IsReconciled (edit_in edit) self.old done.path.items done.touched
             done.moves self.new) }
         ensures refused { IfErr result (λ why. IsUnreconciledBy why (edit_in edit) self.old) }
         ensures err { OnErr result (self.new ≡ self.old) }
@@ -109,11 +118,12 @@ impl SyntaxNode {
             to,
             others,
         } = edit;
+        let id = self.span().id();
         match self.replace_following(alloc, &path, from..to, others) {
             Ok(done) => Ok(Reconciled {
                 path,
-                renumbered: done.renumbered,
-                moves: done.moves,
+                touched: Touched::Window(done.renumbered),
+                moves: Moves::new(id, done.moves),
             }),
             Err(why) => Err(why),
         }
@@ -127,9 +137,9 @@ impl SyntaxNode {
     /// The plain tree is then the one that [`SyntaxNode::replace_at`] makes. If all that changes is below one child, and
     /// this child and the new node in its place are inner nodes of one kind with the same warnings, the child stays, and
     /// its children are replaced instead, as long as its numbers suffice. This is repeated. At last, if a single leaf or
-    /// error changes into one of its kind, that one takes over its span. Then no number changes, and the answer is the
-    /// window of this node alone and 0 tried windows. Otherwise the children are replaced as
-    /// [`SyntaxNode::replace_at`] does at that place.
+    /// error changes into one of its kind, that one takes over its span, no number changes, and the answer is
+    /// [`Touched::Leaf`]. Otherwise the children are replaced as [`SyntaxNode::replace_at`] does at that place, and the
+    /// answer is [`Touched::Window`].
     ///
     /// The answer also has the moves: [`Moves::follow`] gives the number of each node that goes on.
     ///
@@ -137,10 +147,12 @@ impl SyntaxNode {
     ///
     /// The tests of the conditions are [`SyntaxNode::edit_fits`] and [`SyntaxNode::is_numbered`]. After an error nothing
     /// has changed, and the replacement is dropped. `Unnumberable` and `Overflow` come only if
-    /// [`SyntaxNode::replace_at`] would answer them.
+    /// [`SyntaxNode::replace_at`] would answer them. `Memory` can come for any edit, since the path and the moves take
+    /// memory.
     ///
     /// At each level it compares the children with the new nodes from both ends, up to the first difference. Then it
-    /// takes as long as [`SyntaxNode::replace_following`] at the place that it finds.
+    /// takes as long as [`SyntaxNode::replace_at`] at the place that it finds, and time and memory in proportion to the
+    /// nodes that stay in the window.
     pub fn reconcile_at(
         &mut self,
         alloc: Global,
@@ -151,9 +163,9 @@ impl SyntaxNode {
         requires fits_ask_edit_fits { EditFits path.now range.start range.end self.old }
         requires numbered_ask_is_numbered { IsNumbered self.old }
         ensures leaf { ¬ (IsInnerAt path.now self.old) → (self.new ≡ self.old)
-            × IfOk result (λ done. (done.path.items ≡ path.now) × (done.renumbered ≡ no_window) × (done.moves ≡ no_moves)) }
+            × IfOk result (λ done. (done.path.items ≡ path.now) × (done.touched ≡ none_touched) × (done.moves ≡ no_moves)) }
         ensures reconciled { IfOk result (λ done. IsInnerAt path.now self.old
-            → IsReconciled (edit_of path.now range replacement.items) self.old done.path.items done.renumbered
+            → IsReconciled (edit_of path.now range replacement.items) self.old done.path.items done.touched
             done.moves self.new) }
         ensures refused { IfErr result (λ why. IsUnreconciledBy why (edit_of path.now range replacement.items)
             self.old) }
@@ -174,10 +186,10 @@ impl SyntaxNode {
         }
         Ok(Reconciled {
             path,
-            renumbered: Renumbered {
+            touched: Touched::Window(Renumbered {
                 window: 0..0,
                 tried: 0,
-            },
+            }),
             moves: Moves::none(alloc),
         })
     }

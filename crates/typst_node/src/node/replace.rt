@@ -24,7 +24,7 @@ ghost use Rattle.typst_node.specs.declared.node.replace.ReplaceError.TheVariants
 
 use crate::exchange::exchange;
 use crate::node::inner::sums_of;
-use crate::node::moves::Moves;
+use crate::node::moves::Noted;
 use crate::node::settle::Change;
 use crate::node::trim::{count_common_first, count_common_last, trim};
 use crate::node::window::{Found, Row, find, open_before, open_behind};
@@ -176,7 +176,7 @@ impl InnerNode {
     /// The moves of an edit before it is made: the numbers of the children that stay in its window, and room for those
     /// after it. It is a call of its own, so that edits without moves have a small function.
     #[inline(never)]
-    fn noted(&self, edit: &Splice, first: u64, window: Range<usize>) -> Result<Moves, AllocError>
+    fn noted(&self, edit: &Splice, first: u64, window: Range<usize>) -> Result<Noted, AllocError>
         requires order { edit.now.from ≤ edit.now.to }
         requires inside { edit.now.to ≤ length self.now.children.items }
         requires start { window.start ≤ edit.now.from }
@@ -195,8 +195,8 @@ impl InnerNode {
         let (_, rest) = self.children.split_at(edit.to);
         let gone = open_behind(before, first)..open_before(rest, self.upper);
         let alloc = *self.children.allocator();
-        let moves = Moves::note(alloc, ahead, behind, gone)?;
-        Ok(moves)
+        let noted = Noted::note(alloc, ahead, behind, gone)?;
+        Ok(noted)
     }
 
     /// Notes the moves of an edit, before it is made, if they are asked for.
@@ -206,7 +206,7 @@ impl InnerNode {
         edit: &Splice,
         first: u64,
         window: Range<usize>,
-        moves: &mut Option<Moves>,
+        moves: &mut Option<Noted>,
     ) -> Result<(), AllocError>
         requires order { edit.now.from ≤ edit.now.to }
         requires inside { edit.now.to ≤ length self.now.children.items }
@@ -229,7 +229,7 @@ impl InnerNode {
 
     /// Notes the numbers of the children that stay in the window, after the edit, if moves are asked for.
     #[inline(always)]
-    fn renew(&self, change: &Change, window: Range<usize>, moves: &mut Option<Moves>)
+    fn renew(&self, change: &Change, window: Range<usize>, moves: &mut Option<Noted>)
         requires start { window.start ≤ change.now.from }
         requires changed { change.now.from + change.now.many ≤ window.end }
         requires end { window.end ≤ length self.now.children.items }
@@ -256,7 +256,7 @@ impl InnerNode {
         len: &mut usize,
         owner: Owner,
         edit: Splice,
-        moves: &mut Option<Moves>,
+        moves: &mut Option<Noted>,
     ) -> Result<Renumbered, ReplaceError>
         requires len { len.old ≡ length (text_of_all self.old.children.items) }
         requires measured { IsMeasured self.old }
@@ -314,7 +314,7 @@ impl InnerNode {
         len: &mut usize,
         owner: Owner,
         edit: Splice,
-        moves: &mut Option<Moves>,
+        moves: &mut Option<Noted>,
     ) -> Result<Renumbered, ReplaceError>
         requires len { len.old ≡ length (text_of_all self.old.children.items) }
         requires measured { IsMeasured self.old }
@@ -371,7 +371,7 @@ impl SyntaxNode {
     pub(super) fn replace_range(
         &mut self,
         edit: Splice,
-        moves: &mut Option<Moves>,
+        moves: &mut Option<Noted>,
     ) -> Option<Result<Renumbered, ReplaceError>>
         requires numbered { FitsInner [] edit.from edit.to self.old → IsNumberedOrUnfiled [] self.old }
         requires growth { CanGrow edit.growth self.old }

@@ -1,5 +1,6 @@
 //! Replacements at any depth.
 ghost use Rattle.std.specs.Prelude.{[], ◌∷◌, ◌≡◌, ◌+◌, ◌^◌, ◌<◌, ◌≤◌, ◌↔◌, suc, length, set, false, Ok, Err, Some, OnErr, IfOk, IfSome, IfNone, IfErr, IsSome, IsTrue};
+ghost use Rattle.std.specs.List.{AllByRecursion};
 ghost use Rattle.typst_node.specs.Tree.{trees};
 ghost use Rattle.typst_node.specs.Text.{text, text_of_all};
 ghost use Rattle.typst_node.specs.Count.{SumsFit, count, count_of_all};
@@ -13,12 +14,14 @@ ghost use Rattle.typst_node.specs.ChangedChildren.{StaysLongest};
 ghost use Rattle.typst_node.specs.Edit.{Fits, IsNumberedOrUnfiled, edit_of};
 ghost use Rattle.typst_node.specs.Accepted.{IsAccepted};
 ghost use Rattle.typst_node.specs.Refusals.{IsRefusedBy, IsRefusedFollowing};
-ghost use Rattle.typst_node.specs.Following.{IsFollowed, nothing_followed};
+ghost use Rattle.typst_node.specs.Following.{IsFollowed};
+ghost use Rattle.typst_node.specs.Moves.{IsNodeNumber};
+ghost use Rattle.typst_node.specs.Numbered.{IsNumbered};
 ghost use Rattle.typst_node.specs.EditBelow.{child_of};
 ghost use Rattle.typst_node.specs.Errand.{FitsAt, HasMoves, IsCarriedOut, IsErrand, IsSparing};
 
 use crate::node::inner::Sums;
-use crate::node::moves::Moves;
+use crate::node::moves::Noted;
 use crate::node::replace::{Renumbered, ReplaceError, Splice};
 use crate::node::settle::Change;
 use crate::node::{InnerNode, Node, SyntaxNode};
@@ -34,16 +37,14 @@ struct Errand {
     // The outcome, once it reached an inner node whose children hold the range.
     answer: Option<Result<Renumbered, ReplaceError>>,
     // The moves, if they are asked for.
-    moves: Option<Moves>,
+    moves: Option<Noted>,
 }
 
-/// The answer of an edit that says where the nodes are after it.
+/// The window that an edit numbered anew, and where the nodes are after it.
 #[derive(Drop)]
-pub struct Followed {
-    /// The window that was numbered anew.
-    pub renumbered: Renumbered,
-    /// Where the nodes are.
-    pub moves: Moves,
+pub(super) struct Followed {
+    pub(super) renumbered: Renumbered,
+    pub(super) moves: Noted,
 }
 
 impl Errand {
@@ -80,16 +81,17 @@ impl Errand {
 
 impl Errand {
     /// The answer and the moves, which were asked for.
-    fn followed(self) -> Option<Result<Followed, ReplaceError>>
+    fn followed(self) -> Result<Followed, ReplaceError>
+        requires made { IsSome self.answer }
         requires asked { IsSome self.moves }
-        ensures made { IsSome result ↔ IsSome self.answer }
-        ensures done { IfSome result (λ answer. IfOk answer (λ followed. (self.answer ≡ Some (Ok followed.renumbered))
-            × (self.moves ≡ Some followed.moves))) }
-        ensures refused { IfSome result (λ answer. IfErr answer (λ why. self.answer ≡ Some (Err why))) }
+        ensures done { IfOk result (λ followed. (self.answer ≡ Some (Ok followed.renumbered))
+            × (self.moves ≡ Some followed.moves)) }
+        ensures refused { IfErr result (λ why. self.answer ≡ Some (Err why)) }
     {
-        match (self.answer?, self.moves?) {
-            (Ok(renumbered), moves) => Some(Ok(Followed { renumbered, moves })),
-            (Err(why), _) => Some(Err(why)),
+        let moves = self.moves.unwrap();
+        match self.answer.unwrap() {
+            Ok(renumbered) => Ok(Followed { renumbered, moves }),
+            Err(why) => Err(why),
         }
     }
 }
@@ -279,29 +281,27 @@ impl SyntaxNode {
         }
     }
 
-    /// Replaces children as [`SyntaxNode::try_replace_at`] does, and also says where the nodes of the tree are after it.
+    /// Replaces children as [`SyntaxNode::replace_at`] does, and also says where the nodes of the tree are after it.
     ///
-    /// It also takes time and memory in proportion to the nodes that stay in the window. So `Memory` can come for any
-    /// replacement. It asks for this memory before it changes anything.
-    #[tactic(auto, using(crate::proofs::Trimmed::stays_longest))]
-    pub fn try_replace_following(
+    /// It also takes time and memory in proportion to the nodes that stay in the window. It asks for this memory before
+    /// it changes anything.
+    pub(super) fn replace_following(
         &mut self,
         alloc: Global,
         path: &[usize],
         range: Range<usize>,
         replacement: Vec<SyntaxNode>,
-    ) -> Option<Result<Followed, ReplaceError>>
-        requires numbered_ask_is_numbered { IsNumberedOrUnfiled path.now self.old }
-        ensures fits { IsSome result ↔ Fits (edit_of path.now range replacement.items) self.old }
-        ensures misfit { IfNone result (self.new ≡ self.old) }
-        ensures accepted { IfSome result (λ answer. IfOk answer (λ done.
-            IsAccepted (edit_of path.now range replacement.items) self.old done.renumbered self.new)) }
-        ensures followed { IfSome result (λ answer. IfOk answer (λ done.
-            IsFollowed (edit_of path.now range replacement.items) self.old self.new done.moves)) }
-        ensures refused { IfSome result (λ answer. IfErr answer (λ why.
-            IsRefusedFollowing why (edit_of path.now range replacement.items) self.old)) }
-        ensures err { IfSome result (λ answer. OnErr answer (self.new ≡ self.old)) }
-        ensures stays { StaysLongest range.start range.end replacement.items (trees_at path.now self.old) }
+    ) -> Result<Followed, ReplaceError>
+        requires fits { Fits (edit_of path.now range replacement.items) self.old }
+        requires numbered { IsNumbered self.old }
+        ensures accepted { IfOk result (λ done.
+            IsAccepted (edit_of path.now range replacement.items) self.old done.renumbered self.new) }
+        ensures followed { IfOk result (λ done.
+            IsFollowed (edit_of path.now range replacement.items) self.old self.new done.moves) }
+        ensures numbers { IfOk result (λ done. AllByRecursion IsNodeNumber done.moves.news) }
+        ensures refused { IfErr result (λ why.
+            IsRefusedFollowing why (edit_of path.now range replacement.items) self.old) }
+        ensures err { OnErr result (self.new ≡ self.old) }
     {
         let edit = Splice {
             from: range.start,
@@ -312,41 +312,9 @@ impl SyntaxNode {
         let mut errand = Errand {
             edit,
             answer: None,
-            moves: Some(Moves::none(alloc)),
+            moves: Some(Noted::none(alloc)),
         };
         self.replace_below(path, &mut errand);
         errand.followed()
-    }
-
-    /// Replaces children as [`SyntaxNode::replace_at`] does, and also says where the nodes of the tree are after it.
-    pub fn replace_following(
-        &mut self,
-        alloc: Global,
-        path: &[usize],
-        range: Range<usize>,
-        replacement: Vec<SyntaxNode>,
-    ) -> Result<Followed, ReplaceError>
-        requires fits_ask_edit_fits { EditFits path.now range.start range.end self.old }
-        requires numbered_ask_is_numbered { IsNumberedOrUnfiled path.now self.old }
-        ensures leaf { ¬ (IsInnerAt path.now self.old) → (self.new ≡ self.old) × (result ≡ Ok nothing_followed) }
-        ensures accepted { IfOk result (λ done. IsInnerAt path.now self.old
-            → IsAccepted (edit_of path.now range replacement.items) self.old done.renumbered self.new) }
-        ensures followed { IfOk result (λ done. IsInnerAt path.now self.old
-            → IsFollowed (edit_of path.now range replacement.items) self.old self.new done.moves) }
-        ensures refused { IfErr result (λ why. IsRefusedFollowing why (edit_of path.now range replacement.items)
-            self.old) }
-        ensures err { OnErr result (self.new ≡ self.old) }
-        ensures stays { StaysLongest range.start range.end replacement.items (trees_at path.now self.old) }
-    {
-        match self.try_replace_following(alloc, path, range, replacement) {
-            Some(answer) => answer,
-            None => Ok(Followed {
-                renumbered: Renumbered {
-                    window: 0..0,
-                    tried: 0,
-                },
-                moves: Moves::none(alloc),
-            }),
-        }
     }
 }

@@ -39,10 +39,10 @@ returns c =
     let parts : slice_range c.deref.result.now w.start e.from ++ slice_range c.deref-2.result.now e.to (e.to + (w.end - (e.from + c.len.result))) ≡ slice_range xs w.start e.from ++ slice_range xs e.to (e.to + (w.end - (e.from + length e.others.items))) =
     (λ i. slice_range (c.deref.ensures.value i) w.start e.from ++ slice_range (c.deref-2.ensures.value i) e.to (e.to + (w.end - (e.from + many i)))) in
     record {
-      olds = c.in_ok-moves.ensures.olds ∙ ap numbers (parts ∙ sym (stays c.args.first up e.from e.to e.others.items xs w c.requires.order c.requires.inside c.requires.start c.requires.changed c.requires.end));
-      room = c.in_ok-moves.ensures.room ∙ (sym (count_append (slice_range c.deref.result.now w.start e.from) (slice_range c.deref-2.result.now e.to (e.to + (w.end - (e.from + c.len.result)))))
-          ∙ (sym (length_numbers (slice_range c.deref.result.now w.start e.from ++ slice_range c.deref-2.result.now e.to (e.to + (w.end - (e.from + c.len.result))))) ∙ ap length (sym c.in_ok-moves.ensures.olds)));
-      gone = c.in_ok-moves.ensures.gone ∙ gap c.args.first up e.from e.to e.others.items xs w c.requires.order c.requires.inside c.requires.start c.requires.changed c.requires.end
+      olds = c.in_ok-noted.ensures.olds ∙ ap numbers (parts ∙ sym (stays c.args.first up e.from e.to e.others.items xs w c.requires.order c.requires.inside c.requires.start c.requires.changed c.requires.end));
+      room = c.in_ok-noted.ensures.room ∙ (sym (count_append (slice_range c.deref.result.now w.start e.from) (slice_range c.deref-2.result.now e.to (e.to + (w.end - (e.from + c.len.result)))))
+          ∙ (sym (length_numbers (slice_range c.deref.result.now w.start e.from ++ slice_range c.deref-2.result.now e.to (e.to + (w.end - (e.from + c.len.result))))) ∙ ap length (sym c.in_ok-noted.ensures.olds)));
+      gone = c.in_ok-noted.ensures.gone ∙ gap c.args.first up e.from e.to e.others.items xs w c.requires.order c.requires.inside c.requires.start c.requires.changed c.requires.end
           (record { start = c.open_behind.result; end = c.open_before.result })
           (c.open_behind.ensures ∙ ap (open_from c.args.first) (c.split_at.ensures.front ∙ ap (take e.from) c.deref-3.ensures.value))
           (c.open_before.ensures ∙ ap (open_to up) (c.split_at-2.ensures.back ∙ ap (drop e.to) c.deref-4.ensures.value));

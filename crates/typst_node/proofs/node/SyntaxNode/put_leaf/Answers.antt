@@ -6,7 +6,6 @@ use Rattle.typst_node.specs.PlainEdit.{TreeFits}
 use Rattle.typst_node.specs.Edit.{Edit, edited_by, site_by}
 use Rattle.typst_node.specs.Put.{with_tree, with_span}
 use Rattle.typst_node.specs.Narrowing.{edit_in, IsLeafPair}
-use Rattle.typst_node.specs.Reconciled.{leaf_window}
 use Rattle.typst_node.specs.declared.node.narrow.Pair.{Pair}
 use Rattle.typst_node.proofs.Put.{child_at, path_to_child, put_child}
 use Rattle.typst_node.proofs.Narrowed.{tree_fits_alike}
@@ -67,7 +66,7 @@ returns-clause-kept c =
         only = c.requires.pair.0.only;
         goes_on = c.requires.pair.1;
         put = c.put_at.ensures ∙ put_is e t p c.deref-3.result.now c.set_span.new.self c.requires.pair path x;
-        answer = ap leaf_window c.requires.pair.0.child;
+        answer = c.requires.pair.0.child;
       },
       c.none.ensures,
     )
