@@ -405,20 +405,20 @@ def differing_pages(programs):
         ran = run(programs, [text.name, "--edits", "-", "--page", "-"], PAIRS, edit.encode())
         page = show_page.Page(ran.stdout.decode())
         told = [*page.wrong, *([] if not ran.returncode else [f"status {ran.returncode}, {ran.stderr!r}"])]
-        windows = shown.edited(old, new, range(len(old.children)), range(len(new.children)))
+        change = shown.edited(old, new, range(len(old.children)), range(len(new.children)))
         if len(page.steps) == 2:
             told += show_page.differing_step(page.steps[0], old) + show_page.differing_step(page.steps[1], new)
-            told += show_page.differing_drawing(page.steps[1], new, windows[-1], windows)
+            told += show_page.differing_drawing(page.steps[1], change)
         else:
             told.append(f"{len(page.steps)} steps")
-        if page.title != shown.told_of(edit, new, range(new.end), windows):
+        if page.title != shown.told_of(edit, new, range(new.end), change):
             told.append(f"the title {page.title!r}")
         wrong += [f"the page of {text.name} has {it}" for it in told]
     return wrong
 
 
 def typed():
-    """Paragraphs that are inserted at one place, one by one, until a window is too narrow: each tree with the windows of its edit."""
+    """Paragraphs that are inserted at one place, one by one, until a window is too narrow: each tree with the change of its edit."""
     paragraph = '  Text "a"\n  Parbreak "\\n\\n"\n'
     tree, steps = shown.numbered(shown.tree_of("Markup\n" + 2 * paragraph)), []
     for count in range(TYPED):
@@ -434,17 +434,17 @@ def differing_typing(programs):
     """What differs if a window has no room, so that several are tried."""
     steps = typed()
     edit = '3..3 "a\\n\\n"'
-    titles = [shown.told_of(edit, new, range(6), windows, at + 1) for at, (new, windows) in enumerate(steps)]
+    titles = [shown.told_of(edit, new, range(6), change, at + 1) for at, (new, change) in enumerate(steps)]
     with tempfile.TemporaryDirectory() as room:
         fill(room, {"a.typ": "a\n\na\n\n", "e": f"{edit}\n" * TYPED})
         printed = run(programs, ["a.typ", "--edits", "e"], room).stdout.decode()
         page = show_page.Page(run(programs, ["a.typ", "--edits", "e", "--page", "-"], room).stdout.decode())
-    told = [] if max(len(windows) for _, windows in steps) > 1 else ["each first window has room"]
+    told = [] if max(len(change.windows) for _, change in steps) > 1 else ["each first window has room"]
     wanted = "".join(f"\n{title}\n\n{shown.printed(new, 'a.typ')}" for title, (new, _) in zip(titles, steps))
     if not printed.endswith(wanted) or len(page.steps) != TYPED + 1:
         told.append(f"{printed!r} with {len(page.steps)} steps, and should end with {wanted!r}")
-    for at, (step, (new, windows)) in enumerate(zip(page.steps[1:], steps)):
-        told += show_page.differing_step(step, new) + show_page.differing_drawing(step, new, windows[-1], windows)
+    for at, (step, (new, change)) in enumerate(zip(page.steps[1:], steps)):
+        told += show_page.differing_step(step, new) + show_page.differing_drawing(step, change)
         told += [] if step["title"] == titles[at] else [f"the title {step['title']!r}"]
     return [f"typing has {it}" for it in told]
 
@@ -454,11 +454,11 @@ def differing_paste(programs):
     paragraph, count = '  Text "a"\n  Parbreak "\\n\\n"\n', 40
     old, new = shown.numbered(shown.tree_of("Markup\n" + paragraph)), shown.tree_of("Markup\n" + count * paragraph)
     new.place()
-    windows = shown.edited(old, new, range(2), range(2 * count))
+    change = shown.edited(old, new, range(2), range(2 * count))
     with tempfile.TemporaryDirectory() as room:
         fill(room, {"a.typ": "a\n\n", "e": '0..3 "' + count * "a\\n\\n" + '"\n'})
         page = show_page.Page(run(programs, ["a.typ", "--edits", "e", "--page", "-"], room).stdout.decode())
-    told = [*page.wrong, *show_page.differing_step(page.steps[1], new), *show_page.differing_drawing(page.steps[1], new, windows[-1], windows)]
+    told = [*page.wrong, *show_page.differing_step(page.steps[1], new), *show_page.differing_drawing(page.steps[1], change)]
     if page.steps[1]["left_out"] != f"{2 * count - show_page.MOST} more children after these aren't drawn.":
         told.append(f"{page.steps[1]['left_out']!r} after its drawing")
     return [f"the paste has {it}" for it in told]

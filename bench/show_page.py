@@ -124,7 +124,7 @@ def nodes_of(root, answers=None):
         bound = f", bound {node.upper}" if node.children is not None else ""
         place = f"at {'.'.join(map(str, path)) or '-'}{bound}"
         items = [place, *map(signed, answers.get(path, []))] if answers is not None else [place]
-        classes = ["bad"] * (node.kind == "Error") + ["new"] * node.is_new
+        classes = ["bad"] * (node.kind == "Error") + [node.mark] * bool(node.mark)
         found.append((indices[path[:-1]] if path else None, node.children is not None, classes, told, items))
     return found
 
@@ -160,13 +160,14 @@ def reported(root):
     return [signed(" ".join(it)) for it in found]
 
 
-def drawing_of(new, window, windows):
+def drawing_of(change):
     """The children that are drawn with their numbers, the windows that were tried, as ranges of children, and what is said of the children that aren't drawn."""
+    of, window = change.node.children, change.windows[-1]
     first = max(window.start - BESIDE, 0)
-    end = min(window.stop + BESIDE, len(new.children))
+    end = min(window.stop + BESIDE, len(of))
     drawn = range(first, min(end, first + MOST))
-    children = [(new.children[at].kind, str(new.children[at].number), new.children[at].is_new) for at in drawn]
-    within = [range(max(it.start, drawn.start), min(it.stop, drawn.stop)) for it in windows]
+    children = [(of[at].kind, str(of[at].number), of[at].mark or "kept") for at in drawn]
+    within = [range(max(it.start, drawn.start), min(it.stop, drawn.stop)) for it in change.windows]
     left_out = f"{end - drawn.stop} more children after these aren't drawn." if end > drawn.stop else ""
     return children, [(it.start - first, max(it.stop - it.start, 0)) for it in within], left_out
 
@@ -177,16 +178,21 @@ def drawn_in(step):
     circles = [it for it in shapes if it["tag"] == "circle"]
     texts = [it["told"] for it in shapes if it["tag"] == "text"]
     named = texts[: 2 * len(circles)]
-    children = [(kind, number, "new" in it["fill"]) for it, kind, number in zip(circles, named[::2], named[1::2])]
+    fills = [it["fill"].removeprefix("var(--").removesuffix(")") for it in circles]
+    children = list(zip(named[::2], named[1::2], fills))
     rects = [it for it in shapes if it["tag"] == "rect"]
     windows = [((int(it["x"]) - LEFT) // WIDTH, int(it["width"]) // WIDTH) for it in rects]
     return children, windows, step["left_out"], texts[2 * len(circles) :]
 
 
-def differing_drawing(step, new, window, windows):
-    children, ranges, left_out = drawing_of(new, window, windows)
-    told = [f"window {at + 1}: {'room' if at + 1 == len(windows) else 'no room'}" for at in range(len(windows))]
+def differing_drawing(step, change):
+    """What differs in the drawing of a change. If a leaf went on, there is none."""
     got = drawn_in(step)
+    if change.leaf is not None:
+        return [] if not step["shapes"] else [f"the drawing {got}, and should have none"]
+    children, ranges, left_out = drawing_of(change)
+    count = len(change.windows)
+    told = [f"window {at + 1}: {'room' if at + 1 == count else 'no room'}" for at in range(count)]
     # A window of no children has no width, and its place is no child's.
     clear = lambda all_: [(x if size else None, size) for x, size in all_]
     wanted = (children, clear(ranges), left_out, told)

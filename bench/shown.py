@@ -1,7 +1,7 @@
 """What ./show must print, worked out apart from it: from plain trees, by the rules of docs/SHOW.md and docs/LOOK.md.
 
 A plain tree comes from a `.tree` file or from the lines of a look. The numbers are those of typst-syntax's `numberize`
-and `replace_children`. Their rules are written here again.
+and `replace_children`, as far down as nodes go on. Their rules are written here again.
 """
 import re
 import unicodedata
@@ -25,7 +25,8 @@ class Node:
         self.kind, self.own, self.children, self.message = kind, characters, children, message
         self.number = self.upper = 0
         self.start = self.end = 0
-        self.is_new = False
+        # What an edit did to the node: "new", "moved" to another number, or nothing.
+        self.mark = ""
 
     def characters(self):
         if self.children is None:
@@ -122,21 +123,53 @@ def spread_all(nodes, start, stride):
     return True
 
 
+class Change:
+    """What an edit changed: the path to a node and the node, and the windows that were tried among its children, or the index of the leaf
+    that went on."""
+
+    def __init__(self, path, node, windows=(), leaf=None):
+        self.path, self.node, self.windows, self.leaf = path, node, windows, leaf
+
+    def told(self):
+        place = ".".join(map(str, self.path)) or "-"
+        if self.leaf is not None:
+            return f"leaf {self.leaf} at {place}"
+        return f"window {self.windows[-1].start}..{self.windows[-1].stop}, tried {len(self.windows)}, at {place}"
+
+
 def edited(old, new, old_parsed, new_parsed):
-    """Numbers the new tree after an edit of the old one: its children `new_parsed` replace the old tree's children `old_parsed`.
-    Returns the windows that were tried. The last of them had room."""
+    """Numbers the new tree after an edit of the old one: its children `new_parsed` come in place of the old tree's children `old_parsed`,
+    as far down as nodes go on. Returns the change."""
+    path = ()
+    while True:
+        new.number, new.upper = old.number, old.upper
+        first, behind = beside(old, new, old_parsed, new_parsed)
+        end, old_end = len(new.children) - behind, len(old.children) - behind
+        for ours, theirs in [*zip(new.children[:first], old.children), *zip(new.children[end:], old.children[old_end:])]:
+            keep(ours, theirs)
+        if end - first != 1 or old_end - first != 1:
+            return Change(path, new, widened(new, first, end))
+        ours, theirs = new.children[first], old.children[first]
+        if ours.kind != theirs.kind or (ours.children is None) != (theirs.children is None):
+            return Change(path, new, widened(new, first, end))
+        if ours.children is None:
+            ours.number, ours.upper = theirs.number, theirs.upper
+            return Change(path, new, leaf=first)
+        if theirs.number + ours.count() >= theirs.upper:
+            return Change(path, new, widened(new, first, end))
+        path, old, new = (*path, first), theirs, ours
+        old_parsed, new_parsed = range(len(old.children)), range(len(new.children))
+
+
+def beside(old, new, old_parsed, new_parsed):
+    """How many children before a change stay, and how many after it."""
     first, last = old_parsed.start, 0
     while first < min(old_parsed.stop, new_parsed.stop) and old.children[first].is_like(new.children[first]):
         first += 1
     left = min(old_parsed.stop, new_parsed.stop) - first
     while last < left and old.children[old_parsed.stop - 1 - last].is_like(new.children[new_parsed.stop - 1 - last]):
         last += 1
-    end = new_parsed.stop - last
-    kept = len(new.children) - end
-    new.number, new.upper = old.number, old.upper
-    for ours, theirs in [*zip(new.children[:first], old.children), *zip(new.children[end:], old.children[len(old.children) - kept :])]:
-        keep(ours, theirs)
-    return widened(new, first, end)
+    return first, len(new.children) - new_parsed.stop + last
 
 
 def keep(ours, theirs):
@@ -145,19 +178,20 @@ def keep(ours, theirs):
 
 
 def widened(new, first, end):
-    """Numbers the children in the first window round first..end that has room: for twice its nodes, or for all nodes of the tree."""
+    """Numbers the children in the first window round first..end that has room: for twice its nodes, or for all nodes of the node. Marks
+    the nodes that are new and those that moved."""
     reach, tried = 0, []
     while True:
         start, stop = max(first - reach, 0), min(end + reach, len(new.children))
         low = new.children[start - 1].upper if start else new.number + 1
         high = new.children[stop].number if stop < len(new.children) else new.upper
         tried.append(range(start, stop))
-        count = sum(child.count() for child in new.children[start:stop])
-        stride = ((high - low) // (2 * count) or (high - low) // new.count()) if count else 1
-        if stride and (not count or spread_all(new.children[start:stop], low, stride)):
-            for child in new.children[start:stop]:
-                for _, node in child.preorder():
-                    node.is_new = True
+        window = [(at, node) for at in tried[-1] for _, node in new.children[at].preorder()]
+        stride = ((high - low) // (2 * len(window)) or (high - low) // new.count()) if window else 1
+        before = [node.number for _, node in window]
+        if stride and (not window or spread_all(new.children[start:stop], low, stride)):
+            for (at, node), was in zip(window, before):
+                node.mark = "new" if first <= at < end else "moved" if node.number != was else ""
             return tried
         reach = 2 * reach or 1
 
@@ -173,8 +207,7 @@ def drawn(root, answers=None):
 
     def draw(node, path, before, branch, beside):
         most = len(node.characters()) if node.children is None else INNER_CHARS
-        new = " new" * node.is_new
-        told = f"{node.kind} {node.start}..{node.end} #{node.number}{new}  {beginning(node.characters(), most)}"
+        told = f"{node.kind} {node.start}..{node.end} #{node.number}{' ' * bool(node.mark)}{node.mark}  {beginning(node.characters(), most)}"
         lines.append(before + branch + told)
         inside = before + beside
         for answer in (answers or {}).get(path, []):
@@ -250,21 +283,20 @@ def children_in(root, parsed):
     return range(inside[0], inside[-1] + 1) if inside else range(0, 0)
 
 
-def told_of(edit, new, parsed, windows, line=1):
+def told_of(edit, new, parsed, change, line=1):
     """What is told of the edit in a line that made a tree by parsing these bytes anew."""
-    window, count = windows[-1], new.count()
-    fresh = sum(child.count() for child in new.children[window.start : window.stop])
+    marks = [node.mark for _, node in new.preorder()]
     return (
-        f"line {line}: {edit}\nparsed {parsed.start}..{parsed.stop} of {new.end} bytes; numbered {fresh} of {count} nodes, "
-        f"window {window.start}..{window.stop}, tried {len(windows)}; {count - fresh} keep their numbers"
+        f"line {line}: {edit}\nparsed {parsed.start}..{parsed.stop} of {new.end} bytes; {marks.count('new')} of {len(marks)} nodes are new, "
+        f"{marks.count('moved')} moved, {marks.count('')} keep their numbers; {change.told()}"
     )
 
 
 def printed_edit(edit, old, new, parsed, file):
     """What is printed of the edit in line 1 that made one tree of another by parsing these bytes anew."""
     before = range(parsed.start, parsed.stop - (new.end - old.end))
-    windows = edited(old, new, children_in(old, before), children_in(new, parsed))
-    return f"\n{told_of(edit, new, parsed, windows)}\n\n{printed(new, file)}"
+    change = edited(old, new, children_in(old, before), children_in(new, parsed))
+    return f"\n{told_of(edit, new, parsed, change)}\n\n{printed(new, file)}"
 
 
 # Looks.

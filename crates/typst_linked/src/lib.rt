@@ -20,6 +20,7 @@ pub use cursor::Side;
 pub use diag_places::place_of;
 pub use looks::Looks;
 pub use node::LinkedNode;
+pub use path::node_at;
 pub use preorder::LinkedPreorder;
 
 mod children;

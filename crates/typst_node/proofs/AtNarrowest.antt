@@ -11,12 +11,11 @@ use Rattle.typst_node.specs.Edit.{Edit, Fits, edited_by}
 use Rattle.typst_node.specs.Accepted.{IsAccepted}
 use Rattle.typst_node.specs.Outside.{KeepsBeside}
 use Rattle.typst_node.specs.Narrower.{HasNoLeaf, IsNarrowest}
-use Rattle.typst_node.specs.Reconciled.{IsReconciled, IsLeafKept, IsMadeAt, IsUnreconciledBy, KeepsNumbers, LeafKeepsNumbers, touched_children}
+use Rattle.typst_node.specs.Reconciled.{IsReconciled, IsLeafKept, IsMadeAt, IsUnreconciledBy, KeepsNumbers}
 use Rattle.typst_node.specs.Labels.{number}
 use Rattle.typst_node.specs.Moves.{NumberMoves, followed, in_file, no_moves}
 use Rattle.typst_node.specs.Following.{IsGone, IsFollowed, GoesOn, AllGoOnOrGo, StayInPlace, place_after}
 use Rattle.typst_node.specs.declared.node.reconcile.Reconciled.{Reconciled}
-use Rattle.typst_node.specs.declared.node.reconcile.Touched.{Touched}
 use Rattle.typst_node.specs.declared.node.reconcile.Touched.TheVariants.{Leaf, Window}
 use Rattle.typst_node.specs.declared.node.replace.Renumbered.{Renumbered}
 use Rattle.typst_node.specs.declared.node.replace.ReplaceError.{ReplaceError}

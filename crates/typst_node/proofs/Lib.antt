@@ -49,3 +49,4 @@ pub mod Measured
 pub mod Blocks
 pub mod Lasts
 pub mod NoMore
+pub mod AnotherTree

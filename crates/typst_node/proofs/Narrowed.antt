@@ -37,7 +37,7 @@ set_around : {X : Type 0} (before behind : List X) (c x : X) → set (before ++ 
 set_around [] behind c x = refl
 set_around (b ∷ before) behind c x = ap (λ xs. b ∷ xs) (set_around before behind c x)
 
-splice_all : {X : Type 0} (xs ys : List X) → splice xs 0 (length xs) ys ≡ ys
+pub splice_all : {X : Type 0} (xs ys : List X) → splice xs 0 (length xs) ys ≡ ys
 splice_all xs ys = ap (λ zs. ys ++ zs) (drop_all xs) ∙ append-nil ys
   where
     drop_all : {X : Type 0} (xs : List X) → drop (length xs) xs ≡ []

@@ -31,6 +31,7 @@ pub mod Put
 pub mod Narrower
 pub mod Narrowing
 pub mod Reconciled
+pub mod Updated
 pub mod Growth
 pub mod EditBelow
 pub mod Errand

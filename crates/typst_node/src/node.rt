@@ -41,6 +41,7 @@ mod settle;
 pub mod spanless;
 pub mod synthesize;
 mod trim;
+pub mod update;
 pub mod warn;
 mod window;
 

@@ -4,6 +4,7 @@
 #![tactic(auto)]
 
 pub use answered::draw_with_answers;
+pub use numbers::EditedNode;
 pub use windows::Change;
 pub use writer::PageWriter;
 

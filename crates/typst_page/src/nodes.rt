@@ -12,7 +12,7 @@ use typst_answers::views::of_node;
 use typst_answers::{Answers, Form};
 use typst_base::SyntaxKind;
 use typst_node::SyntaxNode;
-use typst_rows::{EditReport, Row};
+use typst_rows::{EditReport, NodeStatus, Row};
 use typst_shown::quoted::push_beginning;
 use typst_shown::{Problem, Shown};
 
@@ -62,7 +62,8 @@ pub(crate) fn push_nodes<'a, R: Files + Print>(
         let Some(node) = node_of(shown.root, parents.last(), row) else {
             break;
         };
-        push_summary(out, row, report.is_some_and(|report| report.is_new(row)))?;
+        let status = report.map_or(NodeStatus::Kept, |report| report.status(row.number));
+        push_summary(out, row, status)?;
         let own = shown.text.get(row.start..row.end).unwrap_or("");
         push_quoted(out, &mut quoted, own)?;
         push_place(out, parents.last(), row)?;
@@ -109,13 +110,15 @@ fn end_children(out: &mut String, depth: usize, open: usize) -> Result<(), Alloc
 }
 
 /// Begins a node, and adds what a reader sees of it before it is opened, up to its text.
-fn push_summary(out: &mut String, row: &Row, is_new: bool) -> Result<(), AllocError> {
+fn push_summary(out: &mut String, row: &Row, status: NodeStatus) -> Result<(), AllocError> {
     let kind = row.kind;
-    out.push_str(match (kind == SyntaxKind::Error, is_new) {
-        (false, false) => "<details><summary><b>",
-        (false, true) => "<details class=\"new\"><summary><b>",
-        (true, false) => "<details class=\"bad\"><summary><b>",
-        (true, true) => "<details class=\"bad new\"><summary><b>",
+    out.push_str(match (kind == SyntaxKind::Error, status) {
+        (false, NodeStatus::Kept) => "<details><summary><b>",
+        (false, NodeStatus::Moved) => "<details class=\"moved\"><summary><b>",
+        (false, NodeStatus::New) => "<details class=\"new\"><summary><b>",
+        (true, NodeStatus::Kept) => "<details class=\"bad\"><summary><b>",
+        (true, NodeStatus::Moved) => "<details class=\"bad moved\"><summary><b>",
+        (true, NodeStatus::New) => "<details class=\"bad new\"><summary><b>",
     })?;
     write!(out, "{kind:?}")?;
     out.push_str("</b> ")?;

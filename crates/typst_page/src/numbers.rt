@@ -1,9 +1,10 @@
-//! The numbers of the root's children after an edit, drawn on a line with the windows that were tried.
+//! The numbers of the children of an edited node, drawn on a line with the windows that were tried.
 
 use crate::windows::Change;
 use std::alloc::AllocError;
 use std::ops::Range;
-use typst_rows::{EditReport, Row};
+use typst_node::{Renumbered, SyntaxNode};
+use typst_rows::{EditReport, NodeStatus};
 
 /// How many children are drawn on each side of the window.
 const BESIDE: usize = 2;
@@ -23,19 +24,31 @@ const TOP: usize = 80;
 /// How far each window is below the one before, in pixels.
 const HEIGHT: usize = 24;
 
-/// Draws the numbers of the children in the window and next to it, both those that stayed and new ones.
+/// A node whose children an edit changed, after the edit: the window among its children, and where their list changed.
+#[derive(Clone, Copy)]
+pub struct EditedNode<'a> {
+    /// The node.
+    pub node: &'a SyntaxNode,
+    /// The children that were numbered anew.
+    pub renumbered: &'a Renumbered,
+    /// Where the list of its children changed.
+    pub change: &'a Change,
+}
+
+/// Draws the numbers of the children in the window and next to it: those that stayed, those that are new, and those of
+/// nodes that moved.
 pub(crate) fn push_numbers(
     out: &mut String,
-    rows: &[Row],
     report: &EditReport,
-    change: &Change,
+    edited: &EditedNode<'_>,
 ) -> Result<(), AllocError> {
-    let count = rows.iter().filter(|row| row.depth == 1).count();
-    let first = report.window.start.saturating_sub(BESIDE);
-    let behind = report.window.end.saturating_add(BESIDE).min(count);
+    let children = edited.node.child_slice();
+    let Renumbered { window, tried } = edited.renumbered;
+    let first = window.start.saturating_sub(BESIDE);
+    let behind = window.end.saturating_add(BESIDE).min(children.len());
     let drawn = first..behind.min(first.saturating_add(MOST));
     let width = x_of(&drawn, drawn.end).saturating_add(LEFT);
-    let height = TOP.saturating_add(report.tried.saturating_mul(HEIGHT));
+    let height = TOP.saturating_add(tried.saturating_mul(HEIGHT));
     let left_out = behind.saturating_sub(drawn.end);
     write!(out, "<div class=\"numbers\"><svg width=\"{width}\" ")?;
     writeln!(
@@ -44,12 +57,13 @@ pub(crate) fn push_numbers(
     )?;
     write!(out, "<line x1=\"0\" y1=\"40\" x2=\"{width}\" y2=\"40\" ")?;
     writeln!(out, "stroke=\"#8a919b\"/>")?;
-    for row in rows.iter().filter(|row| row.depth == 1) {
-        if drawn.contains(&row.index) {
-            push_number(out, &drawn, row, report.is_new(row))?;
+    for (index, child) in children.iter().enumerate() {
+        if drawn.contains(&index) {
+            let x = x_of(&drawn, index).saturating_add(WIDTH / 2);
+            push_number(out, x, child, report.status(child.span().number()))?;
         }
     }
-    push_windows(out, &drawn, report, change)?;
+    push_windows(out, &drawn, edited)?;
     out.push_str("</svg>")?;
     if left_out > 0 {
         write!(
@@ -72,13 +86,16 @@ fn x_of(drawn: &Range<usize>, index: usize) -> usize {
 /// Draws the kind of a child above the line, and its number below.
 fn push_number(
     out: &mut String,
-    drawn: &Range<usize>,
-    row: &Row,
-    is_new: bool,
+    x: usize,
+    child: &SyntaxNode,
+    status: NodeStatus,
 ) -> Result<(), AllocError> {
-    let x = x_of(drawn, row.index).saturating_add(WIDTH / 2);
-    let colour = if is_new { "var(--new)" } else { "var(--kept)" };
-    let Row { kind, number, .. } = row;
+    let colour = match status {
+        NodeStatus::Kept => "var(--kept)",
+        NodeStatus::Moved => "var(--moved)",
+        NodeStatus::New => "var(--new)",
+    };
+    let (kind, number) = (child.kind(), child.span().number());
     writeln!(
         out,
         "<circle cx=\"{x}\" cy=\"40\" r=\"5\" fill=\"{colour}\"/>"
@@ -98,10 +115,12 @@ fn push_number(
 fn push_windows(
     out: &mut String,
     drawn: &Range<usize>,
-    report: &EditReport,
-    change: &Change,
+    edited: &EditedNode<'_>,
 ) -> Result<(), AllocError> {
-    let Some(turns) = change.tried(report) else {
+    let EditedNode {
+        renumbered, change, ..
+    } = *edited;
+    let Some(turns) = change.tried(renumbered) else {
         return Ok(());
     };
     for turn in turns {
@@ -110,7 +129,7 @@ fn push_windows(
         let width = x_of(drawn, window.end).saturating_sub(x).max(4);
         let y = TOP.saturating_add(turn.saturating_mul(HEIGHT));
         let (baseline, from) = (y.saturating_add(14), x.saturating_add(8));
-        let has_room = turn.saturating_add(1) == report.tried;
+        let has_room = turn.saturating_add(1) == renumbered.tried;
         let colour = if has_room { "var(--new)" } else { "#8a919b" };
         write!(out, "<rect x=\"{x}\" y=\"{y}\" width=\"{width}\" ")?;
         write!(out, "height=\"20\" rx=\"5\" fill=\"{colour}\" ")?;

@@ -4,9 +4,8 @@ ghost use Rattle.typst_lines.specs.LineTable.{AreLines};
 
 use crate::escaped::push_escaped;
 use crate::nodes::{push_leaves, push_nodes};
-use crate::numbers::push_numbers;
+use crate::numbers::{EditedNode, push_numbers};
 use crate::page_parts::{HEAD, LEGEND, STYLE, TAIL};
-use crate::windows::Change;
 use crate::writer::PageWriter;
 use std::alloc::{AllocError, Global};
 use std::rt::Files;
@@ -44,8 +43,8 @@ pub fn push_title(out: &mut String, title: &str) -> Result<(), AllocError> {
 pub struct Done<'a> {
     /// The report of the edit.
     pub report: &'a EditReport,
-    /// Where the list of the root's children changed.
-    pub change: &'a Change,
+    /// The node whose children were numbered anew, if any were.
+    pub edited: Option<EditedNode<'a>>,
 }
 
 /// Adds a step: the numbers after an edit, the text next to the tree, and errors and warnings. The first step has no
@@ -57,8 +56,12 @@ pub fn push_step<'a, R: Files + Print>(
     done: Option<Done<'_>>,
 ) -> Result<(), Problem<'a>> {
     let rows = rows(alloc, shown.root)?;
-    if let Some(Done { report, change }) = done {
-        push_numbers(&mut page.text, &rows, report, change)?;
+    if let Some(Done {
+        report,
+        edited: Some(edited),
+    }) = done
+    {
+        push_numbers(&mut page.text, report, &edited)?;
     }
     page.text
         .push_str("<div class=\"pair\">\n<pre class=\"text\">")?;

@@ -12,7 +12,7 @@ pub(crate) const HEAD: &str = "\
 /// The part of a page from after its title to its body.
 pub(crate) const STYLE: &str = "</title>
 <style>
-:root { --kept: #1f5fa8; --new: #c4570a; --line: #d0d4da; --hit: #ffe9a8; }
+:root { --kept: #1f5fa8; --moved: #7a3d9e; --new: #c4570a; --line: #d0d4da; --hit: #ffe9a8; }
 body { font: 15px/1.45 system-ui, sans-serif; margin: 1.5rem; color: #1d2127; background: #fff; }
 h1 { font-size: 1.3rem; } h2 { font-size: 1.05rem; margin: 2rem 0 .5rem; white-space: pre-line; }
 code, pre, .tree { font-family: ui-monospace, monospace; font-size: 13px; }
@@ -24,6 +24,7 @@ code, pre, .tree { font-family: ui-monospace, monospace; font-size: 13px; }
 summary { cursor: pointer; color: #1d2127; white-space: pre; }
 details { white-space: pre-wrap; color: #444b55; } details[open] { padding-bottom: .4em; }
 i, .number { font-style: normal; color: var(--kept); } .new i, .fresh { color: var(--new); font-weight: 700; }
+.moved i, .other { color: var(--moved); font-weight: 700; }
 .bad b { color: #b3261e; } span.bad { text-decoration: underline wavy #b3261e; }
 span.hit, .hit > summary { background: var(--hit); } .above > summary { background: #f4f0e2; }
 .reports { padding-left: 1.2em; } .reports .error b { color: #b3261e; } .reports .warning b { color: #8a5a00; }
@@ -38,9 +39,9 @@ span.hit, .hit > summary { background: var(--hit); } .above > summary { backgrou
 /// What a reader of the page needs to know.
 pub(crate) const LEGEND: &str = "\
 <p class=\"legend\">On the left is the text, on the right its tree: each node with its kind, the bytes of its text, and its
-<span class=\"number\">number</span>. Numbers that an edit made are <span class=\"fresh\">marked</span>. Open a node for its path
-and what its view answers. An inner node also has its bound. With scripts on, pointing at a node marks its text, and pointing at
-the text marks its node.</p>
+<span class=\"number\">number</span>. After an edit the numbers of <span class=\"fresh\">new nodes</span> and of nodes that
+<span class=\"other\">moved to another number</span> are marked. Open a node for its path and what its view answers. An inner node
+also has its bound. With scripts on, pointing at a node marks its text, and pointing at the text marks its node.</p>
 ";
 
 /// The end of a page, with the script that marks texts and nodes. The leaves of the tree come in the order of their

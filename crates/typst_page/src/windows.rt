@@ -6,10 +6,9 @@ ghost use Rattle.typst_node.specs.Window.{reach};
 ghost use Rattle.typst_page.specs.Change.{BeginBefore, EndBy, IsChange, IsLastWindow, window_end, window_start};
 
 use std::ops::Range;
-use typst_node::SyntaxNode;
-use typst_rows::EditReport;
+use typst_node::{Renumbered, SyntaxNode};
 
-/// Where the list of the root's children changed: how many are before the change, how many are new, and how many are
+/// Where the list of a node's children changed: how many are before the change, how many are new, and how many are
 /// after it.
 #[derive(Clone, Copy, Debug, PartialEq, Eq)]
 pub struct Change {
@@ -19,8 +18,8 @@ pub struct Change {
 }
 
 impl Change {
-    /// The change that an edit made between two trees: the children whose text was parsed anew, except those at the
-    /// beginning and at the end that are what they were.
+    /// The change that an edit made between two nodes: the children whose text was parsed anew, except those at the
+    /// beginning and at the end that are what they were. The bytes are those of the new node's text.
     pub fn between(old: &SyntaxNode, new: &SyntaxNode, reparsed: &Range<usize>) -> Change
         ensures { IsChange (trees old.now.children) (trees new.now.children) reparsed.now.start reparsed.now.end result }
     {
@@ -58,15 +57,15 @@ impl Change {
 
     /// The turns of all windows that were tried. The last of them had room. None if the last isn't the window that the
     /// edit returned.
-    pub fn tried(&self, report: &EditReport) -> Option<Range<usize>>
+    pub fn tried(&self, done: &Renumbered) -> Option<Range<usize>>
         ensures found { IsSome result
-            ↔ IsLastWindow self.now report.now.tried report.now.window.start report.now.window.end }
+            ↔ IsLastWindow self.now done.now.tried done.now.window.start done.now.window.end }
         ensures first { IfSome result (λ turns. turns.start ≡ 0) }
-        ensures last { IfSome result (λ turns. turns.end ≡ report.now.tried) }
+        ensures last { IfSome result (λ turns. turns.end ≡ done.now.tried) }
     {
-        let last = report.tried.checked_sub(1)?;
-        if self.window(last) == report.window {
-            Some(0..report.tried)
+        let last = done.tried.checked_sub(1)?;
+        if self.window(last) == done.window {
+            Some(0..done.tried)
         } else {
             None
         }

@@ -1,5 +1,5 @@
 -- The row of a node, and how many rows there are.
-use Rattle.std.proofs.Common.{◌≡◌, ℕ, ◌+◌, ◌<◌, List, [], length, slice_get, refl, sym, ap, ◌∙◌, Some, None, Bool, true, false, min, inl, inr, if◌then◌else◌, option_map, arith}
+use Rattle.std.proofs.Common.{◌≡◌, ℕ, ◌+◌, ◌<◌, List, [], length, refl, sym, ap, ◌∙◌, Some, None, Bool, true, false, min, inl, inr, if◌then◌else◌, option_map, arith}
 use Rattle.std.specs.Prelude.{IsTrue, ◌↔◌, unwrap_or, nat_lt, nat_le}
 use Rattle.std.specs.Option.{is_none}
 use Rattle.std.proofs.lemmas.Bool.{ltb-true, ltb-false, lt-leb, le-leb}
@@ -48,14 +48,13 @@ last_test p i s t h hs hn =
 
 -- a row with what is told of the node at a place is the place's
 pub row_is : (place : Place) (t : Tree) (r : Row) → subtree place ≡ Some t → r.depth ≡ length place.path
-    → r.top ≡ slice_get place.path 0 → r.index ≡ last_step place.path → r.is_last ≡ is_none (sibling behind_it place)
+    → r.index ≡ last_step place.path → r.is_last ≡ is_none (sibling behind_it place)
     → r.kind ≡ kind_of t.label.content → IsTrue r.is_inner ↔ IsInner t.label.content → r.start ≡ offset place.path place.root
     → r.end ≡ offset place.path place.root + length (text t) → r.number ≡ number t.label → r.bound ≡ bound t.label → r ≡ row_at place
-row_is place t r there depth top index is_last kind is_inner start end num bnd =
+row_is place t r there depth index is_last kind is_inner start end num bnd =
     let inner = inner_test t.label.content r.is_inner is_inner in
     let same : r ≡ row_of place t = λ i. record {
       depth = depth i;
-      top = top i;
       index = index i;
       is_last = is_last i;
       kind = kind i;

@@ -1,5 +1,5 @@
 -- The rows of a tree.
-use Rattle.std.specs.Prelude.{◌+◌, List, [], length, map, slice_get, unwrap_or, Bool, true, false}
+use Rattle.std.specs.Prelude.{◌+◌, List, [], length, map, unwrap_or, Bool, true, false}
 use Rattle.std.specs.Option.{is_none}
 use Rattle.typst_linked.specs.Place.{Place, subtree, last_step}
 use Rattle.typst_linked.specs.Preorder.{places_below}
@@ -19,7 +19,6 @@ has_children (AsInner kind bound) = true
 abbrev pub row_of : Place → Tree → Row
 row_of place t = record {
   depth = length place.path;
-  top = slice_get place.path 0;
   index = last_step place.path;
   is_last = is_none (sibling behind_it place);
   kind = kind_of t.label.content;

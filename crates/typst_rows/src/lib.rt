@@ -1,7 +1,7 @@
 //! What a program shows of a tree: a row for each node, and what an edit of its text did.
 //!
-//! [`rows`] lists the nodes in preorder, each with its own range, number and bound. [`edit_text`] edits the text of a
-//! [`Source`], and reports what [`Source::edit`] answered, counted in bytes and nodes. The program decides how it draws
+//! [`rows`] lists the nodes in preorder, each with its own range, number and bound. An [`EditReport`] says what
+//! [`Source::edit`] answered, counted in bytes and nodes, and what became of each node. The program decides how it draws
 //! both.
 //!
 //! This goes over the rows of a tree, and indents each by its depth:
@@ -17,16 +17,13 @@
 //! }
 //! ```
 //!
-//! [`Source`]: typst_source::Source
 //! [`Source::edit`]: typst_source::Source::edit
 #![tactic(auto)]
 
-pub use edits::edit_text;
 pub use listed::rows;
-pub use report::EditReport;
+pub use report::{EditReport, NodeStatus};
 pub use row::Row;
 
-mod edits;
 mod listed;
 mod report;
 mod row;

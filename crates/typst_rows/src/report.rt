@@ -1,64 +1,131 @@
 //! What an edit did, counted.
-ghost use Rattle.std.specs.Prelude.{◌≡◌, ◌-◌, ◌^◌, ◌<◌, ◌↔◌, IsTrue, drop, take};
+ghost use Rattle.std.specs.Prelude.{ℕ, List, ◌≡◌, ◌-◌, ◌^◌, ◌<◌, drop, length, take};
 ghost use Rattle.typst_node.specs.Count.{count_of_all};
-ghost use Rattle.typst_rows.specs.Report.{count_between};
+ghost use Rattle.typst_node.specs.Tree.{trees};
+ghost use Rattle.typst_rows.specs.Report.{Reports, differing, numbers_of, status_of, touched_nodes};
 
-use crate::row::Row;
 use std::ops::Range;
-use typst_node::SyntaxNode;
+use typst_linked::node_at;
+use typst_node::{SyntaxNode, Touched};
 use typst_source::Edited;
 
 /// What an edit did, counted in bytes and nodes of the new text and its tree.
 #[derive(Clone, Debug, PartialEq, Eq, Drop)]
 pub struct EditReport {
-    /// The bytes that were parsed anew.
-    pub reparsed: Range<usize>,
+    /// What the edit answered.
+    pub done: Edited,
     /// How many bytes the text has.
     pub bytes: usize,
-    /// The children of the root that were numbered anew.
-    pub window: Range<usize>,
-    /// How many windows were tried, including this one.
-    pub tried: usize,
-    /// How many nodes were numbered anew.
-    pub numbered: usize,
     /// How many nodes the tree has.
     pub nodes: usize,
+    /// How many nodes are new.
+    pub new: usize,
+    /// How many nodes went on with another number.
+    pub moved: usize,
+    /// The numbers of the window: from that of its first node up to the bound of its last child.
+    pub numbers: Range<u64>,
+}
+
+/// What an edit did to a node of the new tree.
+#[derive(Clone, Copy, Debug, PartialEq, Eq)]
+pub enum NodeStatus {
+    /// The node went on with its number.
+    Kept,
+    /// The node went on with another number.
+    Moved,
+    /// The node came with the edit.
+    New,
 }
 
 impl EditReport {
-    ghost use Rattle.typst_rows.specs.Report.{Reports, IsNumberedAnew};
-
-    /// What an edit did, given the tree that it left.
-    pub fn of(root: &SyntaxNode, done: &Edited) -> EditReport
-        ensures { Reports result done.now root.now }
+    /// What an edit did, given the tree that it left. It takes time in proportion to the nodes of the window's part of
+    /// the moves and to the children of the node that was edited.
+    pub fn of(root: &SyntaxNode, done: Edited) -> EditReport
+        ensures { Reports done root.now result }
     {
-        let Range { start, end } = done.renumbered.window;
+        let window = window_of(root, &done);
+        let (before, after) = done.moves.moved();
+        let (new, moved) = (
+            count_all(window).saturating_sub(after.len()),
+            count_differing(before, after),
+        );
         EditReport {
-            reparsed: done.reparsed.start..done.reparsed.end,
             bytes: root.len(),
-            window: start..end,
-            tried: done.renumbered.tried,
-            numbered: count_in(root, start, end),
             nodes: root.descendants(),
+            new,
+            moved,
+            numbers: numbers_in(window),
+            done,
         }
     }
 
     /// How many nodes keep their numbers.
     pub fn kept(&self) -> usize
-        ensures { result ≡ self.now.nodes - self.now.numbered }
+        ensures { result ≡ self.now.nodes - self.now.new - self.now.moved }
     {
-        self.nodes.saturating_sub(self.numbered)
+        self.nodes
+            .saturating_sub(self.new)
+            .saturating_sub(self.moved)
     }
 
-    /// Whether the node of a row of the new tree was numbered anew.
-    pub fn is_new(&self, row: &Row) -> bool
-        ensures { IsTrue result ↔ IsNumberedAnew self.now row.now }
+    /// What the edit did to the node of the new tree that has a number. It takes time in proportion to the nodes of the
+    /// window, and for a node outside it none.
+    pub fn status(&self, number: u64) -> NodeStatus
+        ensures { result ≡ status_of self.now.numbers self.now.done.moves number }
     {
-        match row.top {
-            None => false,
-            Some(top) => self.window.start <= top && top < self.window.end,
+        if !self.numbers.contains(&number) {
+            return NodeStatus::Kept;
+        }
+        let (before, after) = self.done.moves.moved();
+        match after.iter().position(|now| *now == number) {
+            None => NodeStatus::New,
+            Some(index) => {
+                if before.get(index) == Some(&number) {
+                    NodeStatus::Kept
+                } else {
+                    NodeStatus::Moved
+                }
+            }
         }
     }
+}
+
+/// The children in the window of an edit, and none if a leaf went on.
+fn window_of<'a>(root: &'a SyntaxNode, done: &Edited) -> &'a [SyntaxNode]
+    ensures { result.now ≡ touched_nodes done.now root.now }
+{
+    let Touched::Window(renumbered) = &done.touched else {
+        return &[];
+    };
+    let Some(node) = node_at(root, &done.path) else {
+        return &[];
+    };
+    let Range { start, end } = renumbered.window;
+    let rest = nodes_from(node.child_slice(), start);
+    first_nodes(rest, end.saturating_sub(start))
+}
+
+/// The numbers of adjacent nodes and of the nodes below them.
+fn numbers_in(nodes: &[SyntaxNode]) -> Range<u64>
+    ensures { result ≡ numbers_of nodes.now }
+{
+    match (nodes.first(), nodes.last()) {
+        (Some(first), Some(last)) => first.span().number()..last.upper(),
+        _ => 0..0,
+    }
+}
+
+/// How many numbers differ from those in the other list.
+fn count_differing(before: &[u64], after: &[u64]) -> usize
+    ensures { result ≡ differing before.now after.now }
+{
+    let mut sum = 0;
+    for i in 0..before.len().min(after.len()) {
+        if before[i] != after[i] {
+            sum += 1;
+        }
+    }
+    sum
 }
 
 /// The nodes from an index on.
@@ -86,14 +153,4 @@ fn count_all(nodes: &[SyntaxNode]) -> usize
         sum += node.descendants();
     }
     sum
-}
-
-/// How many nodes the children of a tree have, from one index up to another.
-fn count_in(root: &SyntaxNode, start: usize, end: usize) -> usize
-    ensures { result ≡ count_between root.now start end }
-{
-    // Read for the proof: the nodes of the whole tree are a usize.
-    let _all = root.descendants();
-    let rest = nodes_from(root.child_slice(), start);
-    count_all(first_nodes(rest, end.saturating_sub(start)))
 }

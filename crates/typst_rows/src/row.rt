@@ -1,5 +1,5 @@
 //! The row of a node.
-ghost use Rattle.std.specs.Prelude.{◌≡◌, ◌≤◌, ◌^◌, IfOk, IsErr, length, slice_get};
+ghost use Rattle.std.specs.Prelude.{◌≡◌, ◌≤◌, ◌^◌, IfOk, IsErr, length};
 ghost use Rattle.std.specs.Option.{is_none};
 ghost use Rattle.typst_linked.specs.Siblings.{sibling, behind_it};
 ghost use Rattle.typst_rows.specs.Rows.{row_at};
@@ -13,8 +13,6 @@ use typst_linked::LinkedNode;
 pub struct Row {
     /// How many nodes are above it.
     pub depth: usize,
-    /// Which of the root's children it is, or is below. The root has none.
-    pub top: Option<usize>,
     /// Its index among its parent's children, and 0 for the root.
     pub index: usize,
     /// Whether no sibling comes after it.
@@ -40,12 +38,11 @@ impl Row {
         ensures returns { IfOk result (λ row. row ≡ row_at node.now) }
         ensures too_deep { IsErr result → 2 ^ 64 ≤ length node.now.path }
     {
-        let (depth, top) = above(node)?;
+        let depth = depth_of(node)?;
         let range = node.range();
         let tree = node.get();
         Ok(Row {
             depth,
-            top,
             index: node.index(),
             is_last: is_last(node),
             kind: tree.kind(),
@@ -58,20 +55,18 @@ impl Row {
     }
 }
 
-/// How many nodes are above a node, and which of the root's children it is, or is below.
-fn above(node: &LinkedNode<'_>) -> Result<(usize, Option<usize>), AllocError>
-    ensures depth { IfOk result (λ above. above.0 ≡ length node.now.path) }
-    ensures top { IfOk result (λ above. above.1 ≡ slice_get node.now.path 0) }
+/// How many nodes are above a node.
+fn depth_of(node: &LinkedNode<'_>) -> Result<usize, AllocError>
+    ensures depth { IfOk result (λ depth. depth ≡ length node.now.path) }
     ensures too_deep { IsErr result → 2 ^ 64 ≤ length node.now.path }
 {
     let Some(parent) = node.parent() else {
-        return Ok((0, None));
+        return Ok(0);
     };
-    let (depth, top) = above(parent)?;
-    let Some(depth) = depth.checked_add(1) else {
-        return Err(AllocError);
-    };
-    Ok((depth, Some(top.unwrap_or(node.index()))))
+    match depth_of(parent)?.checked_add(1) {
+        Some(depth) => Ok(depth),
+        None => Err(AllocError),
+    }
 }
 
 /// Whether no sibling comes after a node.

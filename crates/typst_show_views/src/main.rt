@@ -8,13 +8,17 @@ use std::alloc::Global;
 use std::io;
 use std::io::Write;
 use std::process::ExitCode;
+
 use typst_page::page::{Done, push_head, push_step, push_tail, push_title};
-use typst_page::{Change, PageWriter, draw_with_answers};
+use typst_linked::node_at;
+use typst_node::{SyntaxNode, Touched};
+use typst_page::{Change, EditedNode, PageWriter, draw_with_answers};
 use typst_rows::EditReport;
 use typst_shown::report::told_of;
 use typst_shown::start::{end, start};
 use typst_shown::terminal::{Drawing, show_text};
 use typst_shown::{Asked, Form, NumberedEdit, Problem, Shown, Text};
+use typst_source::Edited;
 
 /// The name of this program.
 const NAME: &str = "typst_show_views";
@@ -73,13 +77,48 @@ fn push_page<'a>(
         let old = text.shown().root.clone()?;
         let report = text.edit(alloc, edit)?;
         push_title(&mut page.text, &told_of(alloc, edit, &report)?)?;
-        let shown = text.shown();
-        let done = Done {
-            report: &report,
-            change: &Change::between(&old, shown.root, &report.reparsed),
-        };
-        push_step(alloc, page, &shown, Some(done))?;
+        push_edited(alloc, page, &text.shown(), &old, &report)?;
     }
     push_tail(&mut page.text)?;
     Ok(())
+}
+
+/// Adds a text and its tree after an edit, with the numbers of the children that the edit changed.
+fn push_edited<'a>(
+    alloc: Global,
+    page: &mut PageWriter<'_, 'a, HostRuntime>,
+    shown: &Shown<'_>,
+    old: &SyntaxNode,
+    report: &EditReport,
+) -> Result<(), Problem<'a>> {
+    let Edited {
+        path,
+        touched,
+        reparsed,
+        ..
+    } = &report.done;
+    let (Touched::Window(renumbered), Some(was), Some(node)) =
+        (touched, node_at(old, path), node_at(shown.root, path))
+    else {
+        let done = Done {
+            report,
+            edited: None,
+        };
+        return push_step(alloc, page, shown, Some(done));
+    };
+    // All of the text of a node below the root was parsed anew.
+    let bytes = if path.is_empty() {
+        reparsed.start..reparsed.end
+    } else {
+        0..node.len()
+    };
+    let done = Done {
+        report,
+        edited: Some(EditedNode {
+            node,
+            renumbered,
+            change: &Change::between(was, node, &bytes),
+        }),
+    };
+    push_step(alloc, page, shown, Some(done))
 }

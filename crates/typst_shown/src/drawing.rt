@@ -6,12 +6,12 @@ use crate::trail::Trail;
 use std::alloc::Global;
 use std::io;
 use std::io::Write;
-use typst_rows::{EditReport, Row, rows};
+use typst_rows::{EditReport, NodeStatus, Row, rows};
 
 /// How many characters of an inner node's text are shown.
 const SHOWN_CHARS: usize = 32;
 
-/// Draws a tree, and marks the nodes that an edit numbered anew.
+/// Draws a tree, and marks the nodes that are new after an edit and those that it moved.
 pub fn draw<W: Write>(
     alloc: Global,
     out: &mut W,
@@ -41,7 +41,7 @@ pub fn draw_row<W: Write>(
     draw_text(out, rest, text, row)
 }
 
-/// Writes the kind of a row, its range, its number, and whether the number is new.
+/// Writes the kind of a row, its range, its number, and whether the node is new or was moved.
 fn draw_kind<W: Write>(out: &mut W, row: &Row, report: Option<&EditReport>) -> io::Result<()> {
     let Row {
         kind,
@@ -51,10 +51,11 @@ fn draw_kind<W: Write>(out: &mut W, row: &Row, report: Option<&EditReport>) -> i
         ..
     } = row;
     write!(out, "{kind:?} {start}..{end} #{number}")?;
-    if report.is_some_and(|report| report.is_new(row)) {
-        out.write_all(b" new")?;
+    match report.map_or(NodeStatus::Kept, |report| report.status(*number)) {
+        NodeStatus::Kept => Ok(()),
+        NodeStatus::Moved => out.write_all(b" moved"),
+        NodeStatus::New => out.write_all(b" new"),
     }
-    Ok(())
 }
 
 /// Writes the text of a row, or the beginning of the text for an inner node, and the end of the line.

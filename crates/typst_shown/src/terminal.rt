@@ -17,7 +17,7 @@ use typst_rows::EditReport;
 
 /// A way to draw trees.
 pub trait Drawing {
-    /// Draws a tree, one node per line, and marks the nodes that an edit numbered anew.
+    /// Draws a tree, one node per line, and marks the nodes that are new after an edit and those that it moved.
     fn draw<W: Write>(
         alloc: Global,
         out: &mut W,

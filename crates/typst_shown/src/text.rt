@@ -9,7 +9,7 @@ use std::alloc::Global;
 use std::rt::Files;
 use typst_base::FileId;
 use typst_markup::Markup;
-use typst_rows::{EditReport, edit_text};
+use typst_rows::EditReport;
 use typst_source::Source;
 
 /// A text with its tree, and the names of its file and of the file with its edits.
@@ -55,7 +55,7 @@ impl<'a> Text<'a> {
         }
     }
 
-    /// Does an edit.
+    /// Does an edit, and reports what it did.
     pub fn edit(
         &mut self,
         alloc: Global,
@@ -72,8 +72,8 @@ impl<'a> Text<'a> {
                 });
             }
         };
-        match edit_text(alloc, &mut self.source, range, &edit.with) {
-            Ok(report) => Ok(report),
+        match self.source.edit(alloc, range, &edit.with) {
+            Ok(done) => Ok(EditReport::of(self.source.root(), done)),
             Err(error) => Err(Problem::of_source(self.file, error)),
         }
     }

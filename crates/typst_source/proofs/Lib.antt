@@ -8,4 +8,5 @@ pub mod Made
 pub mod Trees
 pub mod Edits
 pub mod Ran
+pub mod Followed
 pub mod TooLarge

@@ -10,7 +10,11 @@ use Rattle.typst_node.specs.Numbered.{IsNumbered, IsNumberedFor}
 use Rattle.typst_node.specs.Paths.{IsPath, tree_at}
 use Rattle.typst_source.specs.Blocks.{Block, document}
 use Rattle.typst_source.specs.Runs.{IsServed, IsRun, if_edited, edited_text}
-use Rattle.typst_source.specs.Kept.{GoesOn, NumberGoesOn, StaysThrough, NumberStaysThrough, KeepsLabel}
+use Rattle.typst_node.specs.Moves.{NumberMoves}
+use Rattle.typst_node.specs.Reconciled.{LeafKeepsNumbers}
+use Rattle.typst_node.specs.declared.node.reconcile.Touched.{Touched}
+use Rattle.typst_node.specs.declared.node.reconcile.Touched.TheVariants.{Leaf, Window}
+use Rattle.typst_source.specs.Kept.{GoesOn, NumberGoesOn, StaysThrough, NumberStaysThrough, KeepsLabel, IsLeafTouched}
 use Rattle.typst_source.specs.declared.runs.TextEdit.{TextEdit}
 use Rattle.typst_source.specs.declared.runs.Outcome.{Outcome}
 use Rattle.typst_source.specs.declared.runs.Outcome.TheVariants.{Edited, Misfit, Refused}
@@ -65,7 +69,7 @@ module _ (first : List ℕ → Block) where
   same_tree : (old new : Tree) (p q : List ℕ) → new ≡ old → q ≡ p → IsPath p old → KeepsLabel p q old new
   same_tree old new p q t e there = (coe 1 0 (i. IsPath (e i) (t i)) there, λ i. (tree_at (e i) (t i)).label)
 
-  served_same : (edit : TextEdit) (out : Outcome) (old new : Tree) (p q : List ℕ) → IsServed first old edit out new → GoesOn out old new p q → IsPath p old → KeepsLabel p q old new
+  served_same : (edit : TextEdit) (out : Outcome) (old new : Tree) (p q : List ℕ) → IsServed first old edit out new → GoesOn edit out old new p q → IsPath p old → KeepsLabel p q old new
   served_same edit (Edited done) old new p q s on there = (on.0, (s.1.outside q on.0 on.1).1 ∙ ap (λ place. (tree_at place old).label) on.2)
   served_same edit Misfit old new p q s on there = same_tree old new p q s.1 on there
   served_same edit (Refused error) old new p q s on there = same_tree old new p q s.2 on there
@@ -80,17 +84,27 @@ module _ (first : List ℕ → Block) where
   kept_same [] (out ∷ outs) old new p q kept there = absurd kept
   kept_same (edit ∷ edits) [] old new p q kept there = absurd kept
 
-  -- and so do the numbers that go on
-  number_after : (edit : TextEdit) (out : Outcome) (old new : Tree) (p q : List ℕ) → IsServed first old edit out new → NumberGoesOn out old new p q → IsPath p old → IsPath q new × (number (tree_at q new).label ≡ number (tree_at p old).label)
-  number_after edit (Edited done) old new p q s (inl on) there = let same = served_same edit (Edited done) old new p q s on there in (same.0, ap number same.1)
-  number_after edit (Edited done) old new p q s (inr still) there =
-      let kept = s.1.still still.0 q still.1 in
-      (still.1, ap (λ (span : SpanParts). span.low) kept.1 ∙ ap (λ place. number (tree_at place old).label) still.2)
-  number_after edit Misfit old new p q s on there = let same = same_tree old new p q s.1 on there in (same.0, ap number same.1)
-  number_after edit (Refused error) old new p q s on there = let same = same_tree old new p q s.2 on there in (same.0, ap number same.1)
+  -- the number at a path stays, and the path leads somewhere
+  abbrev HasNumber : Tree → Tree → List ℕ → List ℕ → Type 0
+  HasNumber old new p q = IsPath q new × (number (tree_at q new).label ≡ number (tree_at p old).label)
 
-  pub number_kept : (edits : List TextEdit) (outs : List Outcome) (old new : Tree) (p q : List ℕ) → NumberStaysThrough first old edits outs new p q → IsPath p old → IsPath q new × (number (tree_at q new).label ≡ number (tree_at p old).label)
-  number_kept [] [] old new p q kept there = let same = same_tree old new p q kept.0 kept.1 there in (same.0, ap number same.1)
+  same_number : (old new : Tree) (p q : List ℕ) → KeepsLabel p q old new → HasNumber old new p q
+  same_number old new p q same = (same.0, ap number same.1)
+
+  leaf_number : (touched : Touched) (m : NumberMoves) (old new : Tree) (p q : List ℕ) → LeafKeepsNumbers touched m old new → IsLeafTouched touched → IsPath q new → q ≡ p → HasNumber old new p q
+  leaf_number (Leaf index) m old new p q kept leaf there is =
+      (there, ap (λ (span : SpanParts). span.low) (kept.0 q there).1 ∙ ap (λ place. number (tree_at place old).label) is)
+  leaf_number (Window r) m old new p q kept leaf there is = absurd leaf
+
+  -- and so do the numbers that go on
+  number_after : (edit : TextEdit) (out : Outcome) (old new : Tree) (p q : List ℕ) → IsServed first old edit out new → NumberGoesOn edit out old new p q → IsPath p old → HasNumber old new p q
+  number_after edit (Edited done) old new p q s (inl on) there = same_number old new p q (served_same edit (Edited done) old new p q s on there)
+  number_after edit (Edited done) old new p q s (inr still) there = leaf_number done.touched done.moves old new p q s.1.still still.0 still.1 still.2
+  number_after edit Misfit old new p q s on there = same_number old new p q (same_tree old new p q s.1 on there)
+  number_after edit (Refused error) old new p q s on there = same_number old new p q (same_tree old new p q s.2 on there)
+
+  pub number_kept : (edits : List TextEdit) (outs : List Outcome) (old new : Tree) (p q : List ℕ) → NumberStaysThrough first old edits outs new p q → IsPath p old → HasNumber old new p q
+  number_kept [] [] old new p q kept there = same_number old new p q (same_tree old new p q kept.0 kept.1 there)
   number_kept (edit ∷ edits) (out ∷ outs) old new p q kept there =
       let over = number_after edit out old kept.0 p kept.1 kept.2 kept.3 there in
       let rest = number_kept edits outs kept.0 new kept.1 q kept.4 over.0 in

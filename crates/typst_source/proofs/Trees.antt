@@ -1,6 +1,7 @@
 -- The tree of a source, its extents and its numbers.
 use Rattle.std.proofs.Common.{◌≡◌, ℕ, zero, suc, ◌+◌, ◌-◌, ◌<◌, ◌≤◌, inl, inr, List, [], ◌∷◌, length, map, refl, sym, ap, subst, ◌∙◌, arith}
 use Rattle.std.specs.List.{AllByRecursion}
+use Rattle.std.specs.declared.ops.Range.{Range}
 use Rattle.std.specs.Prelude.{Result, Ok, Err, IsErrAnd, IsErrOf}
 use Rattle.std.proofs.lemmas.List.{length-map}
 use Rattle.typst_base.specs.declared.kind.SyntaxKind.TheVariants as kinds
@@ -11,8 +12,7 @@ use Rattle.typst_node.specs.PlainEdit.{edited}
 use Rattle.typst_node.specs.Count.{count}
 use Rattle.typst_node.specs.Labels.{number, bound}
 use Rattle.typst_node.specs.Numbered.{IsNumbered, IsNumberedFor}
-use Rattle.typst_node.specs.Outside.{KeepsOutside}
-use Rattle.typst_node.specs.declared.node.replace.Renumbered.{Renumbered}
+use Rattle.typst_node.specs.Outside.{KeepsBeside}
 use Rattle.typst_node.specs.Refusals.{LacksNumbers}
 use Rattle.typst_node.proofs.Plain.{count_plain, same_count_of_all}
 use Rattle.typst_node.proofs.Trimmed.{trimmed_plain}
@@ -37,10 +37,10 @@ numbered_for t new n h = (t.label.span.file, subst (λ file. 1 ≤ file) (sym n.
 pub still_roomy : (t new : Tree) → IsRoomy t → number new.label ≡ number t.label → bound new.label ≡ bound t.label → IsRoomy new
 still_roomy t new roomy n b = omega (arith, roomy, n, b)
 
--- a root is in no window, so it keeps its label
-pub root_label : (path : List ℕ) (r : Renumbered) (t new : Tree) → KeepsOutside path r t new → new.label ≡ t.label
-root_label [] r t new keeps = (keeps [] tt (λ inside. inside)).1
-root_label (i ∷ path) r t new keeps = (keeps [] tt (λ inside. inside)).1
+-- a root is no child, so it keeps its label
+pub root_label : (path : List ℕ) (range : Range ℕ) (t new : Tree) → KeepsBeside path range t new → new.label ≡ t.label
+root_label [] range t new keeps = (keeps [] tt (λ inside. inside)).1
+root_label (i ∷ path) range t new keeps = (keeps [] tt (λ inside. inside)).1
 
 -- the error that a replacement's becomes is want of numbers only where that was
 pub refused_by : {A : Type 0} (r : Result A SourceError) (e : ReplaceError) → IsErrAnd r (λ s. s ≡ of_replace e) → IsErrOf r Unnumberable → e ≡ replace.Unnumberable

@@ -8,9 +8,10 @@ use Rattle.typst_node.specs.Plain.{plain}
 use Rattle.typst_node.specs.Count.{count}
 use Rattle.typst_node.specs.Labels.{number, bound}
 use Rattle.typst_node.specs.Numbered.{IsNumberedFor}
-use Rattle.typst_node.specs.Following.{AllGoOnOrGo}
-use Rattle.typst_node.specs.Outside.{KeepsOutside}
-use Rattle.typst_node.specs.Reconciled.{IsReconciled, KeepsNumbers}
+use Rattle.typst_node.specs.Edit.{Edit}
+use Rattle.typst_node.specs.Following.{AllGoOnOrGo, SpansFollow}
+use Rattle.typst_node.specs.Outside.{KeepsBeside}
+use Rattle.typst_node.specs.Reconciled.{IsReconciled, LeafKeepsNumbers, touched_children}
 use Rattle.typst_source.specs.Blocks.{Block, document}
 use Rattle.typst_source.specs.Reparsed.{AreReparsed, AreSeams, cut_of}
 use Rattle.typst_source.specs.Source.{IsTooLarge}
@@ -19,25 +20,30 @@ use Rattle.typst_source.specs.declared.edited.Edited.{Edited}
 use Rattle.typst_source.specs.declared.error.SourceError.{SourceError}
 use Rattle.typst_source.specs.declared.error.SourceError.TheVariants.{Unnumberable, Overflow, Memory}
 
--- the children of the blocks that were parsed anew were replaced, as far down as nodes go on
+-- the edit of the root's children that puts the nodes of the blocks that were parsed anew in place of those of old blocks
+abbrev pub ReplacesBlocks : (List ℕ → Block) → Cut → List ℕ → List ℕ → Range ℕ → Edit → Type 0
+ReplacesBlocks first cut old new bytes e = (e.path ≡ []) × AreSeams first old new cut bytes e.from e.to (length e.others)
+
+-- the nodes of the blocks that were parsed anew came, and the nodes that go on stayed
 abbrev pub IsReplaced : (List ℕ → Block) → Cut → Tree → Edited → Tree → Type 0
 IsReplaced first cut old done new =
-    (from to : ℕ) × (others : List Tree) × AreSeams first (text old) (text new) cut done.reparsed from to (length others)
-    × IsReconciled (record { path = []; from = from; to = to; others = others }) old done.path.items done.renumbered done.moves new
+    (e : Edit) × ReplacesBlocks first cut (text old) (text new) done.reparsed e
+    × IsReconciled e old done.path.items done.touched done.moves new
 
 -- An edit was done. The text is the edited one. The tree is the one that the text is parsed into, numbered for the same
 -- file. The bytes that were parsed anew are those of `AreReparsed`. The nodes that go on stay, and all nodes outside the
--- window keep their labels. Each node of the old tree goes on or is gone, as the moves say. If no window was tried, all
--- nodes keep their numbers.
+-- touched children keep their labels. Each node of the old tree goes on or is gone, as the moves say, by its number and
+-- by its span. If a leaf or an error went on, all nodes keep their places and numbers.
 pub record IsEdited (first : List ℕ → Block) (old : Tree) (range : Range ℕ) (with : List ℕ) (done : Edited) (new : Tree) : Type 0 where
   pub edited : text new ≡ replace_range (text old) range.start range.end with
   pub fresh : plain new ≡ document first (text new)
   pub numbered : IsNumberedFor old.label.span.file new
   pub reparsed : AreReparsed first (text old) (text new) (cut_of range (length with)) done.reparsed
   pub replaced : IsReplaced first (cut_of range (length with)) old done new
-  pub outside : KeepsOutside done.path.items done.renumbered old new
+  pub outside : KeepsBeside done.path.items (touched_children done.touched) old new
   pub all : AllGoOnOrGo done.moves old new
-  pub still : done.renumbered.tried ≡ 0 → KeepsNumbers old new
+  pub spans : SpansFollow done.moves old
+  pub still : LeafKeepsNumbers done.touched done.moves old new
 
 -- the numbers after the root's own and below its bound are fewer than the nodes of the tree that a text is parsed into
 abbrev pub IsCrowdedBy : (List ℕ → Block) → Tree → List ℕ → Type 0

@@ -1,11 +1,11 @@
 //! The tree of a text, with how far the text's blocks extend.
 ghost use Rattle.std.specs.Prelude.{ℕ, [], ◌≡◌, ◌+◌, ◌-◌, ◌^◌, ◌<◌, ◌≤◌, IfOk, OnOk, OnErr, IsErrOf};
 ghost use Rattle.typst_node.specs.Count.{count};
-ghost use Rattle.typst_node.specs.Following.{AllGoOnOrGo};
+ghost use Rattle.typst_node.specs.Following.{AllGoOnOrGo, SpansFollow};
 ghost use Rattle.typst_node.specs.Labels.{number, bound};
 ghost use Rattle.typst_node.specs.Numbered.{IsNumberedFor};
-ghost use Rattle.typst_node.specs.Outside.{KeepsOutside};
-ghost use Rattle.typst_node.specs.Reconciled.{KeepsNumbers};
+ghost use Rattle.typst_node.specs.Outside.{KeepsBeside};
+ghost use Rattle.typst_node.specs.Reconciled.{LeafKeepsNumbers, touched_children};
 ghost use Rattle.typst_node.specs.Text.{text};
 ghost use Rattle.typst_source.specs.Blocks.{document};
 ghost use Rattle.typst_source.specs.Change.{IsChange};
@@ -141,10 +141,11 @@ impl Parsed {
         ensures reparsed { IfOk result (λ done. AreReparsed P.first (text self.old.root) new.now cut.now
             done.reparsed) }
         ensures replaced { IfOk result (λ done. IsReplaced P.first cut.now self.old.root done self.new.root) }
-        ensures outside { IfOk result (λ done. KeepsOutside done.path.items done.renumbered self.old.root
-            self.new.root) }
+        ensures outside { IfOk result (λ done. KeepsBeside done.path.items (touched_children done.touched)
+            self.old.root self.new.root) }
         ensures all { IfOk result (λ done. AllGoOnOrGo done.moves self.old.root self.new.root) }
-        ensures still { IfOk result (λ done. done.renumbered.tried ≡ 0 → KeepsNumbers self.old.root self.new.root) }
+        ensures spans { IfOk result (λ done. SpansFollow done.moves self.old.root) }
+        ensures still { IfOk result (λ done. LeafKeepsNumbers done.touched done.moves self.old.root self.new.root) }
     {
         let change = self.change(alloc, parser, new, cut)?;
         self.extents.reserve(change.extents.len())?;
@@ -156,7 +157,7 @@ impl Parsed {
         Ok(Edited {
             reparsed: change.reparsed,
             path: done.path,
-            renumbered: done.renumbered,
+            touched: done.touched,
             moves: done.moves,
         })
     }

@@ -7,7 +7,7 @@ ghost use Rattle.typst_node.specs.Paths.{IsPath, tree_at};
 ghost use Rattle.typst_node.specs.Plain.{plain};
 ghost use Rattle.typst_node.specs.Text.{text};
 ghost use Rattle.typst_source.specs.Blocks.{document};
-ghost use Rattle.typst_source.specs.Kept.{StaysThrough, NumberStaysThrough, KeepsLabel};
+ghost use Rattle.typst_source.specs.Kept.{AllAreFoundOrGone, IsFoundAt, IsTakenThrough, KeepsLabel, NumberStaysThrough, StaysThrough};
 ghost use Rattle.typst_source.specs.Runs.{IsServed, IsRun, edited_text};
 
 use crate::edited::Edited;
@@ -69,6 +69,10 @@ impl<P: BlockParser + Drop> Source<P> {
         ensures found_again { IfOk result (λ outcomes. (p q : List ℕ) → IsPath p self.old
             → NumberStaysThrough P.first self.old edits.now outcomes.items self.new p q
             → with_number (number (tree_at p self.old).label) self.new ≡ Some q) }
+        ensures followed { IfOk result (λ outcomes. (p q : List ℕ) → IsPath p self.old
+            → IsTakenThrough P.first self.old edits.now outcomes.items self.new p q
+            → IsFoundAt outcomes.items self.old self.new p q) }
+        ensures all { IfOk result (λ outcomes. AllAreFoundOrGone outcomes.items self.old self.new) }
     {
         // Read for the proof: the tree is numbered, and is that of its text.
         let _root = self.root();

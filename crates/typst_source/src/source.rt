@@ -2,11 +2,11 @@
 ghost use Rattle.std.specs.Prelude.{ℕ, [], ◌≡◌, ◌+◌, ◌-◌, ◌^◌, ◌<◌, ◌≤◌, ◌↔◌, IfOk, OnOk, OnErr, IsErrOf, IsTrue, length, string_bytes};
 ghost use Rattle.std.specs.List.{replace_range};
 ghost use Rattle.typst_node.specs.Count.{count};
-ghost use Rattle.typst_node.specs.Following.{AllGoOnOrGo};
+ghost use Rattle.typst_node.specs.Following.{AllGoOnOrGo, SpansFollow};
 ghost use Rattle.typst_node.specs.Labels.{number, bound};
 ghost use Rattle.typst_node.specs.Numbered.{IsNumbered, IsNumberedFor};
-ghost use Rattle.typst_node.specs.Outside.{KeepsOutside};
-ghost use Rattle.typst_node.specs.Reconciled.{KeepsNumbers};
+ghost use Rattle.typst_node.specs.Outside.{KeepsBeside};
+ghost use Rattle.typst_node.specs.Reconciled.{LeafKeepsNumbers, touched_children};
 ghost use Rattle.typst_node.specs.Plain.{plain};
 ghost use Rattle.typst_node.specs.Text.{text};
 ghost use Rattle.typst_source.specs.Blocks.{document};
@@ -138,8 +138,11 @@ impl<P: BlockParser + Drop> Source<P> {
     ///
     /// It keeps the longest beginning of the blocks for which the parser looked only at bytes before the range. From
     /// there on it parses blocks anew, up to the first place after the new bytes where a block ends where an old one
-    /// ended. It replaces the root's children of these blocks as [`SyntaxNode::reconcile_at`] does, so nodes that go on
-    /// keep their numbers: an edit within a leaf changes no number at all. [`Edited::follow`] finds each node again.
+    /// ended. The nodes of these blocks come in place of those of the old blocks as [`SyntaxNode::reconcile_at`] puts
+    /// them: at the node furthest down that holds all that changes. The children of that node between the first and the
+    /// last that differ are gone, with all below them, and new nodes come. Some children beside them may get other
+    /// numbers. All other nodes keep theirs. If only one leaf or error differs, and comes as one of its kind, no number
+    /// changes. [`Edited::follow`] finds each node again that isn't gone.
     ///
     /// The test of the condition is [`Source::fits`]. After an error nothing has changed. `Unnumberable` comes only if
     /// the new tree has more nodes than the root has open numbers; these suffice for fewer than 2^46 nodes. `Overflow`
@@ -171,9 +174,11 @@ impl<P: BlockParser + Drop> Source<P> {
             AreReparsed P.first (text self.old) (text self.new) (cut_of range (length with.now)) done.reparsed) }
         ensures replaced { IfOk result (λ done.
             IsReplaced P.first (cut_of range (length with.now)) self.old done self.new) }
-        ensures outside { IfOk result (λ done. KeepsOutside done.path.items done.renumbered self.old self.new) }
+        ensures outside { IfOk result (λ done. KeepsBeside done.path.items (touched_children done.touched) self.old
+            self.new) }
         ensures all { IfOk result (λ done. AllGoOnOrGo done.moves self.old self.new) }
-        ensures still { IfOk result (λ done. done.renumbered.tried ≡ 0 → KeepsNumbers self.old self.new) }
+        ensures spans { IfOk result (λ done. SpansFollow done.moves self.old) }
+        ensures still { IfOk result (λ done. LeafKeepsNumbers done.touched done.moves self.old self.new) }
     {
         let gone = put(alloc, &mut self.content, &range, with)?;
         let cut = Cut {

@@ -1,9 +1,11 @@
 //! Edits of texts that are parsed line by line.
 use crate::lines::Lines;
 use std::alloc::{AllocError, Global};
+use std::ops::Range;
 use std::process::Abort;
 use std::test::Fail;
 use typst_base::{DiagSpan, FileId, Span};
+use typst_node::{Renumbered, Touched};
 use typst_source::{Outcome, Source, SourceError, TextEdit};
 
 /// The source of a text.
@@ -11,18 +13,19 @@ fn parsed(alloc: Global, text: &str) -> Result<Source<Lines>, SourceError> {
     Source::new(alloc, FileId::FIRST, text, Lines)
 }
 
-/// What became of an edit: the bytes that were parsed anew, the children that were numbered anew, and how many windows
-/// were tried.
+/// What became of an edit: the bytes that were parsed anew, and the children that were numbered anew with how many windows
+/// were tried, or the leaf that went on.
 fn told(alloc: Global, outcome: &Outcome) -> Result<String, AllocError> {
     match outcome {
         Outcome::Edited(done) => {
-            let bytes = &done.reparsed;
-            let window = &done.renumbered.window;
-            let tried = done.renumbered.tried;
-            format!(in alloc;
-                "{}..{} {}..{} of {tried}; ",
-                bytes.start, bytes.end, window.start, window.end
-            )
+            let Range { start, end } = done.reparsed;
+            match &done.touched {
+                Touched::Leaf { index } => format!(in alloc; "{start}..{end} leaf {index}; "),
+                Touched::Window(Renumbered { window, tried }) => {
+                    let (first, behind) = (window.start, window.end);
+                    format!(in alloc; "{start}..{end} {first}..{behind} of {tried}; ")
+                }
+            }
         }
         Outcome::Misfit => String::from_str(alloc, "misfit; "),
         Outcome::Refused(error) => format!(in alloc; "{error}; "),
@@ -101,7 +104,7 @@ fn only_touched_lines_are_parsed_anew(rt: HostRuntime) -> Result<(), Fail> {
                 with: "",
             },
         ],
-        "3..7 1..2 of 0; 7..10 2..3 of 1; misfit; 3..3 1..1 of 1; \"ab\\nef\\n\" true",
+        "3..7 leaf 1; 7..10 2..3 of 1; misfit; 3..3 1..1 of 1; \"ab\\nef\\n\" true",
     )
 }
 
@@ -124,7 +127,7 @@ fn an_edit_ends_between_characters(rt: HostRuntime) -> Result<(), Fail> {
                 with: "e",
             },
         ],
-        "misfit; misfit; 0..2 0..1 of 0; \"e\\n\" true",
+        "misfit; misfit; 0..2 leaf 0; \"e\\n\" true",
     )
 }
 

@@ -2,9 +2,11 @@
 use Rattle.std.specs.Prelude.{ℕ, ◌≡◌, ◌+◌, ◌≤◌, List, length, take, slice_get, Some, Result, Ok, Err}
 use Rattle.typst_node.specs.Tree.{Tree, IsInner}
 use Rattle.typst_node.specs.Paths.{IsPath, tree_at, trees_at}
-use Rattle.typst_node.specs.Edit.{Edit, IsUnfiled}
+use Rattle.typst_node.specs.Edit.{Edit, Fits, IsUnfiled}
 use Rattle.typst_node.specs.Accepted.{IsAccepted}
 use Rattle.typst_node.specs.Refusals.{IsRefusedBy}
+use Rattle.typst_node.specs.Reconciled.{IsReconciled, IsUnreconciledBy}
+use Rattle.typst_node.specs.declared.node.reconcile.Reconciled.{Reconciled as Done}
 use Rattle.typst_node.specs.declared.node.replace.Renumbered.{Renumbered as Window}
 use Rattle.typst_tree.specs.declared.edit.EditError.{EditError}
 use Rattle.typst_tree.specs.declared.edit.EditError.TheVariants.{NoNode, Leaf, Range, Refused}
@@ -46,3 +48,15 @@ IsUndone e old (Range start end children) = IsMisfit e.path e.from e.to old (Ran
 abbrev pub IsEdit : Edit → Tree → Result Window EditError → Tree → Type 0
 IsEdit e old (Ok r) new = IsAccepted e old r new
 IsEdit e old (Err why) new = IsUndone e old why × (new ≡ old)
+
+-- why a reconciliation isn't done: it was refused, but not for lack of a file id, or it fits no inner node
+abbrev pub IsUnreconciled : Edit → Tree → EditError → Type 0
+IsUnreconciled e old (Refused why) = IsUnreconciledBy why e old × ¬ (IsUnfiled (tree_at e.path old))
+IsUnreconciled e old (NoNode depth index children) = IsMisfit e.path e.from e.to old (NoNode depth index children)
+IsUnreconciled e old Leaf = IsMisfit e.path e.from e.to old Leaf
+IsUnreconciled e old (Range start end children) = IsMisfit e.path e.from e.to old (Range start end children)
+
+-- the nodes that go on stayed, or nothing is done and nothing changes
+abbrev pub IsReconciliation : Edit → Tree → Result Done EditError → Tree → Type 0
+IsReconciliation e old (Ok done) new = Fits e old × IsReconciled e old done.path.items done.touched done.moves new
+IsReconciliation e old (Err why) new = IsUnreconciled e old why × (new ≡ old)

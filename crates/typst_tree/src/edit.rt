@@ -1,15 +1,19 @@
 //! Edits of numbered trees that answer a `Result`.
-ghost use Rattle.std.specs.Prelude.{◌+◌, ◌^◌, ◌<◌, [], length};
+ghost use Rattle.std.specs.Prelude.{◌≡◌, ◌+◌, ◌^◌, ◌<◌, ◌↔◌, [], length, IfOk, OnErr, IsErrOf, IsTrue};
 ghost use Rattle.typst_node.specs.Numbered.{IsNumbered, IsNumberedFor};
+ghost use Rattle.typst_node.specs.Numbering.{IsTooShort};
 ghost use Rattle.typst_node.specs.Edit.{edit_of};
 ghost use Rattle.typst_node.specs.PlainEdit.{FitsInner};
-ghost use Rattle.typst_tree.specs.Edits.{IsEdit, IsMisfit, IsMisfitBelow};
+ghost use Rattle.typst_node.specs.Updated.{IsUpdated};
+ghost use Rattle.typst_node.specs.declared.node.replace.ReplaceError.TheVariants.{Overflow, Unnumberable};
+ghost use Rattle.typst_tree.specs.Edits.{IsEdit, IsMisfit, IsMisfitBelow, IsReconciliation};
 
 use crate::numbered::NumberedTree;
 use std::alloc::Global;
 use std::ops::Range;
 use thiserror::Error;
-use typst_node::{Renumbered, ReplaceError, SyntaxNode};
+use typst_linked::node_at;
+use typst_node::{Reconciled, Renumbered, ReplaceError, SyntaxNode, Updated};
 
 /// Why a tree wasn't edited. Nothing has changed, and the new nodes are dropped.
 #[derive(Clone, Copy, Debug, PartialEq, Eq, Error)]
@@ -87,6 +91,62 @@ impl NumberedTree {
         ensures numbered { IsNumberedFor self.old.label.span.file self.new }
     {
         self.replace(alloc, path, range, Vec::new(alloc))
+    }
+}
+
+/// # Edits after which nodes keep their numbers
+///
+/// Each takes as long as [`SyntaxNode::reconcile_at`]. After an error nothing has changed.
+impl NumberedTree {
+    /// Replaces a range of the children of an inner node as far down as it can, and tells what changed and where each
+    /// node is now. The path leads to the node: child indices from the root down.
+    ///
+    /// The plain tree is then the one that [`NumberedTree::replace`] makes. The nodes that go on keep their numbers, as
+    /// [`SyntaxNode::reconcile_at`] says.
+    pub fn reconcile(
+        &mut self,
+        alloc: Global,
+        path: &[usize],
+        range: Range<usize>,
+        nodes: Vec<SyntaxNode>,
+    ) -> Result<Reconciled, EditError>
+        ensures reconciliation { IsReconciliation (edit_of path.now range nodes.items) self.old result self.new }
+        ensures numbered { IsNumberedFor self.old.label.span.file self.new }
+    {
+        let (start, end) = (range.start, range.end);
+        if !fits(&self.root, path, &range) {
+            return Err(misfit(&self.root, path, start..end));
+        }
+        match self.root.reconcile_at(alloc, path, range, nodes) {
+            Ok(done) => Ok(done),
+            Err(error) => Err(EditError::Refused(error)),
+        }
+    }
+
+    /// Puts a whole tree that any parser made in place of this one. All nodes that go on keep their numbers, as
+    /// [`SyntaxNode::update`] says. So a parser that parses the whole text anew after each edit gets numbers that last.
+    ///
+    /// It compares the trees from both ends up to the first difference, and goes down from there.
+    pub fn update(&mut self, alloc: Global, root: SyntaxNode) -> Result<Updated, ReplaceError>
+        ensures updated { IfOk result (λ done. IsUpdated self.old root done self.new) }
+        ensures unnumberable { IsErrOf result Unnumberable → IsTooShort root 2 (2 ^ 47) }
+        ensures overflow { ¬ (IsErrOf result Overflow) }
+        ensures err { OnErr result (self.new ≡ self.old) }
+        ensures numbered { IsNumberedFor self.old.label.span.file self.new }
+    {
+        self.root.update(alloc, root)
+    }
+}
+
+/// Whether a path leads to an inner node, and a range is one of its children.
+fn fits(root: &SyntaxNode, path: &[usize], range: &Range<usize>) -> bool
+    ensures { IsTrue result ↔ FitsInner path.now range.now.start range.now.end root.now }
+{
+    match node_at(root, path) {
+        Some(node) => {
+            node.is_inner() && range.start <= range.end && range.end <= node.child_slice().len()
+        }
+        None => false,
     }
 }
 

@@ -16,20 +16,20 @@
 
 pub use crate::edit::EditError;
 pub use crate::numbered::{NotNumbered, NumberedTree, TooFewNumbers};
-pub use crate::paths::node_at;
 pub use typst_base::{
     DiagSpan, DiagSpanKind, FileId, MapperError, ModeAfter, RangeMapper, Span, SpanDetached,
     SpanKind, SpanNumber, Spanned, SubRange, SyntaxKind, SyntaxKinds, SyntaxMode, SyntaxSet,
     named_sets,
 };
-pub use typst_linked::{LinkedChildren, LinkedNode, LinkedPreorder, Looks, Side, place_of};
+pub use typst_linked::{
+    LinkedChildren, LinkedNode, LinkedPreorder, Looks, Side, node_at, place_of,
+};
 pub use typst_node::{
-    Diagnosis, InnerError, Renumbered, ReplaceError, SyntaxDiagnostic, SyntaxNode, SynthesizeError,
-    Unnumberable, span_of,
+    Below, Diagnosis, InnerError, Moves, Reconciled, Renumbered, ReplaceError, SyntaxDiagnostic,
+    SyntaxNode, SynthesizeError, Touched, Unnumberable, Updated, span_of,
 };
 
 pub mod ast;
 mod edit;
 mod numbered;
-mod paths;
 pub mod session;

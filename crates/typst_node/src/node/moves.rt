@@ -201,6 +201,17 @@ impl Moves {
     }
 }
 
+impl Moves {
+    /// The nodes that stay in the window: the numbers that they had, in rising order, and in the same order the numbers
+    /// that they have now. Every other node that isn't gone has the number that it had. It takes no memory.
+    pub fn moved(&self) -> (&[u64], &[u64])
+        ensures before { result.0.now ≡ self.now.olds }
+        ensures after { result.1.now ≡ self.now.news }
+    {
+        (&self.noted.olds, &self.noted.news)
+    }
+}
+
 impl PartialEq for Moves {
     ghost use Rattle.typst_node.specs.EqualMoves.{moves_eq, moves_laws};
 

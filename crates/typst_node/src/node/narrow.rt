@@ -79,7 +79,7 @@ impl SyntaxNode {
 
     /// Whether this inner node goes on as the other one.
     #[tactic(auto, using(crate::proofs::OnlyChange::shown_same, crate::proofs::OnlyChange::same_shown))]
-    fn goes_on_as(&self, other: &SyntaxNode) -> bool
+    pub(super) fn goes_on_as(&self, other: &SyntaxNode) -> bool
         ensures { IsTrue result ↔ GoesOnAs self.now other.now }
     {
         self.is_inner()
@@ -91,7 +91,7 @@ impl SyntaxNode {
 
     /// Whether this leaf or error goes on as the other one.
     #[tactic(auto, using(crate::proofs::OnlyChange::childless))]
-    fn ends_on_as(&self, other: &SyntaxNode) -> bool
+    pub(super) fn ends_on_as(&self, other: &SyntaxNode) -> bool
         ensures { IsTrue result ↔ EndsOnAs self.now other.now }
     {
         self.child_slice().is_empty()
@@ -102,7 +102,7 @@ impl SyntaxNode {
     }
 
     /// The node's children. It copies none of them, and takes no memory.
-    fn into_children(self, alloc: Global) -> Vec<SyntaxNode>
+    pub(super) fn into_children(self, alloc: Global) -> Vec<SyntaxNode>
         ensures { result.items ≡ trees self.children }
     {
         let SyntaxNode { node, span: _ } = self;

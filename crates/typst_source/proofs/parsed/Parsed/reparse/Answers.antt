@@ -1,4 +1,4 @@
-use Rattle.std.proofs.Common.{◌≡◌, ◌∙◌, [], sym, ap, subst, length, arith}
+use Rattle.std.proofs.Common.{◌≡◌, ◌∙◌, [], refl, sym, ap, subst, length, arith}
 use Rattle.std.specs.List.{splice}
 use Rattle.typst_node.specs.PlainEdit.{edited, spliced}
 use Rattle.typst_node.specs.Count.{count}
@@ -6,7 +6,7 @@ use Rattle.typst_node.specs.Labels.{number, bound}
 use Rattle.typst_node.specs.Text.{text}
 use Rattle.typst_node.specs.Edit.{edit_of}
 use Rattle.typst_node.specs.Refusals.{IsRefusedBy}
-use Rattle.typst_node.specs.Reconciled.{IsUnreconciledBy}
+use Rattle.typst_node.specs.Reconciled.{IsUnreconciledBy, touched_children}
 use Rattle.typst_node.specs.declared.node.replace.ReplaceError.{ReplaceError}
 use Rattle.typst_node.specs.declared.node.replace.ReplaceError.TheVariants as replace
 use Rattle.typst_node.proofs.Plain.{count_plain}
@@ -55,7 +55,7 @@ pub returns-clause-parsed : goal.returns-clause-parsed
 returns-clause-parsed g c =
     let change = c.in_ok-change.ensures.change in
     let new = c.reconcile_at.new.self in
-    let same = root_label c.in_ok-done.done.path.items c.in_ok-done.done.renumbered c.args.self.now.root new (c.in_ok-done.ensures.reconciled change.inner).outside in
+    let same = root_label c.in_ok-done.done.path.items (touched_children c.in_ok-done.done.touched) c.args.self.now.root new (c.in_ok-done.ensures.reconciled change.inner).outside in
     is_parsed g.P.BlockParser.first (laws g) c.args.new.now new c.replace.new.self.items ((c.in_ok-done.ensures.reconciled c.in_ok-change.ensures.change.inner).plain ∙ c.in_ok-change.ensures.change.fresh)
     (numbered_for c.args.self.now.root new c.requires.parsed.numbered (c.in_ok-done.ensures.reconciled change.inner).numbered)
     (still_roomy c.args.self.now.root new c.requires.parsed.roomy (ap number same) (ap bound same))
@@ -65,10 +65,11 @@ pub returns-clause-replaced : goal.returns-clause-replaced
 returns-clause-replaced g c =
     let change = c.in_ok-change.change in
     let is = c.in_ok-change.ensures.change in (
-      change.children.start,
-      change.children.end,
-      change.nodes.items,
-      subst (λ s. AreSeams g.P.BlockParser.first (text c.args.self.now.root) s c.args.cut.now change.reparsed change.children.start change.children.end (length change.nodes.items)) (sym (returns-clause-new_text g c)) is.seams,
+      edit_of [] change.children change.nodes.items,
+      (
+        refl,
+        subst (λ s. AreSeams g.P.BlockParser.first (text c.args.self.now.root) s c.args.cut.now change.reparsed change.children.start change.children.end (length change.nodes.items)) (sym (returns-clause-new_text g c)) is.seams,
+      ),
       c.in_ok-done.ensures.reconciled is.inner,
     )
 
@@ -92,7 +93,10 @@ returns-in_err-done-clause-overflow g c = λ is.
     unfit_edit g.P.BlockParser.first (laws g) c.args.new.now from to others root change.fresh (λ sums. refused.1 (whole_fits root (spliced from to others root) change.inner sums))
 
 pub returns-clause-still : goal.returns-clause-still
-returns-clause-still g c = λ none. ((c.in_ok-done.ensures.reconciled c.in_ok-change.ensures.change.inner).still none).0
+returns-clause-still g c = (c.in_ok-done.ensures.reconciled c.in_ok-change.ensures.change.inner).still
 
 pub returns-clause-all : goal.returns-clause-all
 returns-clause-all g c = (c.in_ok-done.ensures.reconciled c.in_ok-change.ensures.change.inner).all
+
+pub returns-clause-spans : goal.returns-clause-spans
+returns-clause-spans g c = (c.in_ok-done.ensures.reconciled c.in_ok-change.ensures.change.inner).spans

@@ -4,10 +4,11 @@ use Rattle.std.proofs.Math.Seq.{take-length}
 use Rattle.std.proofs.lemmas.List.{take_more}
 use Rattle.typst_linked.proofs.OneNumber.{own_number, still_numbered}
 use Rattle.typst_linked.specs.Search.{with_number}
-use Rattle.typst_node.specs.Numbered.{IsNumberedFor}
+use Rattle.typst_node.specs.Numbered.{IsNumbered, IsNumberedFor}
 use Rattle.typst_source.specs.Runs.{IsRun}
 use Rattle.typst_source.specs.declared.runs.Outcome.{Outcome}
 use Rattle.typst_source.specs.declared.runs.TextEdit.{TextEdit}
+use Rattle.typst_source.proofs.Followed.{followed_found, all_found}
 use Rattle.typst_source.proofs.Ran.{ok_of, own_file, run_more, run_text, run_fresh, run_numbered, kept_same, number_kept}
 use Rattle.typst_source.proofs.source.Source.run.Given as given
 use Rattle.typst_source.proofs.source.Source.run.Goals as goal
@@ -55,3 +56,16 @@ returns-clause-found_again g c p q there kept =
     let numbered : IsNumberedFor c.args.self.now.label.span.file c.loop-edit.self = run_numbered g.P.BlockParser.first c.args.self.now.label.span.file c.args.self.now c.args.edits.now c.loop-edit.outcomes.items c.loop-edit.self
     (own_file c.args.self.now c.root-root.ensures.numbered) (run_is g c) in
     ap (λ n. with_number n c.loop-edit.self) (sym same.1) ∙ own_number c.loop-edit.self q (still_numbered c.args.self.now c.loop-edit.self c.root-root.ensures.numbered numbered) same.0
+
+end_numbered : (g : given.Over) (c : After-loop-edit g) → IsNumbered c.args.self.now → IsNumbered c.loop-edit.self
+end_numbered g c numbered =
+    still_numbered c.args.self.now c.loop-edit.self numbered
+    (run_numbered g.P.BlockParser.first c.args.self.now.label.span.file c.args.self.now c.args.edits.now c.loop-edit.outcomes.items c.loop-edit.self (own_file c.args.self.now numbered) (run_is g c))
+
+pub returns-clause-followed : goal.returns-clause-followed
+returns-clause-followed g c p q there taken =
+    followed_found g.P.BlockParser.first c.args.edits.now c.loop-edit.outcomes.items c.args.self.now c.loop-edit.self p q (end_numbered g c c.root-root.ensures.numbered) taken there
+
+pub returns-clause-all : goal.returns-clause-all
+returns-clause-all g c p there =
+    all_found g.P.BlockParser.first c.args.edits.now c.loop-edit.outcomes.items c.args.self.now c.loop-edit.self p (end_numbered g c c.root-root.ensures.numbered) (run_is g c) there

@@ -1,5 +1,5 @@
 use Rattle.std.proofs.Common.{length}
-use Rattle.typst_tree.proofs.paths.+node_at.Given as goal
+use Rattle.typst_linked.proofs.path.+node_at.Given as goal
 
 abbrev pub decreases-node_at : goal.decreases-node_at
 decreases-node_at l = length l.path.now
