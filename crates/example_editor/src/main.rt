@@ -10,7 +10,7 @@ use std::ops::Range;
 use std::{env, fs};
 use typst_markup::Markup;
 use typst_source::{Edited, Source};
-use typst_tree::{FileId, SyntaxNode};
+use typst_tree::{FileId, Renumbered, SyntaxNode, Touched, node_at};
 
 /// The range of bytes that `A..B` writes.
 fn range_of(word: &str) -> Option<Range<usize>> {
@@ -54,15 +54,21 @@ fn count(nodes: &[SyntaxNode]) -> usize {
 /// What an edit did, in words.
 fn told(alloc: Global, source: &Source<Markup>, done: &Edited) -> Result<String, AllocError> {
     let Range { start, end } = done.reparsed;
-    let window = done.renumbered.window.start..done.renumbered.window.end;
-    let all = source.root().descendants();
-    let anew = count(source.root().child_slice().get(window).unwrap_or(&[]));
-    format!(in alloc;
-        "parsed {start}..{end} of {} bytes; numbered {anew} of {all} nodes, tried {}; {} keep their numbers",
-        source.text().len(),
-        done.renumbered.tried,
-        all.saturating_sub(anew)
-    )
+    let (bytes, all) = (source.text().len(), source.root().descendants());
+    let mut said = format!(in alloc; "parsed {start}..{end} of {bytes} bytes; ")?;
+    match &done.touched {
+        Touched::Leaf { .. } => {
+            write!(said, "a leaf went on, and all {all} nodes keep their numbers")?;
+        }
+        Touched::Window(Renumbered { window, tried }) => {
+            let children = node_at(source.root(), &done.path).map_or(&[], SyntaxNode::child_slice);
+            let anew = count(children.get(window.start..window.end).unwrap_or(&[]));
+            let kept = all.saturating_sub(anew);
+            write!(said, "numbered {anew} of {all} nodes, tried {tried}; ")?;
+            write!(said, "{kept} keep their numbers")?;
+        }
+    }
+    Ok(said)
 }
 
 /// Does the edit that a line writes.

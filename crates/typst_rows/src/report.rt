@@ -92,7 +92,8 @@ impl EditReport {
 
 /// The children in the window of an edit, and none if a leaf went on.
 fn window_of<'a>(root: &'a SyntaxNode, done: &Edited) -> &'a [SyntaxNode]
-    ensures { result.now ≡ touched_nodes done.now root.now }
+    ensures window { result.now ≡ touched_nodes done.now root.now }
+    ensures fits { count_of_all result.now < 2 ^ 64 }
 {
     let Touched::Window(renumbered) = &done.touched else {
         return &[];
@@ -100,6 +101,8 @@ fn window_of<'a>(root: &'a SyntaxNode, done: &Edited) -> &'a [SyntaxNode]
     let Some(node) = node_at(root, &done.path) else {
         return &[];
     };
+    // Read for the proof: the nodes below a node are a usize.
+    let _all = node.descendants();
     let Range { start, end } = renumbered.window;
     let rest = nodes_from(node.child_slice(), start);
     first_nodes(rest, end.saturating_sub(start))

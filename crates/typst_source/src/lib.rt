@@ -4,7 +4,8 @@
 //! parser makes of it. An edit keeps the longest beginning of blocks for which the parser looked only at bytes before
 //! the edit. From there it parses anew, up to the first place after the edit where a new block ends where an old one
 //! did. Apart from spans and bounds, the tree is always the one that parsing the whole text makes. It stays numbered,
-//! so the span of a node that an edit doesn't touch still finds the node.
+//! and a node keeps its number while all that changes is below it. [`Edited::follow`] answers the span that a node has
+//! after an edit, unless it is gone, and [`Source::find`] finds the node.
 //!
 //! This edits a range of a source, which may not fit the text:
 //!

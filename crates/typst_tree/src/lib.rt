@@ -5,6 +5,8 @@
 //! incremental parser or an editor relies on. Numbers stay in order after each step. Apart from its numbers, the tree
 //! is what the same edits make of a tree without numbers. Nodes outside each window keep their spans. Searches answer
 //! what a plain walk answers. A refused replacement changes nothing.
+//! [`NumberedTree::reconcile`] replaces children so that the nodes that go on keep their numbers, and
+//! [`NumberedTree::update`] does so with a whole tree that a parser made anew.
 //!
 //! ```text
 //! let mut slots = [Slot::Ask(edit), Slot::Ask(Request::Find(span))];

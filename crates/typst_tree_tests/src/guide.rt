@@ -7,3 +7,4 @@ mod memory;
 mod places;
 mod reading;
 mod source;
+mod updates;

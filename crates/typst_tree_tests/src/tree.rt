@@ -4,3 +4,4 @@ mod edits;
 mod numbered;
 mod places;
 mod runs;
+mod updates;

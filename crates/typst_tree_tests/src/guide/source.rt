@@ -6,7 +6,7 @@ use std::test::Fail;
 use typst_lines::{ColumnUnit, Lines};
 use typst_markup::Markup;
 use typst_source::{Outcome, Source, SourceError, TextEdit};
-use typst_tree::{FileId, SyntaxKind};
+use typst_tree::{FileId, Renumbered, SyntaxKind, Touched};
 
 /// A heading and two paragraphs, the first with strong content.
 const TEXT: &str = "= Trees of Typst\n\nSee *this* tree.\n\nThe end.\n";
@@ -19,13 +19,22 @@ fn parsed(alloc: Global) -> Result<Source<Markup>, SourceError> {
 fn an_edit_parses_the_blocks_anew_that_it_touches(rt: HostRuntime) -> Result<(), Fail> {
     let alloc = rt.alloc();
     let mut source = parsed(alloc)?;
-    // `tree` becomes `node`. The paragraph is parsed anew, and its last text gets a new number.
+    // `tree` becomes `node`. The paragraph is parsed anew, and no number changes.
     let range = 29..33;
     assert!(rt; source.fits(&range));
     let done = source.edit(alloc, range, "node")?;
     assert!(rt; done.reparsed == (18..36));
-    assert!(rt; done.renumbered.window == (6..7) && done.renumbered.tried == 1);
-    let wanted = "= Trees of Typst\n\nSee *this* node.\n\nThe end.\n";
+    assert!(rt; done.path.is_empty() && done.touched == Touched::Leaf { index: 6 });
+    // `Trees` becomes strong, in the title of the heading. The heading and its title stay.
+    let range = 2..7;
+    assert!(rt; source.fits(&range));
+    let done = source.edit(alloc, range, "*Trees*")?;
+    let window = Renumbered {
+        window: 0..3,
+        tried: 1,
+    };
+    assert!(rt; done.path.as_slice() == [0, 2].as_slice() && done.touched == Touched::Window(window));
+    let wanted = "= *Trees* of Typst\n\nSee *this* node.\n\nThe end.\n";
     assert_text(&rt, "an edit", "text", source.text(), wanted);
     Ok(())
 }
@@ -37,14 +46,15 @@ fn a_span_leads_to_its_node_after_edits(rt: HostRuntime) -> Result<(), Fail> {
     let strong = source.root().children().nth(4).ok_or("no child")?;
     assert!(rt; strong.kind() == SyntaxKind::Strong);
     let span = strong.span();
-    // Four bytes come before it, and the number stays.
+    // Four bytes come before it.
     let edit = TextEdit {
         range: 2..2,
         with: "Big ",
     };
-    let Outcome::Edited(_) = source.serve(alloc, &edit) else {
+    let Outcome::Edited(done) = source.serve(alloc, &edit) else {
         return Err("not edited")?;
     };
+    let span = done.follow(span).ok_or("gone")?;
     let node = source.find(alloc, span)?.ok_or("not found")?;
     assert_eq!(rt; node.get().kind(), SyntaxKind::Strong);
     assert!(rt; source.range(alloc, span)? == Some(26..32));
