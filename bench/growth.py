@@ -35,17 +35,17 @@ BOUNDS = {
     "script: find, run": (1_900, 1_900),
     "script: replace, run": (5_300, 5_400),
     # Texts. An edit is made and taken back: in the middle, or in turns at both ends, with the blocks between them.
-    "text: letter": (0, 0),
-    "text: letter far": (0, 0),
-    "text: lines letter": (0, 0),
-    "text: byte_to_line": (0, 0),
-    "text: line_column_to_byte": (0, 0),
-    "text: place_of": (0, 0),
+    "text: letter": (75_000, 145_000),
+    "text: letter far": (78_000, 175_000),
+    "text: lines letter": (2_000, 3_600),
+    "text: byte_to_line": (210, 250),
+    "text: line_column_to_byte": (170, 170),
+    "text: place_of": (550, 590),
 }
 # The most instructions for each line of a text that is parsed, of many blocks and of one.
-PER_LINE = {"text: parse": (0, 0), "text: parse block": (0, 0)}
+PER_LINE = {"text: parse": (8_800, 8_800), "text: parse block": (17_000, 17_000)}
 # The most bytes of memory that a call may ask for.
-BYTES = {"text: letter": (0, 0)}
+BYTES = {"text: letter": (10_000, 32_000)}
 
 
 INSTRUCTIONS = ["--tool=callgrind", "--callgrind-out-file=/dev/null"], r"Collected : (\d+)"
