@@ -1,15 +1,15 @@
 #!/usr/bin/env python3
-"""Counts the instructions of calls on trees of two sizes, and fails if a call takes more than it may.
+"""Counts the instructions of calls on trees and texts of two sizes, and fails if a call takes more than it may.
 
 So it finds work in proportion to a whole where a part was asked for. It needs no clock.
 
     bench/growth.py             compares with the bounds below
     bench/growth.py --found     prints what is found, with no comparison
 
-It runs the proved builds that `rt ci` makes (`rt run` in crates/typst_large and crates/typst_tree_main) under
-valgrind's callgrind, which counts the same instructions in each run of a build. It makes one run with calls
-and one with none. The difference, divided by the number of calls, is a call's count. Where there is no valgrind it says
-so and compares nothing.
+It runs the proved builds that `rt ci` makes (`rt run` in crates/typst_large, crates/typst_tree_main and
+crates/typst_bench) under valgrind's callgrind, which counts the same instructions in each run of a build. It makes one
+run with calls and one with none. The difference, divided by the number of calls, is a call's count. What a call asks of
+memory is counted in the same way, in bytes. Where there is no valgrind it says so and compares nothing.
 """
 import re
 import shutil
@@ -20,7 +20,8 @@ from pathlib import Path
 TOP = Path(__file__).resolve().parent.parent
 LARGE = TOP / "crates/typst_large/out/typst_large"
 SCRIPTS = TOP / "crates/typst_tree_main/out/typst_tree_main"
-# The two numbers of children, and how often each call is made.
+BENCH = TOP / "crates/typst_bench/out/typst_bench"
+# The two numbers of children or of lines, and how often each call is made.
 SIZES, CALLS = (1_000, 16_000), 32
 # The most instructions of a call at each size.
 BOUNDS = {
@@ -33,18 +34,33 @@ BOUNDS = {
     "script: run": (700, 700),
     "script: find, run": (1_900, 1_900),
     "script: replace, run": (5_300, 5_400),
+    # Texts. An edit is made and taken back: in the middle, or in turns at both ends, with the blocks between them.
+    "text: letter": (75_000, 145_000),
+    "text: letter far": (78_000, 175_000),
+    "text: lines letter": (2_000, 3_600),
+    "text: byte_to_line": (210, 250),
+    "text: line_column_to_byte": (170, 170),
+    "text: place_of": (550, 590),
 }
+# The most instructions for each line of a text that is parsed, of many blocks and of one.
+PER_LINE = {"text: parse": (8_800, 8_800), "text: parse block": (17_000, 17_000)}
+# The most bytes of memory that a call may ask for.
+BYTES = {"text: letter": (10_000, 32_000)}
 
 
-def counted(program, lines):
-    """How many instructions a program takes on these lines."""
-    command = ["valgrind", "--tool=callgrind", "--callgrind-out-file=/dev/null", program]
-    ran = subprocess.run(command, input=lines.encode(), capture_output=True, check=False)
+INSTRUCTIONS = ["--tool=callgrind", "--callgrind-out-file=/dev/null"], r"Collected : (\d+)"
+ASKED = ["--tool=memcheck", "--undef-value-errors=no"], r"frees, ([\d,]+) bytes allocated"
+
+
+def counted(program, lines, what=INSTRUCTIONS):
+    """How many instructions a program takes on these lines, or how many bytes it asks for."""
+    tool, told = what
+    ran = subprocess.run(["valgrind", *tool, program], input=lines.encode(), capture_output=True, check=False)
     said = ran.stderr.decode(errors="replace")
-    found = re.search(r"Collected : (\d+)", said)
+    found = re.search(told, said)
     if ran.returncode or not found or b"wrong" in ran.stdout:
         sys.exit(f"growth: {program.name} on {lines[:60]!r}: status {ran.returncode}, {ran.stdout[-200:]!r}, {said[-500:]}")
-    return int(found[1])
+    return int(found[1].replace(",", ""))
 
 
 def script(size, words, calls):
@@ -54,33 +70,44 @@ def script(size, words, calls):
     return "leaf 6 ab\n" * size + f"inner 5 {size}\nroot\nnumber 1 2 140737488355328\nrun\n" + asked * calls
 
 
-def instructions(name, size):
-    """How many instructions a call takes in a tree of this size."""
-    if name.startswith("script: "):
-        words = name.removeprefix("script: ").split(", ")
-        few, many = (counted(SCRIPTS, script(size, words, calls)) for calls in (0, CALLS))
+def of_call(name, size, calls=CALLS, what=INSTRUCTIONS):
+    """What a call takes in a tree or a text of this size."""
+    kind, _, words = name.rpartition(": ")
+    if kind == "script":
+        few, many = (counted(SCRIPTS, script(size, words.split(", "), often), what) for often in (0, calls))
     else:
-        few, many = (counted(LARGE, f"{name} {size} {calls}\n") for calls in (0, CALLS))
-    return (many - few) // CALLS
+        program = BENCH if kind == "text" else LARGE
+        few, many = (counted(program, f"{words} {size} {often}\n", what) for often in (0, calls))
+    return (many - few) // calls
+
+
+def rows():
+    """Each name with what is counted, its bounds, and what is found at each size."""
+    for name, bounds in BOUNDS.items():
+        yield name, "instructions", bounds, [of_call(name, size) for size in SIZES]
+    for name, bounds in PER_LINE.items():
+        yield name, "instructions a line", bounds, [of_call(name, size, 2) // size for size in SIZES]
+    for name, bounds in BYTES.items():
+        yield name, "bytes of memory", bounds, [of_call(name, size, CALLS, ASKED) for size in SIZES]
 
 
 def main():
     if not shutil.which("valgrind"):
         print("growth: no valgrind, so no instructions are counted")
         return 0
-    for program in (LARGE, SCRIPTS):
+    for program in (LARGE, SCRIPTS, BENCH):
         if not program.exists():
             sys.exit(f"growth: no {program}: `rt run` in its crate's folder makes it")
-    wrong = []
-    for name, bounds in BOUNDS.items():
-        found = [instructions(name, size) for size in SIZES]
+    wrong, count = [], 0
+    for name, what, bounds, found in rows():
+        count += 1
         if "--found" in sys.argv:
-            print(f"{name}: {found}")
+            print(f"{name}: {found} {what}")
             continue
-        for size, count, most in zip(SIZES, found, bounds):
-            if count > most:
-                wrong.append(f"{name}: {count} instructions in a tree of {size} children, and {most} are the most")
-    print("\n".join([*wrong, f"{len(BOUNDS)} calls counted at two sizes, {len(wrong)} of them above their bound"]))
+        for size, taken, most in zip(SIZES, found, bounds):
+            if taken > most:
+                wrong.append(f"{name}: {taken} {what} at the size {size}, and {most} are the most")
+    print("\n".join([*wrong, f"{count} rows counted at two sizes, {len(wrong)} of the figures above their bound"]))
     return 1 if wrong else 0
 
 

@@ -35,6 +35,7 @@ import tempfile
 from bisect import bisect_right
 from dataclasses import dataclass
 from functools import cache
+from itertools import accumulate
 from pathlib import Path
 
 TOP = Path(__file__).resolve().parent.parent
@@ -51,7 +52,8 @@ PARTS = [(0, INNER), (0, LEAF), (4, TRIVIA), (5, LEAF), (10, TRIVIA), (11, INNER
 PARTS += [(11, LEAF), (12, INNER), (12, LEAF), (16, LEAF), (17, LEAF), (18, TRIVIA)]
 # How many of its leaves a walk from leaf to leaf visits. The walk passes over blanks and line ends.
 SOLID = sum(sort == LEAF for _, sort in PARTS)
-# A text of paragraphs of four lines.
+# The line of a text that is one block, and a paragraph of four lines.
+LINE = "Some *strong* words, _emphasis_ and a line.\n"
 LINES = "= A heading\nSome *strong* words, _emphasis_ and a line.\n- an item with `raw text`\n\n"
 
 
@@ -138,6 +140,19 @@ def typed(come):
     return lambda _shape, _size, rounds: rounds * (2 * len(LINES) + come)
 
 
+def byte_to_line(_shape, size, rounds):
+    """The sum of the lines of bytes that are spread over a text."""
+    text = LINES * (size // 4)
+    return sum(text.count("\n", 0, place(turn, len(text))) for turn in range(rounds))
+
+
+def line_column_to_byte(_shape, size, rounds):
+    """The sum of the bytes where lines begin that are spread over a text."""
+    lines = (LINES * (size // 4)).split("\n")
+    begins = [0, *accumulate(len(line) + 1 for line in lines)]
+    return sum(begins[place(turn, len(lines))] for turn in range(rounds))
+
+
 def walk_over(*sorts):
     """The sum of the places where the nodes begin that a walk visits."""
     return lambda shape, size, rounds: rounds * sum(begins(shape, size, *sorts))
@@ -164,11 +179,14 @@ CHECKS = {
     "exprs": lambda _shape, size, rounds: rounds * 2 * size,
     "str": lambda _shape, size, rounds: rounds * len("abc") * size,
     **{verb: lambda _shape, size, rounds: rounds * size for verb in ("items", "arg_items", "math_shorthand", "binary")},
-    "parse": lambda _shape, size, rounds: rounds * size // 4 * len(LINES),
+    "parse": lambda shape, size, rounds: rounds * (size * len(LINE) if shape == "block" else size // 4 * len(LINES)),
     "letter": typed(1),
     "paragraph": typed(len(LINES)),
     "delimiter": typed(1),
     "lines": lambda _shape, size, _rounds: size // 4 * 4 + 1,
+    "byte_to_line": byte_to_line,
+    "line_column_to_byte": line_column_to_byte,
+    "place_of": lambda _shape, _size, rounds: rounds,
     "door": typed(1),
 }
 

@@ -1,6 +1,6 @@
 //! What a line of standard input asks for.
 use crate::stopwatch::Stopwatch;
-use crate::{building, door, editing, finding, lines, reading, texts, views, walking};
+use crate::{building, door, editing, finding, lines, places, reading, texts, views, walking};
 use anyhow::Result;
 use std::alloc::Global;
 
@@ -47,6 +47,7 @@ impl<'a> Asked<'a> {
             }
             "parse" | "letter" | "paragraph" | "delimiter" => texts::made(alloc, watch, self),
             "lines" => lines::made(alloc, watch, self),
+            "byte_to_line" | "line_column_to_byte" | "place_of" => places::made(alloc, watch, self),
             "door" => door::made(alloc, watch, self),
             _ => views::made(alloc, watch, self),
         }

@@ -13,6 +13,7 @@ mod drawn;
 mod editing;
 mod finding;
 mod lines;
+mod places;
 mod reading;
 mod shapes;
 mod stopwatch;

@@ -27,6 +27,18 @@ pub struct Edit {
     pub with: &'static str,
 }
 
+/// A line of a text without blank lines, which is one block.
+const LINE: &str = "Some *strong* words, _emphasis_ and a line.\n";
+
+/// A block with this many lines.
+fn block(alloc: Global, lines: usize) -> Result<String, AllocError> {
+    let mut text = String::new(alloc);
+    for _ in 0..lines {
+        text.push_str(LINE)?;
+    }
+    Ok(text)
+}
+
 /// A text with this many lines.
 pub fn text(alloc: Global, lines: usize) -> Result<String, AllocError> {
     let mut text = String::new(alloc);
@@ -62,16 +74,31 @@ pub fn typed(verb: &str) -> Option<Edit> {
     })
 }
 
-/// Parses a text or edits it in each round. Returns how many bytes were parsed in all.
+/// Parses a text or edits it in each round. Returns how many bytes were parsed in all. The shape `block` is a text of one
+/// block. With the shape `far` the edits are made in turns in the first paragraph and in the last one.
 pub fn made(alloc: Global, watch: &mut Stopwatch<'_>, asked: Asked<'_>) -> Result<Option<usize>> {
-    let text = text(alloc, asked.size)?;
+    let text = match asked.shape {
+        "block" => block(alloc, asked.size)?,
+        _ => text(alloc, asked.size)?,
+    };
     Ok(Some(match typed(asked.verb) {
         Some(edit) => edited(alloc, watch, &text, edit, asked)?,
         None => parsed(alloc, watch, &text, asked.rounds)?,
     }))
 }
 
-/// In each round, makes an edit in the middle of a text and takes it back.
+/// Where the paragraph begins that is edited in a round, in bytes.
+fn edited_at(asked: Asked<'_>, round: usize) -> usize {
+    match (asked.shape, round % 2) {
+        ("far", 0) => 0,
+        ("far", _) => (asked.size / LINES)
+            .saturating_sub(1)
+            .saturating_mul(PARAGRAPH.len()),
+        _ => middle(asked.size),
+    }
+}
+
+/// In each round, makes an edit of a text and takes it back.
 fn edited(
     alloc: Global,
     watch: &mut Stopwatch<'_>,
@@ -80,10 +107,10 @@ fn edited(
     asked: Asked<'_>,
 ) -> Result<usize> {
     let mut source = Source::new(alloc, FileId::FIRST, text, Markup)?;
-    let at = middle(asked.size).saturating_add(edit.at);
     let mut seen = 0usize;
     watch.start()?;
-    for _ in 0..asked.rounds {
+    for turn in 0..asked.rounds {
+        let at = edited_at(asked, turn).saturating_add(edit.at);
         seen = seen.saturating_add(round(alloc, &mut source, at, edit)?);
     }
     watch.stop()?;

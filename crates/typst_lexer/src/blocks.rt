@@ -60,8 +60,8 @@ impl Scanner for Blocks {
     ghost counts_more = { go_counts_more };
 }
 
-/// The length of the first block in bytes. The block is the tokens up to the first `Parbreak`, which it includes, or
-/// the whole text if there is none. It takes one step for each byte of the block.
+/// The length of the first block of a text that isn't empty, in bytes. The block is the tokens up to the first
+/// `Parbreak`, which it includes, or the whole text if there is none. It takes one step for each byte of the block.
 pub fn block_len(text: &str) -> usize
     requires { 0 < length text.now }
     ensures len { result ≡ block_len text.now }

@@ -1,17 +1,17 @@
 -- A search by a number on its way down.
 use Rattle.std.proofs.Common.{◌≡◌, ◌≢◌, ℕ, ◌+◌, ◌<◌, ◌≤◌, ◌^◌, length, List, [], ◌∷◌, ◌++◌, Some, None, Option, true, false, inl, inr, arith, sym, ap, ◌∙◌, refl, subst, append_assoc, append-nil, length-append, eq-eqb}
-use Rattle.std.specs.Prelude.{slice_get, nat_le, sum_by}
+use Rattle.std.specs.Prelude.{slice_get, nat_le, sum_by, reverse, IfSome}
 use Rattle.std.specs.Option.{option_map, option_and_then}
 use Rattle.std.proofs.lemmas.Bool.{eqb-true}
 use Rattle.std.proofs.lemmas.Option.{slice_get_within}
 use Rattle.typst_node.specs.Tree.{Tree, trees}
-use Rattle.typst_node.specs.Preorder.{at}
+use Rattle.typst_node.specs.Preorder.{at, paths}
 use Rattle.typst_node.specs.Count.{count}
 use Rattle.typst_node.specs.Labels.{number}
 use Rattle.typst_node.specs.Numbered.{IsNumbered}
 use Rattle.typst_linked.specs.Place.{Place, subtree, below, child_place}
 use Rattle.typst_node.specs.BinaryDigits.{binary_digits}
-use Rattle.typst_linked.specs.Search.{has_number, has_number_up_to, with_number, found_below, floor_path, weight_along, look_bound, bound_along, prefixes, child_count, each_child}
+use Rattle.typst_linked.specs.Search.{is_there, has_number, has_number_up_to, with_number, found_below, floor_path, weight_along, look_bound, bound_along, prefixes, child_count, each_child}
 use Rattle.typst_linked.specs.Finds.{AreLooksFor, HasNumberBelow}
 use Rattle.typst_linked.proofs.Digits.{digits_most}
 use Rattle.std.proofs.lemmas.List.Sums.{sum_by-cons}
@@ -20,7 +20,7 @@ use Rattle.typst_node.proofs.PathSteps.{at-append, at-push}
 use Rattle.typst_linked.proofs.Places.{same_node}
 use Rattle.typst_linked.proofs.Ordered.{IsInOrder, numbered_order, child_in_order, node_in_order, one_before, deeper, narrow, stop, count_child, count_children}
 use Rattle.typst_linked.proofs.Weights.{weight_along-root, weight_along-push, weight_along-append}
-use Rattle.typst_linked.proofs.Found.{first_path_none, first_path_only, floor_largest, no_floor, option_cases}
+use Rattle.typst_linked.proofs.Found.{first_path_none, first_path_only, floor_largest, no_floor, option_cases, is_there_value, find_passes}
 use Rattle.typst_node.proofs.FirstThatPasses.{bool_cases}
 use Rattle.std.proofs.lemmas.Bool.Decides.{nat_tests}
 
@@ -151,6 +151,42 @@ searching_cost w s start here wanted looks looks' x h num =
           let same : weight_along w e.0 s ≡ weight_along w (x.done ++ f.0) s = ap (λ (p : List ℕ). weight_along w p s) f.1 in
           let some : looks' ≤ bound_along w s (Some e.0) = omega (arith, x.cost, weight_along-append w x.done f.0 s x.node x.node_is) in
           subst (λ p. looks' ≤ bound_along w s p) (sym e.1) some
+    ]
+
+-- the floor node is there
+floor_found : (wanted : ℕ) (s : Tree) (q : List ℕ) → floor_path wanted s ≡ Some q → (m : Tree) × (at q s ≡ Some m) × (has_number_up_to wanted m ≡ true)
+floor_found wanted s q e = is_there_value (has_number_up_to wanted) (at q s) (find_passes (λ path. is_there (has_number_up_to wanted) (at path s)) (reverse (paths s)) q e)
+
+-- no number is at most the wanted one
+no_floor_here : (s : Tree) (wanted : ℕ) → wanted < number s.label → IsNumbered s → floor_path wanted s ≡ None
+no_floor_here s wanted l num =
+    let o = numbered_order s num in
+    elim (option_cases (floor_path wanted s)) [
+      | inl e ↦ e
+      | inr e ↦
+          let k = floor_found wanted s e.0 e.1 in
+          absurd (omega (arith, (node_in_order o.0 e.0 s k.0 o.1 k.1).0, up_to_le wanted (number k.0.label) k.2))
+    ]
+
+pub steps_below : (s t : Tree) (start : Place) (wanted looks : ℕ) → subtree start ≡ Some s → subtree start ≡ Some t → wanted < number s.label → IsNumbered t → IfSome (floor_path wanted t) (λ path. 1 + length path ≤ looks)
+steps_below s t start wanted looks hs ht l num =
+    let same = same_node s t start hs ht in
+    subst (λ (o : Option (List ℕ)). IfSome o (λ path. 1 + length path ≤ looks)) (sym (no_floor_here t wanted (subst (λ (u : Tree). wanted < number u.label) same l) num)) tt
+
+-- where the search ends at a node without such children, that is the floor node
+pub steps_none : (w : ℕ → ℕ) (s : Tree) (start here : Place) (wanted looks looks' : ℕ) (x : Searching w s start here wanted looks) → (NumbersRise (trees x.node.children) → AreAbove (trees x.node.children) wanted 0) → looks ≤ looks' → IsNumbered s → IfSome (floor_path wanted s) (λ path. 1 + length path ≤ looks')
+steps_none w s start here wanted looks looks' x later grows num =
+    let o = numbered_order s num in
+    let on = (node_in_order o.0 x.done s x.node o.1 x.node_is).2 in
+    elim (option_cases (floor_path wanted s)) [
+      | inl e ↦ subst (λ (p : Option (List ℕ)). IfSome p (λ path. 1 + length path ≤ looks')) (sym e) tt
+      | inr e ↦
+          let k = floor_largest wanted s num x.done x.node x.node_is (up_to wanted (number x.node.label) x.most) e.0 e.1 in
+          let f = x.narrowed o.0 o.1 e.0 k.0 k.1 k.3 (up_to_le wanted (number k.0.label) k.2) in
+          let root = stop o.0 x.node wanted on (λ n c se. later (rise_of o.0 x.node on) n c (omega arith) se) f.0 k.0 f.2 (up_to_le wanted (number k.0.label) k.2) in
+          let is : e.0 ≡ x.done = f.1 ∙ (ap (λ (p : List ℕ). x.done ++ p) root ∙ append-nil x.done) in
+          let few : 1 + length e.0 ≤ looks' = omega (arith, ap length is, x.least) in
+          subst (λ (p : Option (List ℕ)). IfSome p (λ path. 1 + length path ≤ looks')) (sym e.1) few
     ]
 
 -- the node of the place where the search stands

@@ -1,5 +1,5 @@
 -- The answer of a search by a span, and what the search reads.
-use Rattle.std.specs.Prelude.{ℕ, ◌+◌, ◌≤◌, ◌≡◌, List, length, Option, None, Some, IfSome}
+use Rattle.std.specs.Prelude.{ℕ, ◌+◌, ◌≤◌, ◌≡◌, List, length, Option, None, Some, IfSome, MatchOption}
 use Rattle.std.specs.Option.{ForSome}
 use Rattle.typst_base.specs.declared.span.SpanKind.{SpanKind}
 use Rattle.typst_base.specs.declared.span.SpanKind.TheVariants.{Detached, Number, Range}
@@ -8,7 +8,7 @@ use Rattle.typst_node.specs.Labels.{number}
 use Rattle.typst_node.specs.Numbered.{IsNumbered}
 use Rattle.typst_linked.specs.Place.{Place, subtree, below}
 use Rattle.typst_node.specs.BinaryDigits.{binary_digits}
-use Rattle.typst_linked.specs.Search.{with_number, found_below, look_bound, each_child}
+use Rattle.typst_linked.specs.Search.{with_number, found_below, floor_path, look_bound, each_child}
 use Rattle.typst_linked.specs.Ranges.{FindsRange}
 
 -- in a numbered tree, the answer of the plain search
@@ -30,9 +30,13 @@ pub record AreLooksFor (wanted : ℕ) (place : Place) (looks : ℕ) : Type 0 whe
   pub most : ForSome (subtree place) (λ s. IsNumbered s → looks ≤ look_bound each_child wanted s)
   pub halving : ForSome (subtree place) (λ s. IsNumbered s → looks ≤ look_bound binary_digits wanted s)
 
--- for an answer, at least one look for each step and one more
-abbrev pub HasLookEachStep : Place → ℕ → Option Place → Type 0
-HasLookEachStep place looks answer = IfSome answer (λ found. 1 + length found.path ≤ looks + length place.path)
+-- For an answer there is at least one look for each step to it, and one more. For a miss in a numbered tree there is one
+-- for each step to the floor node, and one more.
+abbrev pub HasLookEachStep : ℕ → Place → ℕ → Option Place → Type 0
+HasLookEachStep wanted place looks answer =
+    MatchOption answer
+    (ForSome (subtree place) (λ s. IsNumbered s → IfSome (floor_path wanted s) (λ path. 1 + length path ≤ looks)))
+    (λ found. 1 + length found.path ≤ looks + length place.path)
 
 -- the answer for each target of a span: nothing, the node with a number in any file, or the node with a range
 abbrev pub FindsSpan : SpanKind → Place → Option Place → Type 0
@@ -49,5 +53,5 @@ AreLooksForSpan (Range id range) place looks = looks ≡ 0
 -- only a search by a number reads a number at each step
 abbrev pub HasLookEachStepFor : SpanKind → Place → ℕ → Option Place → Type 0
 HasLookEachStepFor Detached place looks answer = answer ≡ None
-HasLookEachStepFor (Number id num) place looks answer = HasLookEachStep place looks answer
+HasLookEachStepFor (Number id num) place looks answer = HasLookEachStep num.0 place looks answer
 HasLookEachStepFor (Range id range) place looks answer = looks ≡ 0

@@ -1,6 +1,7 @@
 //! Searches by spans.
-ghost use Rattle.std.specs.Prelude.{ℕ, ◌≡◌, ◌+◌, ◌↔◌, length, Some, IfOk, IfSome, IsTrue};
+ghost use Rattle.std.specs.Prelude.{ℕ, ◌≡◌, ◌+◌, ◌↔◌, length, Some, IfOk, IfSome, IsErr, IsTrue};
 ghost use Rattle.typst_base.specs.SpanKind.{span_kind_of};
+ghost use Rattle.typst_base.specs.declared.span.SpanKind.TheVariants.{Detached};
 ghost use Rattle.typst_node.specs.Tree.{Tree, trees};
 ghost use Rattle.typst_node.specs.Text.{text};
 ghost use Rattle.typst_linked.specs.Place.{Place, subtree};
@@ -25,10 +26,11 @@ impl<'a> LinkedNode<'a> {
     ///
     /// A detached span points to none. A node number is searched in numbered trees, whatever the span's file. In a tree
     /// that isn't numbered, an answer has the number, but the search may miss a node that has it. A range is searched
-    /// as [`LinkedNode::find_range`] does. It fails only if memory runs out.
+    /// as [`LinkedNode::find_range`] does. It fails only if memory runs out, and never for a detached span.
     pub fn find(&self, alloc: Global, span: Span) -> Result<Option<Self>, AllocError>
         ensures found { IfOk result (FindsSpan (span_kind_of span) self.now) }
         ensures own { IfOk result (FindsOwn span self.now) }
+        ensures memory { IsErr result → ¬ (span_kind_of span ≡ Detached) }
     {
         self.find_counted(alloc, span, &mut Looks::new())
     }
@@ -46,6 +48,7 @@ impl<'a> LinkedNode<'a> {
         ensures own { IfOk result (FindsOwn span self.now) }
         ensures looks { AreLooksForSpan (span_kind_of span) self.now looks.new }
         ensures steps { IfOk result (HasLookEachStepFor (span_kind_of span) self.now looks.new) }
+        ensures memory { IsErr result → ¬ (span_kind_of span ≡ Detached) }
     {
         match span.get() {
             SpanKind::Detached => {
@@ -70,7 +73,7 @@ impl<'a> LinkedNode<'a> {
         ensures found { IfOk result (FindsNumber wanted self.now) }
         ensures hit { IfOk result (λ r. IfSome r (HasNumberBelow wanted self.now)) }
         ensures looks { AreLooksFor wanted self.now looks.new }
-        ensures steps { IfOk result (HasLookEachStep self.now looks.new) }
+        ensures steps { IfOk result (HasLookEachStep wanted self.now looks.new) }
     {
         *looks = Looks::new();
         // Read for the proof: the node count is a usize, so no count of looks along one path passes a u64.

@@ -55,7 +55,7 @@ pub trait Scanner {
     ghost counts_more: { (s t : Self.State) (w : List ℕ) → go s w ≡ Some t → count t ≤ suc (count s) };
 }
 
-/// The next `many` bytes from a place on, or all if there are fewer.
+/// The next `many` bytes from a place on, or all if there are fewer. The place is at most the length.
 pub fn window(bytes: &[u8], at: usize, many: usize) -> &[u8]
     requires { at ≤ length bytes.now }
     ensures { result.now ≡ take many (drop at bytes.now) }
@@ -67,7 +67,7 @@ pub fn window(bytes: &[u8], at: usize, many: usize) -> &[u8]
     }
 }
 
-/// The length of the first block of a text, in bytes. It takes one step for each byte of the block.
+/// The length of the first block of a text that isn't empty, in bytes. It takes one step for each byte of the block.
 pub fn block_len<S: Scanner>(scanner: &S, text: &str) -> usize
     requires { 0 < length text.now }
     ensures len { result ≡ scanned S.go S.ahead S.start text.now }

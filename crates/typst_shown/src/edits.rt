@@ -1,8 +1,9 @@
 //! Edits: how they are read and placed in the text.
-ghost use Rattle.std.specs.Prelude.{IfOk};
+ghost use Rattle.std.specs.Prelude.{◌≡◌, IfOk, IsErr};
 ghost use Rattle.std.specs.Str.{IsCharBoundary};
 ghost use Rattle.typst_lines.specs.LineTable.{AreLines};
 ghost use Rattle.typst_source.specs.Fits.{FitsText};
+ghost use Rattle.typst_shown.specs.PlacedEdit.{IsByteOf, IsRangeOf};
 
 use crate::edit_line::{EditLine, LineError, Place};
 use crate::misfit::Misfit;
@@ -52,7 +53,8 @@ pub(crate) fn range_of(
     text: &str,
     edit: &EditLine,
 ) -> Result<Result<Range<usize>, Misfit>, AllocError>
-    ensures { IfOk result (λ placed. IfOk placed (FitsText text.now)) }
+    ensures fits { IfOk result (λ placed. IfOk placed (FitsText text.now)) }
+    ensures range { IfOk result (λ placed. IfOk placed (IsRangeOf text.now edit.now)) }
 {
     let lines = Lines::new(alloc, text)?;
     Ok(placed(&lines, text, edit))
@@ -61,7 +63,8 @@ pub(crate) fn range_of(
 /// The bytes of an edit of a text with these lines, or why it doesn't fit.
 fn placed(lines: &Lines, text: &str, edit: &EditLine) -> Result<Range<usize>, Misfit>
     requires { AreLines lines.now text.now }
-    ensures { IfOk result (FitsText text.now) }
+    ensures fits { IfOk result (FitsText text.now) }
+    ensures range { IfOk result (IsRangeOf text.now edit.now) }
 {
     let start = byte_of(lines, text, edit.start, "starts")?;
     let end = byte_of(lines, text, edit.end, "ends")?;
@@ -74,7 +77,8 @@ fn placed(lines: &Lines, text: &str, edit: &EditLine) -> Result<Range<usize>, Mi
 /// The byte of a place, at which the edit starts or ends.
 fn byte_of(lines: &Lines, text: &str, place: Place, end: &'static str) -> Result<usize, Misfit>
     requires { AreLines lines.now text.now }
-    ensures { IfOk result (IsCharBoundary text.now) }
+    ensures boundary { IfOk result (IsCharBoundary text.now) }
+    ensures byte { IfOk result (IsByteOf text.now place) }
 {
     match place {
         Place::Byte(byte) => boundary(text, byte, end),
@@ -90,7 +94,9 @@ fn byte_of(lines: &Lines, text: &str, place: Place, end: &'static str) -> Result
 
 /// The byte, which must lie between two characters.
 fn boundary(text: &str, byte: usize, end: &'static str) -> Result<usize, Misfit>
-    ensures { IfOk result (IsCharBoundary text.now) }
+    ensures boundary { IfOk result (IsCharBoundary text.now) }
+    ensures byte { IfOk result (λ at. at ≡ byte) }
+    ensures err { IsErr result → ¬ (IsCharBoundary text.now byte) }
 {
     if text.is_char_boundary(byte) {
         return Ok(byte);

@@ -1,5 +1,5 @@
 -- What an edit of a text leaves.
-use Rattle.std.specs.Prelude.{ℕ, [], ◌≡◌, ◌+◌, ◌-◌, ◌<◌, List, length}
+use Rattle.std.specs.Prelude.{ℕ, [], ◌≡◌, ◌+◌, ◌-◌, ◌^◌, ◌<◌, ◌≤◌, List, length}
 use Rattle.std.specs.List.{replace_range}
 use Rattle.std.specs.declared.ops.Range.{Range}
 use Rattle.typst_node.specs.Tree.{Tree}
@@ -45,9 +45,11 @@ pub record IsEdited (first : List ℕ → Block) (old : Tree) (range : Range ℕ
   pub spans : SpansFollow done.moves old
   pub still : LeafKeepsNumbers done.touched done.moves old new
 
--- the numbers after the root's own and below its bound are fewer than the nodes of the tree that a text is parsed into
+-- The numbers after the root's own and below its bound are fewer than the nodes of the tree that a text is parsed into.
+-- These are at least 2^46.
 abbrev pub IsCrowdedBy : (List ℕ → Block) → Tree → List ℕ → Type 0
-IsCrowdedBy first root source = bound root.label - (number root.label + 1) < count (document first source)
+IsCrowdedBy first root source =
+    (bound root.label - (number root.label + 1) < count (document first source)) × (2 ^ 46 ≤ count (document first source))
 
 -- why an edit that results in this text is refused
 abbrev pub IsRefusedBy : SourceError → (List ℕ → Block) → Tree → List ℕ → Type 0

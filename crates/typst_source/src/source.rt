@@ -104,6 +104,8 @@ impl<P: BlockParser + Drop> Source<P> {
     pub fn into_parts(self) -> (String, SyntaxNode, P)
         ensures source_text { string_bytes result.0 ≡ text self }
         ensures root { result.1 ≡ self }
+        ensures numbered { IsNumbered result.1 }
+        ensures fresh { plain result.1 ≡ document P.first (text self) }
     {
         let Source {
             content,

@@ -2,6 +2,7 @@
 use Rattle.std.specs.Prelude.{◌≡◌, Some, None}
 use Rattle.typst_base.specs.Span.{SpanParts}
 use Rattle.typst_base.specs.SpanKind.{span_kind_of}
+use Rattle.typst_base.specs.declared.span.SpanKind.TheVariants.{Detached}
 use Rattle.typst_node.specs.Tree.{Tree}
 use Rattle.typst_node.specs.Text.{offset}
 use Rattle.typst_node.specs.Paths.{tree_at}
@@ -26,7 +27,7 @@ ReplaceStep e old (NotFound l) new = ⊥
 ReplaceStep e old NoMemory new = ⊥
 
 -- A search gives the answer of the plain search from the root, with its looks, or says that memory was refused. It
--- changes nothing.
+-- changes nothing. For a detached span it asks for no memory.
 abbrev pub FindStep : SpanParts → Tree → Reply → Tree → Type 0
 FindStep span old (Found path o looks) new =
     (new ≡ old)
@@ -35,8 +36,11 @@ FindStep span old (Found path o looks) new =
     × AreLooksForSpan (span_kind_of span) (root_place old) looks
     × HasLookEachStepFor (span_kind_of span) (root_place old) looks (Some (record { root = old; path = path.items }))
 FindStep span old (NotFound looks) new =
-    (new ≡ old) × FindsSpan (span_kind_of span) (root_place old) None × AreLooksForSpan (span_kind_of span) (root_place old) looks
-FindStep span old NoMemory new = new ≡ old
+    (new ≡ old)
+    × FindsSpan (span_kind_of span) (root_place old) None
+    × AreLooksForSpan (span_kind_of span) (root_place old) looks
+    × HasLookEachStepFor (span_kind_of span) (root_place old) looks None
+FindStep span old NoMemory new = ¬ (span_kind_of span ≡ Detached) × (new ≡ old)
 FindStep span old Misfit new = ⊥
 FindStep span old (Refused e) new = ⊥
 FindStep span old (Renumbered r) new = ⊥

@@ -7,7 +7,7 @@ use Rattle.typst_node.specs.BinaryDigits.{binary_digits}
 use Rattle.typst_linked.specs.Floor.{NumbersRise, AreAbove}
 use Rattle.typst_linked.specs.Finds.{HasNumberBelow}
 use Rattle.typst_linked.proofs.Places.{same_node}
-use Rattle.typst_linked.proofs.Searching.{Searching, searching_start, searching_found, searching_none, searching_below, searching_here, searching_room, searching_looks, searching_hit, next_turn, smaller_turn, below-nothing}
+use Rattle.typst_linked.proofs.Searching.{Searching, searching_start, searching_found, searching_none, searching_below, searching_here, searching_room, searching_looks, searching_hit, steps_below, steps_none, next_turn, smaller_turn, below-nothing}
 use Rattle.typst_linked.proofs.node.LinkedNode.find_number.Goals as goal
 
 pub returns-then-own-wanted-clause-hit : goal.returns-then-own-wanted-clause-hit
@@ -23,6 +23,10 @@ pub returns-then-wanted-own-clause-found : goal.returns-then-wanted-own-clause-f
 returns-then-wanted-own-clause-found c = λ s hs num.
     let e = ap (λ (t : Tree). number t.label) (same_node s c.get-2.result.now c.args.self.now hs c.get-2.ensures) in
     searching_below s c.args.self.now c.args.wanted hs (omega (arith, e)) num
+
+pub returns-then-wanted-own-clause-steps : goal.returns-then-wanted-own-clause-steps
+returns-then-wanted-own-clause-steps c = λ s hs num.
+    steps_below c.get-2.result.now s c.args.self.now c.args.wanted c.number_of-own.new.self c.get-2.ensures hs (omega (arith, c.number_of-own.ensures.number, c.if-wanted-own.true)) num
 
 pub loop-next-init : goal.loop-next-init
 loop-next-init c = λ s hs.
@@ -89,3 +93,10 @@ pub returns-clause-looks : goal.returns-clause-looks
 returns-clause-looks c =
     let x = (c.loop-next.invariant _ c.get.ensures).0 in
     searching_looks c.get.result.now c.get-in-loop-next.result.now c.args.self.now c.loop-next.here c.args.wanted c.loop-next.looks c.last_up_to.new.looks c.child_slice.result.now c.get.ensures c.get-in-loop-next.ensures c.child_slice.ensures.children x c.in_default.ensures.cost c.in_default.ensures.grows
+
+pub returns-clause-steps : goal.returns-clause-steps
+returns-clause-steps c = λ s hs num.
+    let x = (c.loop-next.invariant s hs).0 in
+    let e = c.child_slice.ensures.children ∙ sym (ap (λ (t : Tree). trees t.children) (searching_here binary_digits s c.get-in-loop-next.result.now c.args.self.now c.loop-next.here c.args.wanted c.loop-next.looks hs c.get-in-loop-next.ensures x)) in
+    let l = subst (λ (ks : List Tree). NumbersRise ks → AreAbove ks c.args.wanted 0) e c.in_default.ensures.later in
+    steps_none binary_digits s c.args.self.now c.loop-next.here c.args.wanted c.loop-next.looks c.last_up_to.new.looks x l c.in_default.ensures.grows num
