@@ -107,19 +107,30 @@ pub struct Window {
     pub tried: usize,
 }
 
+/// What an edit changed of the tree.
+#[repr(C)]
+#[derive(Clone, Copy, Debug, Default)]
+pub struct Change {
+    pub depth: usize,
+    pub window: Window,
+    pub root: u32,
+}
+
 /// What an edit of a document did.
 #[repr(C)]
 #[derive(Clone, Copy, Debug, Default)]
 pub struct Edited {
     pub start: usize,
     pub end: usize,
-    pub window: Window,
+    pub change: Change,
 }
 
 #[allow(unsafe_code)]
 extern "C" {
     pub fn typst_new(session: *mut Session) -> u32;
     pub fn typst_free(session: *mut Session);
+    #[cfg_attr(not(test), allow(dead_code))]
+    pub fn typst_version() -> u32;
     pub fn typst_push_leaf(session: *mut Session, kind: u32, text: *const u8, text_len: usize) -> u32;
     pub fn typst_push_error(
         session: *mut Session,
@@ -145,9 +156,21 @@ extern "C" {
         count: usize,
         window: *mut Window,
     ) -> u32;
-    pub fn typst_node(session: *mut Session, path: *const usize, depth: usize, info: *mut NodeInfo) -> u32;
-    pub fn typst_children(
+    pub fn typst_reconcile(
         session: *mut Session,
+        path: *const usize,
+        depth: usize,
+        from: usize,
+        to: usize,
+        count: usize,
+        change: *mut Change,
+    ) -> u32;
+    pub fn typst_update(session: *mut Session, change: *mut Change) -> u32;
+    pub fn typst_follow(session: *const Session, number: u64, now: *mut u64) -> u32;
+    pub fn typst_send(session: *mut Session, other: *mut Session) -> u32;
+    pub fn typst_node(session: *const Session, path: *const usize, depth: usize, info: *mut NodeInfo) -> u32;
+    pub fn typst_children(
+        session: *const Session,
         path: *const usize,
         depth: usize,
         out: *mut NodeInfo,
@@ -155,7 +178,7 @@ extern "C" {
         length: *mut Length,
     ) -> u32;
     pub fn typst_preorder(
-        session: *mut Session,
+        session: *const Session,
         path: *const usize,
         depth: usize,
         out: *mut NodeInfo,
@@ -163,7 +186,7 @@ extern "C" {
         length: *mut Length,
     ) -> u32;
     pub fn typst_leaf_text(
-        session: *mut Session,
+        session: *const Session,
         path: *const usize,
         depth: usize,
         out: *mut u8,
@@ -171,7 +194,7 @@ extern "C" {
         length: *mut Length,
     ) -> u32;
     pub fn typst_full_text(
-        session: *mut Session,
+        session: *const Session,
         path: *const usize,
         depth: usize,
         out: *mut u8,
@@ -179,7 +202,7 @@ extern "C" {
         length: *mut Length,
     ) -> u32;
     pub fn typst_child_of_class(
-        session: *mut Session,
+        session: *const Session,
         path: *const usize,
         depth: usize,
         node_class: u32,
@@ -188,7 +211,7 @@ extern "C" {
         child: *mut usize,
     ) -> u32;
     pub fn typst_view(
-        session: *mut Session,
+        session: *const Session,
         path: *const usize,
         depth: usize,
         accessor: u32,
@@ -198,7 +221,7 @@ extern "C" {
         answer: *mut ViewAnswer,
     ) -> u32;
     pub fn typst_diagnostics(
-        session: *mut Session,
+        session: *const Session,
         out: *mut Diagnostic,
         room: usize,
         texts: *mut u8,
@@ -206,7 +229,7 @@ extern "C" {
         sizes: *mut DiagnosticSizes,
     ) -> u32;
     pub fn typst_spanless_eq_within(
-        session: *mut Session,
+        session: *const Session,
         path: *const usize,
         depth: usize,
         other_path: *const usize,
@@ -214,26 +237,34 @@ extern "C" {
         equal: *mut u32,
     ) -> u32;
     pub fn typst_spanless_eq(
-        session: *mut Session,
+        session: *const Session,
         path: *const usize,
         depth: usize,
-        other: *mut Session,
+        other: *const Session,
         other_path: *const usize,
         other_depth: usize,
         equal: *mut u32,
     ) -> u32;
-    pub fn typst_find(session: *mut Session, number: u64, path: *mut usize, room: usize, place: *mut Place) -> u32;
+    pub fn typst_find(session: *const Session, number: u64, path: *mut usize, room: usize, place: *mut Place) -> u32;
+    pub fn typst_find_range(
+        session: *const Session,
+        from: usize,
+        to: usize,
+        path: *mut usize,
+        room: usize,
+        place: *mut Place,
+    ) -> u32;
     pub fn typst_leaf_at(
-        session: *mut Session,
+        session: *const Session,
         cursor: usize,
         side: u32,
         path: *mut usize,
         room: usize,
         place: *mut Place,
     ) -> u32;
-    pub fn typst_range_of(session: *mut Session, path: *const usize, depth: usize, range: *mut ByteRange) -> u32;
+    pub fn typst_range_of(session: *const Session, path: *const usize, depth: usize, range: *mut ByteRange) -> u32;
     pub fn typst_neighbor(
-        session: *mut Session,
+        session: *const Session,
         path: *const usize,
         depth: usize,
         which: u32,
@@ -250,10 +281,19 @@ extern "C" {
         with_len: usize,
         edited: *mut Edited,
     ) -> u32;
-    pub fn typst_len_lines(session: *mut Session, count: *mut usize) -> u32;
-    pub fn typst_byte_to_line_column(session: *mut Session, byte: usize, unit: u32, place: *mut LineColumn) -> u32;
+    pub fn typst_len_lines(session: *const Session, count: *mut usize) -> u32;
+    pub fn typst_line_to_range(session: *const Session, line: usize, range: *mut ByteRange) -> u32;
+    pub fn typst_text(
+        session: *const Session,
+        from: usize,
+        to: usize,
+        out: *mut u8,
+        room: usize,
+        length: *mut Length,
+    ) -> u32;
+    pub fn typst_byte_to_line_column(session: *const Session, byte: usize, unit: u32, place: *mut LineColumn) -> u32;
     pub fn typst_line_column_to_byte(
-        session: *mut Session,
+        session: *const Session,
         line: usize,
         column: usize,
         unit: u32,

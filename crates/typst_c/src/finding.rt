@@ -1,8 +1,9 @@
 //! Finding nodes of the tree that a handle holds.
 ghost use Rattle.std.specs.Prelude.{◌≡◌, Result};
 ghost use Rattle.typst_c.specs.Calls.{Reads};
+ghost use Rattle.typst_c.specs.Lending.{IsSameHandle};
 ghost use Rattle.typst_c.specs.Told.{TellsPlace};
-ghost use Rattle.typst_session.specs.Finding.{Finds, FindsLeaf};
+ghost use Rattle.typst_session.specs.Finding.{Finds, FindsByRange, FindsLeaf};
 ghost use Rattle.typst_session.specs.declared.finding.Found.{Found};
 ghost use Rattle.typst_session.specs.declared.refusal.Refusal.{Refusal};
 ghost use Rattle.typst_c.specs.Told.{side_of};
@@ -21,15 +22,37 @@ pub extern "C" fn typst_find(
     path: &mut [usize],
     place: &mut Place,
 ) -> u32
-    ensures kept { handle.new.at.value ≡ handle.old.at.value }
-    ensures read { Reads (λ s. (outcome : Result Found Refusal) × TellsPlace path.old path.new place.new result outcome
+    ensures kept { IsSameHandle handle.old handle.new }
+    ensures read { Reads ((path.new ≡ path.old) × (place.new ≡ place.old)) (λ s. (outcome : Result Found Refusal)
+        × TellsPlace path.old path.new place.old place.new result outcome
         × Finds number s outcome) handle.old.at.value result }
 {
-    let Some(session) = handle.take(alloc) else {
+    let Some(session) = handle.read() else {
         return NOT_MADE;
     };
     let outcome = session.find(alloc, number);
-    handle.put(session);
+    tell_place(outcome, path, place)
+}
+
+/// Finds the node with a range of bytes, from `from` up to, not including, `to`.
+#[unsafe(no_mangle)]
+pub extern "C" fn typst_find_range(
+    alloc: Global,
+    handle: &mut Handle,
+    from: usize,
+    to: usize,
+    path: &mut [usize],
+    place: &mut Place,
+) -> u32
+    ensures kept { IsSameHandle handle.old handle.new }
+    ensures read { Reads ((path.new ≡ path.old) × (place.new ≡ place.old)) (λ s. (outcome : Result Found Refusal)
+        × TellsPlace path.old path.new place.old place.new result outcome
+        × FindsByRange from to s outcome) handle.old.at.value result }
+{
+    let Some(session) = handle.read() else {
+        return NOT_MADE;
+    };
+    let outcome = session.find_range(alloc, from..to);
     tell_place(outcome, path, place)
 }
 
@@ -55,14 +78,14 @@ pub extern "C" fn typst_leaf_at(
     path: &mut [usize],
     place: &mut Place,
 ) -> u32
-    ensures kept { handle.new.at.value ≡ handle.old.at.value }
-    ensures read { Reads (λ s. (outcome : Result Found Refusal) × TellsPlace path.old path.new place.new result outcome
+    ensures kept { IsSameHandle handle.old handle.new }
+    ensures read { Reads ((path.new ≡ path.old) × (place.new ≡ place.old)) (λ s. (outcome : Result Found Refusal)
+        × TellsPlace path.old path.new place.old place.new result outcome
         × FindsLeaf (side_of side) cursor s outcome) handle.old.at.value result }
 {
-    let Some(session) = handle.take(alloc) else {
+    let Some(session) = handle.read() else {
         return NOT_MADE;
     };
     let outcome = session.leaf_at(alloc, cursor, side_from(side));
-    handle.put(session);
     tell_place(outcome, path, place)
 }
