@@ -64,7 +64,10 @@ fn placed(alloc: Global, watch: &mut Stopwatch<'_>, text: &str, rounds: usize) -
         let (span, range) = nodes
             .get(place(round, nodes.len()))
             .context("there is a node")?;
-        ensure!(source.place_of(span).as_ref() == Some(range), "another place");
+        ensure!(
+            source.place_of(span).as_ref() == Some(range),
+            "another place"
+        );
     }
     watch.stop()?;
     Ok(rounds)
