@@ -4,6 +4,7 @@ use crate::end::{End, Stop};
 use crate::lines::{self, Following};
 use crate::making::{self, Making};
 use crate::reading::Reading;
+use crate::reconciling::Reconciling;
 use crate::requests::Requests;
 use crate::runs::Queue;
 use crate::scripts;
@@ -22,6 +23,7 @@ pub enum Call {
     Change(Change),
     HintAll,
     Replace(Replacing),
+    Reconcile(Reconciling),
     Read(Reading),
     View(Viewing),
     Walk(Walk, Ground),
@@ -100,6 +102,17 @@ const CALLS: &[(&str, Call)] = &[
     ),
     ("replace_at", Call::Replace(Replacing::Below)),
     ("replace_at, one by one", Call::Replace(Replacing::OneByOne)),
+    ("reconcile_at, a leaf", Call::Reconcile(Reconciling::Leaf)),
+    (
+        "reconcile_at, an insertion",
+        Call::Reconcile(Reconciling::Insertion),
+    ),
+    (
+        "reconcile_at, a text between two",
+        Call::Reconcile(Reconciling::Moving),
+    ),
+    ("update, a leaf", Call::Reconcile(Reconciling::Update)),
+    ("update, anew", Call::Reconcile(Reconciling::Anew)),
     ("full_text", Call::Read(Reading::FullText)),
     (
         "errors_and_warnings",
@@ -158,6 +171,7 @@ impl Call {
             Call::Change(change) => change.run(alloc, requests),
             Call::HintAll => changing::hint_all(alloc, requests),
             Call::Replace(replacing) => replacing.run(alloc, requests),
+            Call::Reconcile(reconciling) => reconciling.run(alloc, requests),
             Call::Read(reading) => reading.run(alloc, requests),
             Call::View(viewing) => viewing.run(alloc, requests),
             Call::Walk(walk, ground) => walk.run(ground.drawing(), alloc, requests),

@@ -20,6 +20,7 @@ mod end;
 mod lines;
 mod making;
 mod reading;
+mod reconciling;
 mod requests;
 mod runs;
 mod scripts;
