@@ -58,7 +58,10 @@ fn told(alloc: Global, source: &Source<Markup>, done: &Edited) -> Result<String,
     let mut said = format!(in alloc; "parsed {start}..{end} of {bytes} bytes; ")?;
     match &done.touched {
         Touched::Leaf { .. } => {
-            write!(said, "a leaf went on, and all {all} nodes keep their numbers")?;
+            write!(
+                said,
+                "a leaf went on, and all {all} nodes keep their numbers"
+            )?;
         }
         Touched::Window(Renumbered { window, tried }) => {
             let children = node_at(source.root(), &done.path).map_or(&[], SyntaxNode::child_slice);

@@ -118,7 +118,9 @@ fn push_windows(
     edited: &EditedNode<'_>,
 ) -> Result<(), AllocError> {
     let EditedNode {
-        renumbered, change, ..
+        renumbered,
+        change,
+        ..
     } = *edited;
     let Some(turns) = change.tried(renumbered) else {
         return Ok(());

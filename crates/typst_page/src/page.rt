@@ -56,10 +56,12 @@ pub fn push_step<'a, R: Files + Print>(
     done: Option<Done<'_>>,
 ) -> Result<(), Problem<'a>> {
     let rows = rows(alloc, shown.root)?;
-    if let Some(Done {
-        report,
-        edited: Some(edited),
-    }) = done
+    if let Some(
+        Done {
+            report,
+            edited: Some(edited),
+        },
+    ) = done
     {
         push_numbers(&mut page.text, report, &edited)?;
     }

@@ -8,10 +8,9 @@ use std::alloc::Global;
 use std::io;
 use std::io::Write;
 use std::process::ExitCode;
-
-use typst_page::page::{Done, push_head, push_step, push_tail, push_title};
 use typst_linked::node_at;
 use typst_node::{SyntaxNode, Touched};
+use typst_page::page::{Done, push_head, push_step, push_tail, push_title};
 use typst_page::{Change, EditedNode, PageWriter, draw_with_answers};
 use typst_rows::EditReport;
 use typst_shown::report::told_of;
@@ -97,9 +96,11 @@ fn push_edited<'a>(
         reparsed,
         ..
     } = &report.done;
-    let (Touched::Window(renumbered), Some(was), Some(node)) =
-        (touched, node_at(old, path), node_at(shown.root, path))
-    else {
+    let (Touched::Window(renumbered), Some(was), Some(node)) = (
+        touched,
+        node_at(old, path),
+        node_at(shown.root, path),
+    ) else {
         let done = Done {
             report,
             edited: None,

@@ -33,7 +33,9 @@ fn an_edit_parses_the_blocks_anew_that_it_touches(rt: HostRuntime) -> Result<(),
         window: 0..3,
         tried: 1,
     };
-    assert!(rt; done.path.as_slice() == [0, 2].as_slice() && done.touched == Touched::Window(window));
+    assert!(rt;
+        done.path.as_slice() == [0, 2].as_slice() && done.touched == Touched::Window(window)
+    );
     let wanted = "= *Trees* of Typst\n\nSee *this* node.\n\nThe end.\n";
     assert_text(&rt, "an edit", "text", source.text(), wanted);
     Ok(())

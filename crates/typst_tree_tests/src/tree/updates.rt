@@ -34,6 +34,7 @@ const TREE: &str = "Markup[ Strong[ Text:a ] Text:b ]";
 
 /// Its labels if it is numbered up to 42, and if it is numbered up to 8.
 const WIDE: &str = "4..42[8..17[10..11] 19..20]";
+
 const NARROW: &str = "2..8[3..5[4..5] 5..6]";
 
 /// Changes, and what they leave.
