@@ -140,25 +140,39 @@ class Change:
 def edited(old, new, old_parsed, new_parsed):
     """Numbers the new tree after an edit of the old one: its children `new_parsed` come in place of the old tree's children `old_parsed`,
     as far down as nodes go on. Returns the change."""
-    path = ()
+    steps, is_leaf = way_down(old, new, old_parsed, new_parsed, lambda theirs, ours: True)
+    if not is_leaf:
+        steps, _ = way_down(old, new, old_parsed, new_parsed, lambda theirs, ours: theirs.number + ours.count() < theirs.upper)
+    for theirs, ours, first, behind in steps:
+        ours.number, ours.upper = theirs.number, theirs.upper
+        kept = [*zip(ours.children[:first], theirs.children), *zip(ours.children[::-1][:behind], theirs.children[::-1])]
+        for one, other in kept:
+            keep(one, other)
+    path = tuple(first for _, _, first, _ in steps[:-1])
+    theirs, ours, first, behind = steps[-1]
+    if is_leaf:
+        keep(ours.children[first], theirs.children[first])
+        return Change(path, ours, leaf=first)
+    return Change(path, ours, widened(ours, first, len(ours.children) - behind))
+
+
+def way_down(old, new, old_parsed, new_parsed, may_go_on):
+    """The nodes that go on, from the root to the one whose children change: each with the new one, and with how many children before the
+    change and after it stay. And whether a leaf or an error goes on there."""
+    steps = []
     while True:
-        new.number, new.upper = old.number, old.upper
         first, behind = beside(old, new, old_parsed, new_parsed)
-        end, old_end = len(new.children) - behind, len(old.children) - behind
-        for ours, theirs in [*zip(new.children[:first], old.children), *zip(new.children[end:], old.children[old_end:])]:
-            keep(ours, theirs)
-        if end - first != 1 or old_end - first != 1:
-            return Change(path, new, widened(new, first, end))
-        ours, theirs = new.children[first], old.children[first]
+        steps.append((old, new, first, behind))
+        if len(new.children) - behind - first != 1 or len(old.children) - behind - first != 1:
+            return steps, False
+        theirs, ours = old.children[first], new.children[first]
         if ours.kind != theirs.kind or (ours.children is None) != (theirs.children is None):
-            return Change(path, new, widened(new, first, end))
+            return steps, False
         if ours.children is None:
-            ours.number, ours.upper = theirs.number, theirs.upper
-            return Change(path, new, leaf=first)
-        if theirs.number + ours.count() >= theirs.upper:
-            return Change(path, new, widened(new, first, end))
-        path, old, new = (*path, first), theirs, ours
-        old_parsed, new_parsed = range(len(old.children)), range(len(new.children))
+            return steps, True
+        if not may_go_on(theirs, ours):
+            return steps, False
+        old, new, old_parsed, new_parsed = theirs, ours, range(len(theirs.children)), range(len(ours.children))
 
 
 def beside(old, new, old_parsed, new_parsed):

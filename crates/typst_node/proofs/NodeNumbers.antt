@@ -1,16 +1,16 @@
 -- All nodes of a numbered tree have numbers of its file, and the spans of these are followed as the numbers are.
-use Rattle.std.proofs.Common.{◌≡◌, ℕ, suc, zero, ◌+◌, ◌<◌, ◌≤◌, Bool, true, false, ◌==◌, List, [], ◌∷◌, ◌++◌, length, map, get_or, take, drop, refl, sym, ap, subst, ◌∙◌, arith, Some, None, eq-eqb}
-use Rattle.std.specs.Prelude.{slice_range, option_map, if◌then◌else◌}
+use Rattle.std.proofs.Common.{◌≡◌, ℕ, suc, zero, ◌+◌, ◌<◌, ◌≤◌, ◌^◌, Bool, true, false, ◌==◌, List, [], ◌∷◌, ◌++◌, length, map, get_or, take, drop, refl, sym, ap, subst, ◌∙◌, arith, Option, Some, None, eq-eqb}
+use Rattle.std.specs.Prelude.{slice_range, option_map, if◌then◌else◌, ◌&&◌, nat_le, nat_lt}
 use Rattle.std.specs.List.{AllByRecursion, position_or_len}
 use Rattle.std.proofs.lemmas.Bool.Decides.{nat_tests}
 use Rattle.typst_base.specs.Span.{SpanParts, numbered}
-use Rattle.typst_node.specs.Tree.{Label, Tree, forest, trees}
+use Rattle.typst_node.specs.Tree.{Label, Forest, Tree, forest, trees}
 use Rattle.typst_node.specs.Preorder.{preorder, nodes}
 use Rattle.typst_node.specs.Labels.{number}
 use Rattle.typst_node.specs.Numbered.{IsNumberOf, IsNumberedFor}
 use Rattle.typst_node.specs.Paths.{IsPath, no_tree, tree_at, trees_at}
 use Rattle.typst_node.specs.Window.{Site}
-use Rattle.typst_node.specs.Moves.{NumberMoves, AreMoves, IsNodeNumber, stay_after, is_within, is_file, is_span_in, followed, followed_span, no_moves}
+use Rattle.typst_node.specs.Moves.{NumberMoves, AreMoves, IsNodeNumber, numbers, stay_after, is_within, is_file, is_span_in, followed, followed_span, in_file, no_moves}
 use Rattle.typst_node.specs.Following.{SpansFollow}
 use Rattle.typst_node.proofs.Trees.{forest-trees}
 use Rattle.typst_node.proofs.Settled.{preorder_append}

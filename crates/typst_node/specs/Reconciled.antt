@@ -19,6 +19,7 @@ use Rattle.typst_node.specs.Following.{IsFollowed, AllGoOnOrGo, SpansFollow, Sta
 use Rattle.typst_node.specs.Narrower.{IsOnlyChange, EndsOnAs, EndsWithoutLeaf, IsLowest, IsNarrowest}
 use Rattle.typst_node.specs.declared.node.reconcile.Touched.{Touched}
 use Rattle.typst_node.specs.declared.node.reconcile.Touched.TheVariants.{Leaf, Window}
+use Rattle.typst_node.specs.declared.node.replace.Renumbered.{Renumbered}
 use Rattle.typst_node.specs.declared.node.replace.ReplaceError.{ReplaceError}
 use Rattle.typst_node.specs.declared.node.replace.ReplaceError.TheVariants.{Unnumberable, Overflow, Memory}
 

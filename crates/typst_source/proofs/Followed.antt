@@ -9,7 +9,7 @@ use Rattle.typst_node.specs.Paths.{IsPath, tree_at}
 use Rattle.typst_node.specs.Plain.{plain_label, unbounded}
 use Rattle.typst_node.specs.Edit.{Edit}
 use Rattle.typst_node.specs.Moves.{NumberMoves, followed}
-use Rattle.typst_node.specs.Following.{AllGoOnOrGo}
+use Rattle.typst_node.specs.Following.{AllGoOnOrGo, place_after}
 use Rattle.typst_node.specs.Reconciled.{LeafKeepsNumbers}
 use Rattle.typst_node.specs.declared.node.reconcile.Touched.{Touched}
 use Rattle.typst_node.specs.declared.node.reconcile.Touched.TheVariants.{Leaf, Window}
@@ -41,9 +41,10 @@ taken_there e path (Leaf index) m old new p q still is there =
     let stays = still.1 p there in
     subst (IsAfter (followed m (number (tree_at p old).label)) old new p) (sym is) (record { path = stays.0; kind = stays.2; is = stays.3 ∙ ap Some (sym stays.1) })
 taken_there e path (Window r) m old new p q still takes there =
+    let place = place_after takes.0.narrowest old new p in
     let same = takes.0.followed.stays p there takes.1 in
     subst (IsAfter (followed m (number (tree_at p old).label)) old new p) (sym takes.2)
-    (record { path = same.path; kind = same_kind _ _ same.plain; is = same.number })
+    (record { path = same.path; kind = same_kind (tree_at place new).label (tree_at p old).label same.plain; is = same.number })
 
 -- no node moves where the tree stays
 after_same : (old new : Tree) (p q : List ℕ) → new ≡ old → q ≡ p → IsPath p old → IsAfter (Some (number (tree_at p old).label)) old new p q

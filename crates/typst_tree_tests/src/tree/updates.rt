@@ -38,7 +38,7 @@ const WIDE: &str = "4..42[8..17[10..11] 19..20]";
 const NARROW: &str = "2..8[3..5[4..5] 5..6]";
 
 /// Changes, and what they leave.
-const ROWS: [Row; 13] = [
+const ROWS: [Row; 14] = [
     Row {
         shows: "a text changes below a node that goes on",
         tree: TREE,
@@ -48,6 +48,16 @@ const ROWS: [Row; 13] = [
         numbers: &[4, 8, 10, 19],
         followed: "4 8 10 19",
         labels: WIDE,
+    },
+    Row {
+        shows: "a text changes below a node without room",
+        tree: TREE,
+        end: 8,
+        change: Change::Reconcile(&[], 0..1, "Strong[ Text:x ]"),
+        answer: "leaf 0 at [0]",
+        numbers: &[2, 3, 4, 5],
+        followed: "2 3 4 5",
+        labels: NARROW,
     },
     Row {
         shows: "two texts come for one",

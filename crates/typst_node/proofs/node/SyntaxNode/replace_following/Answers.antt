@@ -1,9 +1,9 @@
-use Rattle.std.proofs.Common.{◌≡◌, inr, refl, subst}
+use Rattle.std.proofs.Common.{◌≡◌, ◌+◌, ◌-◌, ◌^◌, arith, inl, inr, refl, subst, List}
 use Rattle.std.specs.Prelude.{Option, None, Some, Result, Ok, Err, IfErr, IfOk, IfSome, IsSome}
 use Rattle.std.specs.List.{AllByRecursion}
 use Rattle.typst_node.specs.Tree.{Tree}
 use Rattle.typst_node.specs.Paths.{tree_at, trees_at}
-use Rattle.typst_node.specs.Numbered.{IsNumbered}
+use Rattle.typst_node.specs.Numbered.{IsNumbered, IsNumberedFor}
 use Rattle.typst_node.specs.Edit.{Edit, edit_of, site_by}
 use Rattle.typst_node.specs.Accepted.{IsAccepted}
 use Rattle.typst_node.specs.Refusals.{IsRefusedFollowing}
@@ -15,6 +15,7 @@ use Rattle.typst_node.specs.declared.node.replace.Renumbered.{Renumbered}
 use Rattle.typst_node.specs.declared.node.replace.ReplaceError.{ReplaceError}
 use Rattle.typst_node.specs.declared.node.replace_at.Followed.{Followed}
 use Rattle.typst_node.proofs.Decided.{accepted, refused_following}
+use Rattle.typst_node.proofs.Edited.{file_within}
 use Rattle.typst_node.proofs.NodeNumbers.{new_numbers}
 use Rattle.typst_node.proofs.WholeMoved.{is_followed}
 use Rattle.typst_node.proofs.node.SyntaxNode.replace_following.Goals as goal

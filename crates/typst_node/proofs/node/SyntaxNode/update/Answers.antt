@@ -41,6 +41,6 @@ returns-in-Err-clause-overflow c = λ is. let memory = only_memory c in cc
 pub returns-clause-updated : goal.returns-clause-updated
 returns-clause-updated c =
     let old = c.args.self.now in
-    let off : ¬ (GoesOnAs old c.args.other) = λ on. false≢true (sym c.if-goes_on_within.false ∙ c.goes_on_within.ensures.1 on) in
+    let off : ¬ (GoesOnWithin old c.args.other) = λ on. false≢true (sym c.if-goes_on_within.false ∙ c.goes_on_within.ensures.1 on) in
     subst (IsUpdated old c.args.other (record { below = None; moves = c.in_ok-moves.moves })) (sym c.swap.ensures.x_after)
     (root_updated old c.args.other c.in_ok-moves.moves c.number_instead.new.other off c.requires.numbered_ask_is_numbered c.in_ok-moves.ensures.made)
