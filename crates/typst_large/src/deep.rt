@@ -14,49 +14,56 @@ use typst_tree::{LinkedNode, Side, SyntaxKind, SyntaxNode};
 
 /// Makes the call of this name, and answers whether it gave the right answer.
 pub fn made(alloc: Global, name: &str, depth: usize) -> Result<Option<bool>> {
-    let Some(name) = name.strip_suffix(", deep") else {
-        return Ok(None);
-    };
     let root = chain(alloc, depth)?;
-    Ok(Some(match name {
+    let right = match name {
         "build" => {
             mem::forget(root);
-            true
+            Ok(true)
         }
         "drop" => {
             drop(root);
-            true
+            Ok(true)
         }
-        "number" => numbered(root).map(mem::forget).is_some(),
-        "is_numbered" => is_numbered(root),
-        "find" => is_found(alloc, root, depth),
-        "replace" => is_replaced(alloc, root, depth)?,
-        "next_leaf" => is_next(alloc, root, depth)?,
+        "number" => Ok(numbered(root).map(mem::forget).is_some()),
+        "is_numbered" => Ok(is_numbered(root)),
+        "find" => Ok(is_found(alloc, root, depth)),
+        "replace" => is_replaced(alloc, root, depth),
+        "next_leaf" => is_next(alloc, root, depth),
         _ => {
-            let right = read(alloc, name, &root, depth)?;
+            let right = read(alloc, name, &root, depth);
             mem::forget(root);
-            return Ok(right);
+            return right;
         }
-    }))
+    };
+    Ok(Some(right?))
 }
 
 /// Makes a call that reads a chain.
 fn read(alloc: Global, name: &str, root: &SyntaxNode, depth: usize) -> Result<Option<bool>> {
-    Ok(Some(match name {
-        "path" => is_as_deep(alloc, root, depth)?,
-        "leaf_at" => is_leaf(alloc, root)?,
-        "clone" => is_cloned(root, depth)?,
-        "compare" => is_equal(alloc, root, depth)?,
-        "hash" => {
-            let mut state = DefaultHasher::new();
-            root.hash(&mut state);
-            let _ = state.finish();
-            true
-        }
-        "full_text" => root.full_text(alloc)?.as_str() == "ab",
-        "errors_and_warnings" => is_told(alloc, depth)?,
+    let right = match name {
+        "path" => is_as_deep(alloc, root, depth),
+        "leaf_at" => is_leaf(alloc, root),
+        "clone" => is_cloned(root, depth),
+        "compare" => is_equal(alloc, root, depth),
+        "hash" => Ok(is_hashed(root)),
+        "full_text" => is_whole(alloc, root),
+        "errors_and_warnings" => is_told(alloc, depth),
         _ => return Ok(None),
-    }))
+    };
+    Ok(Some(right?))
+}
+
+/// Hashes the chain.
+fn is_hashed(root: &SyntaxNode) -> bool {
+    let mut state = DefaultHasher::new();
+    root.hash(&mut state);
+    let _ = state.finish();
+    true
+}
+
+/// Whether the chain's text is that of its end.
+fn is_whole(alloc: Global, root: &SyntaxNode) -> Result<bool> {
+    Ok(root.full_text(alloc)?.as_str() == "ab")
 }
 
 /// Whether a clone is such a chain.

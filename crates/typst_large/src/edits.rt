@@ -1,18 +1,40 @@
-//! Edits of a node of many children.
-use crate::wide::{numbered, texts};
+//! Edits of a numbered node of many children, and searches in it.
+use crate::Asked;
+use crate::wide::numbered;
 use anyhow::Result;
 use std::alloc::Global;
-use typst_tree::session::{self, Reply, Request, Slot};
-use typst_tree::{SyntaxKind, SyntaxNode};
+use typst_tree::session::{Reply, Request, Slot};
+use typst_tree::{NumberedTree, SyntaxKind, SyntaxNode};
 
-/// Makes the call of this name `count` times, and answers whether each call gave the right answer.
-pub fn made(alloc: Global, name: &str, size: usize, count: usize) -> Result<Option<bool>> {
-    Ok(Some(match name {
-        "replace" => are_replaced(alloc, size, count)?,
-        "insert" => are_inserted(alloc, size, count)?,
-        "run" => are_served(alloc, size, count)?,
-        _ => return Ok(None),
-    }))
+/// Makes the call that is asked for as often as asked, and answers whether each call gave the right answer.
+pub fn made(alloc: Global, root: SyntaxNode, asked: Asked<'_>) -> Result<Option<bool>> {
+    let Some(mut tree) = numbered(root) else {
+        return Ok(Some(false));
+    };
+    let right = match asked.name {
+        "find" => Ok(are_found(alloc, &tree, asked.count)),
+        "replace" => are_replaced(alloc, &mut tree, asked.count),
+        "insert" => are_inserted(alloc, &mut tree, asked.count),
+        _ => are_served(alloc, &mut tree, asked.count),
+    };
+    Ok(Some(right?))
+}
+
+/// Whether the last child is found by its number.
+fn are_found(alloc: Global, tree: &NumberedTree, count: usize) -> bool {
+    let size = tree.root().child_slice().len();
+    let Some(last) = tree.root().child_slice().last() else {
+        return false;
+    };
+    let span = last.span();
+    (0..count).all(|_| match tree.find(alloc, span) {
+        Reply::Found { path, offset, .. } => {
+            path.first()
+                .is_some_and(|index| size.saturating_sub(*index) == 1)
+                && size.saturating_sub(offset / 2) == 1
+        }
+        _ => false,
+    })
 }
 
 /// A text that replaces the children of the root from one index up to another.
@@ -26,10 +48,8 @@ fn edit(alloc: Global, start: usize, end: usize, text: &str) -> Result<Request> 
 }
 
 /// Whether another text of the same length replaces a text in the middle.
-fn are_replaced(alloc: Global, size: usize, count: usize) -> Result<bool> {
-    let Some(mut tree) = numbered(texts(alloc, size)?) else {
-        return Ok(false);
-    };
+fn are_replaced(alloc: Global, tree: &mut NumberedTree, count: usize) -> Result<bool> {
+    let size = tree.root().child_slice().len();
     let middle = size / 2;
     for _ in 0..count {
         let request = edit(alloc, middle, middle.saturating_add(1), "cd")?;
@@ -41,10 +61,8 @@ fn are_replaced(alloc: Global, size: usize, count: usize) -> Result<bool> {
 }
 
 /// Whether texts are inserted before the last child.
-fn are_inserted(alloc: Global, size: usize, count: usize) -> Result<bool> {
-    let Some(mut tree) = numbered(texts(alloc, size)?) else {
-        return Ok(false);
-    };
+fn are_inserted(alloc: Global, tree: &mut NumberedTree, count: usize) -> Result<bool> {
+    let size = tree.root().child_slice().len();
     let last = size.saturating_sub(1);
     for _ in 0..count {
         let request = edit(alloc, last, last, "cd")?;
@@ -56,10 +74,7 @@ fn are_inserted(alloc: Global, size: usize, count: usize) -> Result<bool> {
 }
 
 /// Whether a run serves an insertion and a search after it.
-fn are_served(alloc: Global, size: usize, count: usize) -> Result<bool> {
-    let Some(mut tree) = numbered(texts(alloc, size)?) else {
-        return Ok(false);
-    };
+fn are_served(alloc: Global, tree: &mut NumberedTree, count: usize) -> Result<bool> {
     let Some(last) = tree.root().child_slice().last() else {
         return Ok(false);
     };

@@ -6,13 +6,14 @@ use typst_tree::{RangeMapper, SyntaxKind, SyntaxNode};
 
 /// Makes the call of this name, and answers whether it gave the right answer.
 pub fn made(alloc: Global, name: &str, size: usize) -> Result<Option<bool>> {
-    Ok(Some(match name {
-        "errors_and_warnings, many" => are_told(alloc, size)?,
-        "bindings, many" => are_bound(alloc, size)?,
-        "hints, many" => are_kept(alloc, size)?,
-        "RangeMapper::new, many" => is_mapped(alloc, size)?,
+    let right = match name {
+        "errors_and_warnings" => are_told(alloc, size),
+        "bindings" => are_bound(alloc, size),
+        "hints" => are_kept(alloc, size),
+        "RangeMapper::new" => is_mapped(alloc, size),
         _ => return Ok(None),
-    }))
+    };
+    Ok(Some(right?))
 }
 
 /// Whether `size` errors and as many warnings are reported.
@@ -35,20 +36,35 @@ fn are_bound(alloc: Global, size: usize) -> Result<bool> {
         names.push(SyntaxNode::leaf(alloc, SyntaxKind::Ident, "x")?)?;
     }
     let parts = SyntaxNode::inner(alloc, SyntaxKind::Destructuring, names)?;
-    let own = match parts.cast::<Destructuring>() {
-        Some(view) => view.bindings(alloc)?.len(),
-        None => 0,
-    };
-    let as_pattern = match parts.cast::<Pattern>() {
-        Some(view) => view.bindings(alloc)?.len(),
-        None => 0,
-    };
+    if bound_by_parts(alloc, &parts)? != size || bound_by_pattern(alloc, &parts)? != size {
+        return Ok(false);
+    }
     let binding = SyntaxNode::inner(alloc, SyntaxKind::LetBinding, vec![in alloc; parts]?)?;
-    let as_kind = match binding.cast::<LetBinding>() {
-        Some(view) => view.kind().bindings(alloc)?.len(),
-        None => 0,
-    };
-    Ok(own == size && as_pattern == size && as_kind == size)
+    Ok(bound_by_binding(alloc, &binding)? == size)
+}
+
+/// How many names the parts bind.
+fn bound_by_parts(alloc: Global, parts: &SyntaxNode) -> Result<usize> {
+    match parts.cast::<Destructuring>() {
+        Some(view) => Ok(view.bindings(alloc)?.len()),
+        None => Ok(0),
+    }
+}
+
+/// How many names they bind as a pattern.
+fn bound_by_pattern(alloc: Global, parts: &SyntaxNode) -> Result<usize> {
+    match parts.cast::<Pattern>() {
+        Some(view) => Ok(view.bindings(alloc)?.len()),
+        None => Ok(0),
+    }
+}
+
+/// How many names a let binding binds.
+fn bound_by_binding(alloc: Global, binding: &SyntaxNode) -> Result<usize> {
+    match binding.cast::<LetBinding>() {
+        Some(view) => Ok(view.kind().bindings(alloc)?.len()),
+        None => Ok(0),
+    }
 }
 
 /// Whether an error keeps `size` hints.

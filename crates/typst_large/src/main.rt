@@ -45,10 +45,12 @@ fn answer(rt: &(impl Input + Print + AllocGlobal)) -> Result<bool> {
 /// What a line asks for.
 #[derive(Clone, Copy)]
 pub struct Asked<'a> {
-    name: &'a str,
-    size: usize,
-    /// How often the call is made.
-    count: usize,
+    /// The call. After a comma it has what the call is made on, where that isn't a node of many children.
+    pub name: &'a str,
+    /// How many children, levels or bytes that has.
+    pub size: usize,
+    /// How often the call is made. Only calls on many children are made more than once.
+    pub count: usize,
 }
 
 impl<'a> Asked<'a> {
@@ -65,10 +67,14 @@ impl<'a> Asked<'a> {
 
     /// Makes the calls, or answers nothing if no call has this name.
     fn make(self, alloc: Global) -> Result<Option<bool>> {
-        let made = wide::made(alloc, self.name, self.size, self.count)?;
-        let made = made.or(edits::made(alloc, self.name, self.size, self.count)?);
-        let made = made.or(deep::made(alloc, self.name, self.size)?);
-        let made = made.or(texts::made(alloc, self.name, self.size)?);
-        Ok(made.or(lists::made(alloc, self.name, self.size)?))
+        let Some((name, what)) = self.name.rsplit_once(", ") else {
+            return wide::made(alloc, self);
+        };
+        match what {
+            "deep" => deep::made(alloc, name, self.size),
+            "long" => texts::made(alloc, name, self.size),
+            "many" => lists::made(alloc, name, self.size),
+            _ => Ok(None),
+        }
     }
 }

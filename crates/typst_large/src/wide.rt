@@ -1,26 +1,35 @@
 //! Calls that read a node of many children, each a text of two bytes.
+use crate::{Asked, edits};
 use anyhow::Result;
 use std::alloc::Global;
-use typst_tree::session::Reply;
 use typst_tree::{FileId, LinkedNode, NumberedTree, Side, Span, SyntaxKind, SyntaxNode};
 
-/// Makes the call of this name `count` times, and answers whether each call gave the right answer.
-pub fn made(alloc: Global, name: &str, size: usize, count: usize) -> Result<Option<bool>> {
-    Ok(Some(match name {
-        "inner" => ends_after(&texts(alloc, size)?, size),
-        "clone" => is_cloned(&texts(alloc, size)?)?,
-        "full_text" => texts(alloc, size)?.full_text(alloc)?.len() / 2 == size,
-        "find" => are_found(alloc, size, count)?,
-        "leaf_at" => are_leaves(alloc, size, count)?,
-        "errors_and_warnings" => are_clean(alloc, size, count)?,
-        "children" => are_children(alloc, &texts(alloc, size)?, size)?,
-        "preorder" => are_nodes(alloc, &texts(alloc, size)?, size)?,
+/// Makes the call that is asked for as often as asked, and answers whether each call gave the right answer.
+pub fn made(alloc: Global, asked: Asked<'_>) -> Result<Option<bool>> {
+    let root = texts(alloc, asked.size)?;
+    match asked.name {
+        "find" | "replace" | "insert" | "run" => edits::made(alloc, root, asked),
+        _ => read(alloc, &root, asked),
+    }
+}
+
+/// Makes a call that reads the node.
+fn read(alloc: Global, root: &SyntaxNode, asked: Asked<'_>) -> Result<Option<bool>> {
+    let right = match asked.name {
+        "inner" => Ok(ends_after(root, asked.size)),
+        "clone" => is_cloned(root),
+        "full_text" => is_whole(alloc, root, asked.size),
+        "leaf_at" => are_leaves(alloc, root, asked.count),
+        "errors_and_warnings" => are_clean(alloc, root, asked.count),
+        "children" => are_children(alloc, root, asked.size),
+        "preorder" => are_nodes(alloc, root, asked.size),
         _ => return Ok(None),
-    }))
+    };
+    Ok(Some(right?))
 }
 
 /// A node of `size` texts.
-pub fn texts(alloc: Global, size: usize) -> Result<SyntaxNode> {
+fn texts(alloc: Global, size: usize) -> Result<SyntaxNode> {
     let mut nodes = Vec::new(alloc);
     for _ in 0..size {
         nodes.push(SyntaxNode::leaf(alloc, SyntaxKind::Text, "ab")?)?;
@@ -47,33 +56,15 @@ fn is_cloned(tree: &SyntaxNode) -> Result<bool> {
     Ok(same == *tree)
 }
 
-/// Whether the last child is found by its number.
-fn are_found(alloc: Global, size: usize, count: usize) -> Result<bool> {
-    let Some(tree) = numbered(texts(alloc, size)?) else {
-        return Ok(false);
-    };
-    let Some(last) = tree.root().child_slice().last() else {
-        return Ok(false);
-    };
-    let span = last.span();
-    for _ in 0..count {
-        let Reply::Found { path, offset, .. } = tree.find(alloc, span) else {
-            return Ok(false);
-        };
-        let is_last = path
-            .first()
-            .is_some_and(|index| size.saturating_sub(*index) == 1);
-        if !is_last || size.saturating_sub(offset / 2) != 1 {
-            return Ok(false);
-        }
-    }
-    Ok(true)
+/// Whether the whole text has two bytes a child.
+fn is_whole(alloc: Global, tree: &SyntaxNode, size: usize) -> Result<bool> {
+    Ok(tree.full_text(alloc)?.len() / 2 == size)
 }
 
 /// Whether the leaf before the last byte is the last child.
-fn are_leaves(alloc: Global, size: usize, count: usize) -> Result<bool> {
-    let tree = texts(alloc, size)?;
-    let root = LinkedNode::new(&tree);
+fn are_leaves(alloc: Global, tree: &SyntaxNode, count: usize) -> Result<bool> {
+    let size = tree.child_slice().len();
+    let root = LinkedNode::new(tree);
     let cursor = tree.len().saturating_sub(1);
     for _ in 0..count {
         let leaf = root.leaf_at(alloc, cursor, Side::Before)?;
@@ -85,8 +76,7 @@ fn are_leaves(alloc: Global, size: usize, count: usize) -> Result<bool> {
 }
 
 /// Whether no error and no warning is reported.
-fn are_clean(alloc: Global, size: usize, count: usize) -> Result<bool> {
-    let tree = texts(alloc, size)?;
+fn are_clean(alloc: Global, tree: &SyntaxNode, count: usize) -> Result<bool> {
     for _ in 0..count {
         let (errors, warnings) = tree.errors_and_warnings(alloc)?;
         if !errors.is_empty() || !warnings.is_empty() {

@@ -103,6 +103,26 @@ fn answer_or_refusal(alloc: Global, session: &mut Session, call: Call) -> Answer
     }
 }
 
+/// Asserts what the call of a row answers.
+fn assert_row(rt: &impl Abort, row: usize, said: &str, wanted: &str) {
+    assert_eq!(rt; said, wanted, "row {row}");
+}
+
+/// Makes calls on a session, and asserts what each of them answers.
+fn follow_on(
+    rt: &impl Abort,
+    alloc: Global,
+    session: &mut Session,
+    calls: &[(Call, &str)],
+) -> Result<(), Fail> {
+    for row in 0..calls.len() {
+        let (call, wanted) = &calls[row];
+        let said = answer_or_refusal(alloc, session, *call)?;
+        assert_row(rt, row, said.as_str(), wanted);
+    }
+    Ok(())
+}
+
 /// Makes calls on a session that begins with drawn nodes on its stack, and asserts what each of them answers.
 pub(crate) fn follow(
     rt: &impl Abort,
@@ -112,10 +132,5 @@ pub(crate) fn follow(
 ) -> Result<(), Fail> {
     let mut session = Session::new(alloc);
     session.stack = drawn_all(alloc, drawing)?;
-    for row in 0..calls.len() {
-        let (call, wanted) = &calls[row];
-        let said = answer_or_refusal(alloc, &mut session, *call)?;
-        assert_eq!(rt; said.as_str(), *wanted, "row {row}");
-    }
-    Ok(())
+    follow_on(rt, alloc, &mut session, calls)
 }

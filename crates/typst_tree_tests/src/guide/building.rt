@@ -5,25 +5,35 @@ use std::test::Fail;
 use typst_tree::SyntaxKind::{Heading, HeadingMarker, Markup, Parbreak, Space, Star, Strong, Text};
 use typst_tree::{InnerError, SyntaxNode};
 
-/// The tree of `= Hello`, an empty line and `See *this*`.
-pub(crate) fn document(alloc: Global) -> Result<SyntaxNode, InnerError> {
+/// The tree of `= Hello`.
+fn heading(alloc: Global) -> Result<SyntaxNode, InnerError> {
     let title = vec![in alloc; SyntaxNode::leaf(alloc, Text, "Hello")?]?;
-    let heading = vec![in alloc;
+    let parts = vec![in alloc;
         SyntaxNode::leaf(alloc, HeadingMarker, "=")?,
         SyntaxNode::leaf(alloc, Space, " ")?,
         SyntaxNode::inner(alloc, Markup, title)?,
     ]?;
+    SyntaxNode::inner(alloc, Heading, parts)
+}
+
+/// The tree of `*this*`.
+fn strong(alloc: Global) -> Result<SyntaxNode, InnerError> {
     let body = vec![in alloc; SyntaxNode::leaf(alloc, Text, "this")?]?;
-    let strong = vec![in alloc;
+    let parts = vec![in alloc;
         SyntaxNode::leaf(alloc, Star, "*")?,
         SyntaxNode::inner(alloc, Markup, body)?,
         SyntaxNode::leaf(alloc, Star, "*")?,
     ]?;
+    SyntaxNode::inner(alloc, Strong, parts)
+}
+
+/// The tree of `= Hello`, an empty line and `See *this*`.
+pub(crate) fn document(alloc: Global) -> Result<SyntaxNode, InnerError> {
     let parts = vec![in alloc;
-        SyntaxNode::inner(alloc, Heading, heading)?,
+        heading(alloc)?,
         SyntaxNode::leaf(alloc, Parbreak, "\n\n")?,
         SyntaxNode::leaf(alloc, Text, "See ")?,
-        SyntaxNode::inner(alloc, Strong, strong)?,
+        strong(alloc)?,
     ]?;
     SyntaxNode::inner(alloc, Markup, parts)
 }

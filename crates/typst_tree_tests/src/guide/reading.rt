@@ -12,22 +12,26 @@ use typst_tree::{LinkedNode, SyntaxNode};
 fn summary(alloc: Global, tree: &SyntaxNode) -> Result<String, AllocError> {
     let mut lines = String::new(alloc);
     for node in LinkedNode::new(tree).preorder(alloc)? {
-        match node?.get().cast::<Expr>() {
-            Some(Expr::Heading(heading)) => {
-                writeln!(lines, "heading {}", heading.depth().get())?;
-            }
-            Some(Expr::MathFrac(frac)) => {
-                writeln!(lines, "{} over {}", text(frac.num()), text(frac.denom()))?;
-            }
-            Some(Expr::LetBinding(binding)) => {
-                for name in binding.kind().bindings(alloc)? {
-                    writeln!(lines, "let {}", name.as_str())?;
-                }
-            }
-            _ => {}
+        if let Some(expr) = node?.get().cast::<Expr>() {
+            tell(alloc, &mut lines, expr)?;
         }
     }
     Ok(lines)
+}
+
+/// Adds the lines of one expression.
+fn tell(alloc: Global, lines: &mut String, expr: Expr) -> Result<(), AllocError> {
+    match expr {
+        Expr::Heading(heading) => writeln!(lines, "heading {}", heading.depth().get()),
+        Expr::MathFrac(frac) => writeln!(lines, "{} over {}", text(frac.num()), text(frac.denom())),
+        Expr::LetBinding(binding) => {
+            for name in binding.kind().bindings(alloc)? {
+                writeln!(lines, "let {}", name.as_str())?;
+            }
+            Ok(())
+        }
+        _ => Ok(()),
+    }
 }
 
 /// The text of an expression that is a leaf, and nothing of a placeholder.
