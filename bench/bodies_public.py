@@ -10,7 +10,6 @@ ONE_CLAUSE = ("typst_answers",)
 # Functions that can have no other body of their form, by crate, because they can make no other value of their type.
 ONE_BODY = {
     "typst_base": ("Spanned::detached",),
-    "typst_markup": ("Nest::new",),
     "typst_session": ("Session::new", "Document::source"),
 }
 

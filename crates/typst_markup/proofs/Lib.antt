@@ -1,9 +1,1 @@
-pub mod Boundaries
-pub mod Classes
-pub mod Depths
-pub mod Ends
-pub mod Lines
 pub mod OneToken
-pub mod Plains
-pub mod Sizes
-pub mod TokenSteps

@@ -1,12 +1,3 @@
 pub mod Block
-pub mod Depth
 pub mod FirstTokens
-pub mod Forms
-pub mod Frames
-pub mod Last
 pub mod Laws
-pub mod Markup
-pub mod Raw
-pub mod Texts
-pub mod TokenNodes
-pub mod View

@@ -15,9 +15,4 @@
 
 pub use parser::{Markup, blocks_are_shallow};
 
-mod form;
-mod frame;
-mod nest;
 pub mod parser;
-mod raw;
-mod token_node;

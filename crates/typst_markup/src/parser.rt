@@ -4,13 +4,14 @@ ghost use Rattle.typst_lexer.specs.Blocks.{is_parbreak};
 ghost use Rattle.typst_node.specs.Count.{SumsFit};
 ghost use Rattle.typst_node.specs.declared.node.build.InnerError.TheVariants.{Overflow};
 ghost use Rattle.typst_markup.specs.Block.{first};
-ghost use Rattle.typst_markup.specs.Depth.{AreWithin};
-ghost use Rattle.typst_markup.specs.Markup.{ended_all};
-ghost use Rattle.typst_markup.specs.View.{nest_of};
+ghost use Rattle.typst_machine.specs.Depth.{AreWithin};
+ghost use Rattle.typst_machine.specs.Steps.{finished};
+ghost use Rattle.typst_machine.specs.View.{stack_of, table_of};
+ghost use Rattle.typst_markup.specs.Block.{markup};
 
-use crate::nest::Nest;
 use std::alloc::Global;
 use typst_lexer::{Lexer, TokenKind};
+use typst_machine::{Stack, Table};
 use typst_node::InnerError;
 use typst_source::{BlockParser, ParsedBlock};
 
@@ -22,15 +23,34 @@ const AHEAD: usize = 10;
 #[derive(Clone, Copy, Debug, Drop)]
 pub struct Markup;
 
+/// The bounds of the machine. At the end of a block a row ends each of two frames for each delimiter that is open.
+#[tactic(auto, unfolding(crate::specs::Block::markup))]
+fn bounds() -> Table
+    ensures { table_of result ≡ markup }
+{
+    Table {
+        most_deep: 64,
+        most_looks: 1024,
+        most_levels: 132,
+    }
+}
+
 /// A block, once all its tokens have come.
-fn block(alloc: Global, nest: Nest<'_>, len: usize) -> Result<ParsedBlock, InnerError>
+fn block(
+    alloc: Global,
+    table: &Table,
+    stack: Stack,
+    len: usize,
+) -> Result<ParsedBlock, InnerError>
     requires { len + 10 < 2 ^ 64 }
     ensures len { IfOk result (λ parsed. parsed.len ≡ len) }
     ensures reach { IfOk result (λ parsed. parsed.reach ≡ len + 10) }
-    ensures nodes { IfOk result (λ parsed. parsed.nodes.items ≡ (ended_all (nest_of nest.entry)).nodes) }
-    ensures overflow { IsErrOf result Overflow → ¬ (SumsFit (ended_all (nest_of nest.entry)).nodes) }
+    ensures nodes { IfOk result
+        (λ parsed. parsed.nodes.items ≡ (finished (table_of table.now) (stack_of stack)).nodes) }
+    ensures overflow { IsErrOf result Overflow
+        → ¬ (SumsFit (finished (table_of table.now) (stack_of stack)).nodes) }
 {
-    let nodes = nest.finish(alloc)?;
+    let nodes = stack.finish(alloc, table)?;
     Ok(ParsedBlock {
         len,
         reach: len + AHEAD,
@@ -53,17 +73,18 @@ impl BlockParser for Markup {
 
     /// It takes a step for each byte of the block. A delimiter takes one more step for each delimiter that is open.
     fn parse_block(&self, alloc: Global, text: &str) -> Result<ParsedBlock, InnerError> {
+        let table = bounds();
         let mut lexer = Lexer::new(text);
-        let mut nest = Nest::new(alloc);
+        let mut stack = Stack::new(alloc, &table);
         let mut len = 0;
         while let Some(token) = lexer.next() {
-            nest.step(alloc, &token)?;
+            stack.step(alloc, &table, &token)?;
             len += token.text.len();
             if ends_block(token.kind) {
-                return block(alloc, nest, len);
+                return block(alloc, &table, stack, len);
             }
         }
-        block(alloc, nest, len)
+        block(alloc, &table, stack, len)
     }
 
     ghost positive = { first_positive };
@@ -81,7 +102,7 @@ impl BlockParser for Markup {
 
 /// A law of all texts: however deep the delimiters nest, the trees of its blocks are at most 132 levels deep. So no
 /// text can exhaust the stack of what walks over them.
-#[tactic(auto, using(crate::proofs::Depths::first_within_depth))]
+#[tactic(auto, using(crate::proofs::OneToken::first_within_depth))]
 pub fn blocks_are_shallow()
     ensures { (text : List ℕ) → AreWithin 132 (first text).trees }
 {}

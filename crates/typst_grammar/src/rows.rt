@@ -1,0 +1,512 @@
+// Written by bench/grammar.py from crates/grammar.table: change that and run it.
+//! The rows of the syntax.
+ghost use Rattle.std.specs.Prelude.{◌≡◌};
+ghost use Rattle.typst_grammar.specs.Row.{rows_of};
+ghost use Rattle.typst_grammar.specs.Table.{document, emph, emph_body, emph_close, heading, heading_body, heading_line, heading_rest, item, item_body, item_line, item_rest1, item_rest2, rows, strong, strong_body, strong_close};
+
+use crate::row::{Action, Call, Condition, Newline, Row};
+use typst_base::SyntaxKind;
+
+/// What the machine asks of a token.
+#[derive(Clone, Copy, Debug, PartialEq, Eq, Hash)]
+pub enum Class {
+    /// No token, or one before which a line feed ends what is open.
+    End,
+    /// A star that isn't within a word.
+    Star,
+    /// An underscore that isn't within a word.
+    Underscore,
+    /// Signs of equality at a line's start.
+    HeadingMarker,
+    /// A minus at a line's start.
+    ListMarker,
+    /// A plus, or a number with a dot, at a line's start.
+    EnumMarker,
+    /// A name between `<` and `>`.
+    Label,
+    /// Any other token.
+    Leaf,
+}
+
+/// Where in the syntax a frame is.
+#[derive(Clone, Copy, Debug, PartialEq, Eq, Hash)]
+pub enum State {
+    /// The nodes of a block.
+    Document,
+    /// Strong content with its delimiters.
+    Strong,
+    /// Strong content.
+    StrongBody,
+    /// The end of strong content.
+    StrongClose,
+    /// Emphasized content with its delimiters.
+    Emph,
+    /// Emphasized content.
+    EmphBody,
+    /// The end of emphasized content.
+    EmphClose,
+    /// A heading with its marker.
+    Heading,
+    /// What follows the marker of a heading.
+    HeadingLine,
+    /// The content of a heading.
+    HeadingBody,
+    /// An item of a list with its marker.
+    Item,
+    /// What follows the marker of an item.
+    ItemLine,
+    /// The content of an item.
+    ItemBody,
+    /// The rest of a row of `heading`, once the frame that it opened has returned.
+    HeadingRest,
+    /// The rest of a row of `item`, once the frame that it opened has returned.
+    ItemRest1,
+    /// The rest of a row of `item`, once the frame that it opened has returned.
+    ItemRest2,
+}
+
+/// Row 0.
+const ROW_0: Row = Row {
+    condition: Condition::Always,
+    before: &[],
+    takes: true,
+    after: &[],
+    call: None,
+};
+
+/// Row 1.
+const ROW_1: Row = Row {
+    condition: Condition::Always,
+    before: &[],
+    takes: false,
+    after: &[],
+    call: Some(Call {
+        state: State::Strong,
+        enters: false,
+        is_deep: true,
+        newline: None,
+    }),
+};
+
+/// Row 2.
+const ROW_2: Row = Row {
+    condition: Condition::Always,
+    before: &[],
+    takes: false,
+    after: &[],
+    call: Some(Call {
+        state: State::Emph,
+        enters: false,
+        is_deep: true,
+        newline: None,
+    }),
+};
+
+/// Row 3.
+const ROW_3: Row = Row {
+    condition: Condition::Always,
+    before: &[],
+    takes: false,
+    after: &[],
+    call: Some(Call {
+        state: State::Heading,
+        enters: false,
+        is_deep: false,
+        newline: Some(Newline::Stop),
+    }),
+};
+
+/// Row 4.
+const ROW_4: Row = Row {
+    condition: Condition::Always,
+    before: &[],
+    takes: false,
+    after: &[],
+    call: Some(Call {
+        state: State::Item,
+        enters: false,
+        is_deep: false,
+        newline: Some(Newline::Stop),
+    }),
+};
+
+/// Row 5.
+const ROW_5: Row = Row {
+    condition: Condition::Always,
+    before: &[],
+    takes: true,
+    after: &[Action::Goto(State::StrongClose)],
+    call: Some(Call {
+        state: State::StrongBody,
+        enters: true,
+        is_deep: false,
+        newline: None,
+    }),
+};
+
+/// Row 6.
+const ROW_6: Row = Row {
+    condition: Condition::Always,
+    before: &[Action::Wrap(SyntaxKind::Markup), Action::Return],
+    takes: false,
+    after: &[],
+    call: None,
+};
+
+/// Row 7.
+const ROW_7: Row = Row {
+    condition: Condition::Always,
+    before: &[
+        Action::Flush,
+        Action::Wrap(SyntaxKind::Markup),
+        Action::Return,
+    ],
+    takes: false,
+    after: &[],
+    call: None,
+};
+
+/// Row 8.
+const ROW_8: Row = Row {
+    condition: Condition::Always,
+    before: &[
+        Action::Unclosed,
+        Action::Wrap(SyntaxKind::Strong),
+        Action::Return,
+    ],
+    takes: false,
+    after: &[],
+    call: None,
+};
+
+/// Row 9.
+const ROW_9: Row = Row {
+    condition: Condition::Always,
+    before: &[],
+    takes: true,
+    after: &[Action::Wrap(SyntaxKind::Strong), Action::Return],
+    call: None,
+};
+
+/// Row 10.
+const ROW_10: Row = Row {
+    condition: Condition::Always,
+    before: &[],
+    takes: true,
+    after: &[Action::Goto(State::EmphClose)],
+    call: Some(Call {
+        state: State::EmphBody,
+        enters: true,
+        is_deep: false,
+        newline: None,
+    }),
+};
+
+/// Row 11.
+const ROW_11: Row = Row {
+    condition: Condition::Always,
+    before: &[
+        Action::Unclosed,
+        Action::Wrap(SyntaxKind::Emph),
+        Action::Return,
+    ],
+    takes: false,
+    after: &[],
+    call: None,
+};
+
+/// Row 12.
+const ROW_12: Row = Row {
+    condition: Condition::Always,
+    before: &[],
+    takes: true,
+    after: &[Action::Wrap(SyntaxKind::Emph), Action::Return],
+    call: None,
+};
+
+/// Row 13.
+const ROW_13: Row = Row {
+    condition: Condition::Always,
+    before: &[],
+    takes: true,
+    after: &[Action::Goto(State::HeadingRest)],
+    call: Some(Call {
+        state: State::HeadingLine,
+        enters: false,
+        is_deep: false,
+        newline: None,
+    }),
+};
+
+/// Row 14.
+const ROW_14: Row = Row {
+    condition: Condition::Newline,
+    before: &[Action::Goto(State::HeadingBody)],
+    takes: false,
+    after: &[],
+    call: None,
+};
+
+/// Row 15.
+const ROW_15: Row = Row {
+    condition: Condition::Always,
+    before: &[Action::Flush, Action::Goto(State::HeadingBody)],
+    takes: false,
+    after: &[],
+    call: None,
+};
+
+/// Row 16.
+const ROW_16: Row = Row {
+    condition: Condition::Always,
+    before: &[],
+    takes: true,
+    after: &[Action::Goto(State::ItemRest1)],
+    call: Some(Call {
+        state: State::ItemLine,
+        enters: false,
+        is_deep: false,
+        newline: None,
+    }),
+};
+
+/// Row 17.
+const ROW_17: Row = Row {
+    condition: Condition::Always,
+    before: &[],
+    takes: true,
+    after: &[Action::Goto(State::ItemRest2)],
+    call: Some(Call {
+        state: State::ItemLine,
+        enters: false,
+        is_deep: false,
+        newline: None,
+    }),
+};
+
+/// Row 18.
+const ROW_18: Row = Row {
+    condition: Condition::Newline,
+    before: &[Action::Goto(State::ItemBody)],
+    takes: false,
+    after: &[],
+    call: None,
+};
+
+/// Row 19.
+const ROW_19: Row = Row {
+    condition: Condition::Always,
+    before: &[Action::Flush, Action::Goto(State::ItemBody)],
+    takes: false,
+    after: &[],
+    call: None,
+};
+
+/// Row 20.
+const ROW_20: Row = Row {
+    condition: Condition::Always,
+    before: &[Action::Wrap(SyntaxKind::Heading), Action::Return],
+    takes: false,
+    after: &[],
+    call: None,
+};
+
+/// Row 21.
+const ROW_21: Row = Row {
+    condition: Condition::Always,
+    before: &[Action::Wrap(SyntaxKind::ListItem), Action::Return],
+    takes: false,
+    after: &[],
+    call: None,
+};
+
+/// Row 22.
+const ROW_22: Row = Row {
+    condition: Condition::Always,
+    before: &[Action::Wrap(SyntaxKind::EnumItem), Action::Return],
+    takes: false,
+    after: &[],
+    call: None,
+};
+
+/// The rows of the state `document`.
+fn document(class: Class) -> &'static [Row]
+    ensures { rows_of result.now ≡ document class }
+{
+    match class {
+        Class::Star => &[ROW_1],
+        Class::Underscore => &[ROW_2],
+        Class::HeadingMarker => &[ROW_3],
+        Class::ListMarker | Class::EnumMarker => &[ROW_4],
+        _ => &[ROW_0],
+    }
+}
+
+/// The rows of the state `strong`.
+fn strong(class: Class) -> &'static [Row]
+    ensures { rows_of result.now ≡ strong class }
+{
+    match class {
+        Class::Star => &[ROW_5],
+        _ => &[],
+    }
+}
+
+/// The rows of the state `strong.body`.
+fn strong_body(class: Class) -> &'static [Row]
+    ensures { rows_of result.now ≡ strong_body class }
+{
+    match class {
+        Class::End => &[ROW_6],
+        Class::Star => &[ROW_7],
+        Class::Underscore => &[ROW_2],
+        _ => &[ROW_0],
+    }
+}
+
+/// The rows of the state `strong.close`.
+fn strong_close(class: Class) -> &'static [Row]
+    ensures { rows_of result.now ≡ strong_close class }
+{
+    match class {
+        Class::Star => &[ROW_9],
+        _ => &[ROW_8],
+    }
+}
+
+/// The rows of the state `emph`.
+fn emph(class: Class) -> &'static [Row]
+    ensures { rows_of result.now ≡ emph class }
+{
+    match class {
+        Class::Underscore => &[ROW_10],
+        _ => &[],
+    }
+}
+
+/// The rows of the state `emph.body`.
+fn emph_body(class: Class) -> &'static [Row]
+    ensures { rows_of result.now ≡ emph_body class }
+{
+    match class {
+        Class::End => &[ROW_6],
+        Class::Star => &[ROW_1],
+        Class::Underscore => &[ROW_7],
+        _ => &[ROW_0],
+    }
+}
+
+/// The rows of the state `emph.close`.
+fn emph_close(class: Class) -> &'static [Row]
+    ensures { rows_of result.now ≡ emph_close class }
+{
+    match class {
+        Class::Underscore => &[ROW_12],
+        _ => &[ROW_11],
+    }
+}
+
+/// The rows of the state `heading`.
+fn heading(class: Class) -> &'static [Row]
+    ensures { rows_of result.now ≡ heading class }
+{
+    match class {
+        Class::HeadingMarker => &[ROW_13],
+        _ => &[],
+    }
+}
+
+/// The rows of the state `heading.line`.
+fn heading_line(_class: Class) -> &'static [Row]
+    ensures { rows_of result.now ≡ heading_line _class }
+{
+    &[ROW_14, ROW_15]
+}
+
+/// The rows of the state `heading.body`.
+fn heading_body(class: Class) -> &'static [Row]
+    ensures { rows_of result.now ≡ heading_body class }
+{
+    match class {
+        Class::End | Class::Label => &[ROW_6],
+        Class::Star => &[ROW_1],
+        Class::Underscore => &[ROW_2],
+        _ => &[ROW_0],
+    }
+}
+
+/// The rows of the state `item`.
+fn item(class: Class) -> &'static [Row]
+    ensures { rows_of result.now ≡ item class }
+{
+    match class {
+        Class::ListMarker => &[ROW_16],
+        Class::EnumMarker => &[ROW_17],
+        _ => &[],
+    }
+}
+
+/// The rows of the state `item.line`.
+fn item_line(_class: Class) -> &'static [Row]
+    ensures { rows_of result.now ≡ item_line _class }
+{
+    &[ROW_18, ROW_19]
+}
+
+/// The rows of the state `item.body`.
+fn item_body(class: Class) -> &'static [Row]
+    ensures { rows_of result.now ≡ item_body class }
+{
+    match class {
+        Class::End => &[ROW_6],
+        Class::Star => &[ROW_1],
+        Class::Underscore => &[ROW_2],
+        _ => &[ROW_0],
+    }
+}
+
+/// The rows of the state `heading.rest`.
+fn heading_rest(_class: Class) -> &'static [Row]
+    ensures { rows_of result.now ≡ heading_rest _class }
+{
+    &[ROW_20]
+}
+
+/// The rows of the state `item.rest1`.
+fn item_rest1(_class: Class) -> &'static [Row]
+    ensures { rows_of result.now ≡ item_rest1 _class }
+{
+    &[ROW_21]
+}
+
+/// The rows of the state `item.rest2`.
+fn item_rest2(_class: Class) -> &'static [Row]
+    ensures { rows_of result.now ≡ item_rest2 _class }
+{
+    &[ROW_22]
+}
+
+/// The rows of a state for a class of tokens. The first one that fits is done.
+#[tactic(auto, unfolding(crate::specs::Table::rows))]
+pub fn rows(state: State, class: Class) -> &'static [Row]
+    ensures { rows_of result.now ≡ rows state class }
+{
+    match state {
+        State::Document => document(class),
+        State::Strong => strong(class),
+        State::StrongBody => strong_body(class),
+        State::StrongClose => strong_close(class),
+        State::Emph => emph(class),
+        State::EmphBody => emph_body(class),
+        State::EmphClose => emph_close(class),
+        State::Heading => heading(class),
+        State::HeadingLine => heading_line(class),
+        State::HeadingBody => heading_body(class),
+        State::Item => item(class),
+        State::ItemLine => item_line(class),
+        State::ItemBody => item_body(class),
+        State::HeadingRest => heading_rest(class),
+        State::ItemRest1 => item_rest1(class),
+        State::ItemRest2 => item_rest2(class),
+    }
+}

@@ -1,0 +1,9 @@
+pub mod Boundaries
+pub mod Classes
+pub mod Depths
+pub mod Laws
+pub mod Lines
+pub mod Links
+pub mod Plains
+pub mod RawTexts
+pub mod Texts

@@ -1,0 +1,9 @@
+pub mod Actions
+pub mod Depth
+pub mod Last
+pub mod Raw
+pub mod Rows
+pub mod Stack
+pub mod Steps
+pub mod TokenNodes
+pub mod View

@@ -1,0 +1,18 @@
+//! A stack machine that makes trees of tokens by the rows of a table.
+//!
+//! The state of the innermost open frame and the class of the next token give a row of `typst_grammar`. A row says what
+//! becomes of the token, which nodes become one node, and which frames open and end. Whatever the table says, every byte
+//! of a token is in exactly one leaf or error, in order, no node has more levels than the table allows, and a token is
+//! looked at no more often than the table allows.
+#![tactic(auto)]
+
+pub use machine::tables_keep_texts;
+pub use stack::{Frame, Stack};
+pub use table::Table;
+
+mod actions;
+pub mod machine;
+mod raw;
+pub mod stack;
+pub mod table;
+mod token_node;

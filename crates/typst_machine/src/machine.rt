@@ -1,0 +1,182 @@
+//! What tokens do with the stack.
+ghost use Rattle.std.specs.Option.{option_map};
+ghost use Rattle.std.specs.Prelude.{◌≡◌, ◌≤◌, List, IfOk, OnOk, IsErrOf};
+ghost use Rattle.typst_grammar.specs.Row.{row_of};
+ghost use Rattle.typst_lexer.specs.Tokens.{Piece, joined, piece_of};
+ghost use Rattle.typst_machine.specs.Depth.{AreWithin};
+ghost use Rattle.typst_machine.specs.Rows.{Table as AnyTable, row_for};
+ghost use Rattle.typst_machine.specs.Steps.{after_row, eaten, finished, has_line_feed, is_done, is_too_deep, is_white, looked, looks, refused, step, taken, trees_of};
+ghost use Rattle.typst_machine.specs.View.{next_of, stack_of, table_of};
+ghost use Rattle.typst_node.specs.Count.{SumsFit};
+ghost use Rattle.typst_node.specs.Text.{text_of_all};
+ghost use Rattle.typst_node.specs.declared.node.build.InnerError.TheVariants.{Overflow};
+
+use crate::stack::Stack;
+use crate::table::Table;
+use crate::token_node::token_node;
+use std::alloc::{AllocError, Global};
+use typst_grammar::{Call, Message, Row};
+use typst_lexer::{Token, TokenKind};
+use typst_node::{InnerError, SyntaxNode};
+
+/// Whether a token is white space.
+fn is_white(kind: TokenKind) -> bool
+    ensures { result ≡ is_white kind }
+{
+    matches!(kind, TokenKind::Space | TokenKind::Parbreak)
+}
+
+/// Whether a row that was found is the last look at the token.
+fn is_done(row: Option<Row>, stack: &Stack) -> bool
+    ensures { result ≡ is_done (option_map row_of row) (stack_of stack.now) }
+{
+    match row {
+        Some(row) => stack.is_too_deep(row.call) || row.takes,
+        None => true,
+    }
+}
+
+impl Stack {
+    /// Whether a call opens a deep frame, and as many as may be are open.
+    fn is_too_deep(&self, call: Option<Call>) -> bool
+        ensures { result ≡ is_too_deep call (stack_of self.now) }
+    {
+        match call {
+            Some(call) => call.is_deep && self.top.room == 0,
+            None => false,
+        }
+    }
+
+    /// Makes the next token a node. The end has none.
+    fn eat(&mut self, alloc: Global, next: Option<Token<'_>>) -> Result<(), InnerError>
+        ensures eaten { OnOk result (stack_of self.new ≡ eaten (next_of next.entry) (stack_of self.old)) }
+        ensures overflow { IsErrOf result Overflow → ¬ (SumsFit (eaten (next_of next.entry) (stack_of self.old)).nodes) }
+    {
+        if let Some(token) = next {
+            self.push(token_node(alloc, token.kind, token.text)?)?;
+        }
+        Ok(())
+    }
+
+    /// Makes the next token an error.
+    fn refuse(
+        &mut self,
+        alloc: Global,
+        message: Message,
+        next: Option<Token<'_>>,
+    ) -> Result<(), AllocError>
+        ensures { OnOk result (stack_of self.new ≡ refused message (next_of next.entry) (stack_of self.old)) }
+    {
+        if let Some(token) = next {
+            self.push(SyntaxNode::error(alloc, message.text(), token.text)?)?;
+        }
+        Ok(())
+    }
+
+    /// Does what a row says.
+    fn run(
+        &mut self,
+        alloc: Global,
+        table: &Table,
+        row: &Row,
+        next: Option<Token<'_>>,
+    ) -> Result<(), InnerError>
+        ensures after { OnOk result
+            (stack_of self.new ≡ after_row (table_of table.now) (row_of row.now) (next_of next.entry) (stack_of self.old)) }
+        ensures overflow { IsErrOf result Overflow
+            → ¬ (SumsFit (after_row (table_of table.now) (row_of row.now) (next_of next.entry) (stack_of self.old)).nodes) }
+    {
+        self.acts(alloc, row.before, table.most_levels)?;
+        if row.takes {
+            self.eat(alloc, next)?;
+        }
+        self.acts(alloc, row.after, table.most_levels)?;
+        if let Some(call) = row.call {
+            self.call(call)?;
+        }
+        Ok(())
+    }
+
+    /// Does what the row says that was found for the next token.
+    fn look(
+        &mut self,
+        alloc: Global,
+        table: &Table,
+        row: Option<Row>,
+        next: Option<Token<'_>>,
+    ) -> Result<(), InnerError>
+        ensures looked { OnOk result
+            (stack_of self.new ≡ looked (table_of table.now) (option_map row_of row) (next_of next.entry) (stack_of self.old)) }
+        ensures overflow { IsErrOf result Overflow
+            → ¬ (SumsFit (looked (table_of table.now) (option_map row_of row) (next_of next.entry) (stack_of self.old)).nodes) }
+    {
+        match row {
+            Some(row) if self.is_too_deep(row.call) => {
+                Ok(self.refuse(alloc, Message::TooDeep, next)?)
+            }
+            Some(row) => self.run(alloc, table, &row, next),
+            None => Ok(self.refuse(alloc, Message::Unexpected, next)?),
+        }
+    }
+
+    /// Looks at the next token until a row takes it.
+    fn take(
+        &mut self,
+        alloc: Global,
+        table: &Table,
+        next: Option<Token<'_>>,
+    ) -> Result<(), InnerError>
+        ensures looks { OnOk result
+            (stack_of self.new ≡ looks table.now.most_looks (table_of table.now) (next_of next.entry) (stack_of self.old)) }
+        ensures overflow { IsErrOf result Overflow
+            → ¬ (SumsFit (looks table.now.most_looks (table_of table.now) (next_of next.entry) (stack_of self.old)).nodes) }
+    {
+        for _ in 0..table.most_looks {
+            let row = self.row_for(table, next);
+            let done = is_done(row, self);
+            self.look(alloc, table, row, next)?;
+            if done {
+                return Ok(());
+            }
+        }
+        Ok(self.refuse(alloc, Message::Unexpected, next)?)
+    }
+
+    /// Takes one more token.
+    pub fn step(
+        &mut self,
+        alloc: Global,
+        table: &Table,
+        token: &Token<'_>,
+    ) -> Result<(), InnerError>
+        ensures step { OnOk result (stack_of self.new ≡ step (table_of table.now) (piece_of token.now) (stack_of self.old)) }
+        ensures overflow { IsErrOf result Overflow
+            → ¬ (SumsFit (step (table_of table.now) (piece_of token.now) (stack_of self.old)).nodes) }
+    {
+        if is_white(token.kind) {
+            let line = self.line || token.text.as_bytes().contains(&b'\n');
+            let node = token_node(alloc, token.kind, token.text)?;
+            return Ok(self.whiten(node, line)?);
+        }
+        self.take(alloc, table, Some(*token))
+    }
+
+    /// The nodes, once all tokens have come: open frames end.
+    pub fn finish(self, alloc: Global, table: &Table) -> Result<Vec<SyntaxNode>, InnerError>
+        ensures nodes { IfOk result
+            (λ nodes. nodes.items ≡ (finished (table_of table.now) (stack_of self)).nodes) }
+        ensures overflow { IsErrOf result Overflow → ¬ (SumsFit (finished (table_of table.now) (stack_of self)).nodes) }
+    {
+        let mut stack = self;
+        stack.take(alloc, table, None)?;
+        Ok(stack.nodes)
+    }
+}
+
+/// Laws of every table. The nodes of tokens have all of their text, and no node has more levels than the table allows.
+#[tactic(auto, using(crate::proofs::Laws::trees_text, crate::proofs::Depths::trees_within))]
+pub fn tables_keep_texts()
+    ensures text { (table : AnyTable) (ps : List Piece) → text_of_all (trees_of table ps) ≡ joined ps }
+    ensures levels { (table : AnyTable) (ps : List Piece) → 2 ≤ table.most_levels
+        → AreWithin table.most_levels (trees_of table ps) }
+{}

@@ -1,0 +1,141 @@
+//! The nodes so far, and the open frames.
+ghost use Rattle.std.specs.Prelude.{◌≡◌, take, drop, IfOk, OnOk, suc};
+ghost use Rattle.typst_machine.specs.Actions.{called, expected, greatest, inherited, joined, led, opened_frame, own_levels, pushed, returned, whitened};
+ghost use Rattle.typst_machine.specs.Stack.{start};
+ghost use Rattle.typst_machine.specs.View.{stack_of};
+
+use crate::table::Table;
+use std::alloc::{AllocError, Global};
+use typst_grammar::{Call, Message, Newline, State};
+use typst_node::SyntaxNode;
+
+/// An open frame: where in the syntax it is, and where its nodes begin.
+#[derive(Clone, Copy)]
+pub struct Frame {
+    /// Its state.
+    pub(crate) state: State,
+    /// The index of its first node.
+    pub(crate) start: usize,
+    /// Whether white space before its first token is in it.
+    pub(crate) enters: bool,
+    /// How many more deep frames may open in it.
+    pub(crate) room: usize,
+    /// What a line feed does in it.
+    pub(crate) newline: Newline,
+}
+
+/// The nodes so far, and the open frames.
+#[derive(Drop)]
+pub struct Stack {
+    // All nodes so far, those of the outermost frame first, and how many levels each may have.
+    pub(crate) nodes: Vec<SyntaxNode>,
+    pub(crate) levels: Vec<usize>,
+    // How many of the nodes are before the white space before the next token.
+    pub(crate) body: usize,
+    // Whether a line feed is in that white space, and what it does.
+    pub(crate) line: bool,
+    pub(crate) newline: Newline,
+    // The innermost frame, and the others, the outermost first.
+    pub(crate) top: Frame,
+    pub(crate) below: Vec<Frame>,
+    // How many frames are around the one that says what the line feed does.
+    pub(crate) judge: usize,
+}
+
+/// Cuts a list in two.
+pub(crate) fn cut<T: Drop>(items: &mut Vec<T>, at: usize) -> Result<Vec<T>, AllocError>
+    ensures front { OnOk result (items.new.items ≡ take at items.old.items) }
+    ensures back { IfOk result (λ back. back.items ≡ drop at items.old.items) }
+{
+    let at = at.min(items.len());
+    items.split_off(at)
+}
+
+/// The greatest of some numbers, or 0.
+pub(crate) fn greatest(numbers: &[usize]) -> usize
+    ensures { result ≡ greatest numbers.now }
+{
+    let mut most = 0usize;
+    for number in numbers {
+        most = most.max(*number);
+    }
+    most
+}
+
+/// What a line feed does in a frame that opens in another one.
+fn inherited(new: Option<Newline>, old: Newline) -> Newline
+    ensures { result ≡ inherited new old }
+{
+    match new {
+        Some(new) => new,
+        None => old,
+    }
+}
+
+impl Stack {
+    /// The stack before the first token: one frame, in the state of a document, without nodes.
+    pub fn new(alloc: Global, table: &Table) -> Stack
+        ensures { stack_of result ≡ start table.now.most_deep }
+    {
+        Stack {
+            nodes: Vec::new(alloc),
+            levels: Vec::new(alloc),
+            body: 0,
+            line: false,
+            newline: Newline::Go,
+            top: Frame {
+                state: State::Document,
+                start: 0,
+                enters: true,
+                room: table.most_deep,
+                newline: Newline::Go,
+            },
+            below: Vec::new(alloc),
+            judge: 0,
+        }
+    }
+
+    /// Puts the node of a token behind all others.
+    pub(crate) fn push(&mut self, node: SyntaxNode) -> Result<(), AllocError>
+        ensures { OnOk result (stack_of self.new ≡ pushed node (stack_of self.old)) }
+    {
+        self.nodes.push(node)?;
+        self.levels.push(2)?;
+        self.body = self.nodes.len();
+        self.line = false;
+        self.newline = self.top.newline;
+        self.judge = self.below.len();
+        Ok(())
+    }
+
+    /// Takes white space before the next token.
+    pub(crate) fn whiten(&mut self, node: SyntaxNode, line: bool) -> Result<(), AllocError>
+        ensures { OnOk result (stack_of self.new ≡ whitened node line (stack_of self.old)) }
+    {
+        let leads = !self.top.enters && self.nodes.len() <= self.top.start;
+        self.nodes.push(node)?;
+        self.levels.push(2)?;
+        if leads {
+            self.top.start = self.nodes.len();
+        }
+        self.line = line;
+        Ok(())
+    }
+
+    /// The frame that a call opens.
+    pub(crate) fn opened_frame(&self, call: Call) -> Frame
+        ensures { result ≡ opened_frame call (stack_of self.now) }
+    {
+        Frame {
+            state: call.state,
+            start: if call.enters {
+                self.body
+            } else {
+                self.nodes.len()
+            },
+            enters: call.enters,
+            room: self.top.room.saturating_sub(usize::from(call.is_deep)),
+            newline: inherited(call.newline, self.top.newline),
+        }
+    }
+}

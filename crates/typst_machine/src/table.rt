@@ -1,0 +1,96 @@
+//! The table, and which of its rows is done.
+ghost use Rattle.std.specs.Option.{option_map};
+ghost use Rattle.std.specs.Prelude.{◌≡◌};
+ghost use Rattle.typst_grammar.specs.Row.{row_of, rows_of};
+ghost use Rattle.typst_machine.specs.Rows.{class_of, class_of_next, first_row, holds, row_for, seen, stops};
+ghost use Rattle.typst_machine.specs.View.{next_of, stack_of, table_of};
+
+use crate::stack::Stack;
+use typst_grammar::rows::rows;
+use typst_grammar::{Class, Condition, Newline, Row};
+use typst_lexer::{Token, TokenKind};
+
+/// The bounds of the machine.
+#[derive(Clone, Copy, Debug)]
+pub struct Table {
+    /// How many deep frames may be open at once.
+    pub most_deep: usize,
+    /// How often a token is looked at. It has to suffice for the ends of all open frames.
+    pub most_looks: usize,
+    /// How many levels a node may have.
+    pub most_levels: usize,
+}
+
+/// The class of a token.
+fn class_of(kind: TokenKind) -> Class
+    ensures { result ≡ class_of kind }
+{
+    match kind {
+        TokenKind::Star => Class::Star,
+        TokenKind::Underscore => Class::Underscore,
+        TokenKind::HeadingMarker => Class::HeadingMarker,
+        TokenKind::ListMarker => Class::ListMarker,
+        TokenKind::EnumMarker => Class::EnumMarker,
+        TokenKind::Label => Class::Label,
+        _ => Class::Leaf,
+    }
+}
+
+/// The class of the next token, or of the end of all tokens.
+fn class_of_next(next: Option<Token<'_>>) -> Class
+    ensures { result ≡ class_of_next (next_of next.entry) }
+{
+    match next {
+        Some(token) => class_of(token.kind),
+        None => Class::End,
+    }
+}
+
+/// Whether a line feed ends what is open.
+fn stops(newline: Newline) -> bool
+    ensures { result ≡ stops newline }
+{
+    matches!(newline, Newline::Stop)
+}
+
+impl Stack {
+    /// The class that the next token reads as.
+    fn seen(&self, next: Option<Token<'_>>) -> Class
+        ensures { result ≡ seen (next_of next.entry) (stack_of self.now) }
+    {
+        if self.line && stops(self.newline) {
+            Class::End
+        } else {
+            class_of_next(next)
+        }
+    }
+
+    /// Whether a condition holds.
+    fn holds(&self, condition: Condition) -> bool
+        ensures { result ≡ holds condition (stack_of self.now) }
+    {
+        match condition {
+            Condition::Always => true,
+            Condition::Newline => self.line,
+        }
+    }
+
+    /// The first of some rows that fits.
+    fn first_row(&self, rows: &[Row]) -> Option<Row>
+        ensures { option_map row_of result ≡ first_row (rows_of rows.now) (stack_of self.now) }
+    {
+        for row in rows {
+            if self.holds(row.condition) {
+                return Some(*row);
+            }
+        }
+        None
+    }
+
+    /// The row for the next token.
+    pub(crate) fn row_for(&self, table: &Table, next: Option<Token<'_>>) -> Option<Row>
+        ensures { option_map row_of result ≡ row_for (table_of table.now) (next_of next.entry) (stack_of self.now) }
+    {
+        self.first_row(rows(self.top.state, self.seen(next)))
+    }
+}
