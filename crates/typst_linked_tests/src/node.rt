@@ -5,6 +5,7 @@ mod equal;
 mod errors;
 mod numbering;
 mod reading;
+mod reconciling;
 mod replacing;
 mod showing;
 mod synthesis;
