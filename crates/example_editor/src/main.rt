@@ -64,7 +64,10 @@ fn told(alloc: Global, source: &Source<Markup>, done: &Edited) -> Result<String,
             )?;
         }
         Touched::Window(Renumbered { window, tried }) => {
-            let children = node_at(source.root(), &done.path).map_or(&[], SyntaxNode::child_slice);
+            let children = match node_at(source.root(), &done.path) {
+                Some(node) => node.child_slice(),
+                None => &[],
+            };
             let anew = count(children.get(window.start..window.end).unwrap_or(&[]));
             let kept = all.saturating_sub(anew);
             write!(said, "numbered {anew} of {all} nodes, tried {tried}; ")?;
