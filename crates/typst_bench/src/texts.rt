@@ -65,10 +65,11 @@ pub fn typed(verb: &str) -> Option<Edit> {
 /// Parses a text or edits it in each round. Returns how many bytes were parsed in all.
 pub fn made(alloc: Global, watch: &mut Stopwatch<'_>, asked: Asked<'_>) -> Result<Option<usize>> {
     let text = text(alloc, asked.size)?;
-    Ok(Some(match typed(asked.verb) {
-        Some(edit) => edited(alloc, watch, &text, edit, asked)?,
-        None => parsed(alloc, watch, &text, asked.rounds)?,
-    }))
+    let seen = match typed(asked.verb) {
+        Some(edit) => edited(alloc, watch, &text, edit, asked),
+        None => parsed(alloc, watch, &text, asked.rounds),
+    };
+    Ok(Some(seen?))
 }
 
 /// In each round, makes an edit in the middle of a text and takes it back.
