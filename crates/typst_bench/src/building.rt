@@ -9,12 +9,13 @@ use std::alloc::Global;
 /// that is built and the first clone take memory that the process hasn't had before, so they are neither timed nor
 /// counted.
 pub fn made(alloc: Global, watch: &mut Stopwatch<'_>, asked: Asked<'_>) -> Result<Option<usize>> {
-    Ok(Some(match asked.verb {
-        "build" => built(alloc, watch, asked)?,
-        "drop" => dropped(alloc, watch, asked)?,
-        "clone" => cloned(alloc, watch, asked)?,
+    let nodes = match asked.verb {
+        "build" => built(alloc, watch, asked),
+        "drop" => dropped(alloc, watch, asked),
+        "clone" => cloned(alloc, watch, asked),
         _ => return Ok(None),
-    }))
+    };
+    Ok(Some(nodes?))
 }
 
 fn built(alloc: Global, watch: &mut Stopwatch<'_>, asked: Asked<'_>) -> Result<usize> {

@@ -28,17 +28,18 @@ pub fn made(alloc: Global, watch: &mut Stopwatch<'_>, asked: Asked<'_>) -> Resul
 /// Makes the edits, and returns the sum of the lengths.
 fn edited(alloc: Global, tree: &mut NumberedTree, asked: Asked<'_>) -> Result<Option<usize>> {
     let rounds = asked.rounds;
-    Ok(Some(match (asked.verb, asked.shape) {
-        ("replace", "wide") => replace_wide(alloc, tree, rounds)?,
-        ("resize", "wide") => resize_wide(alloc, tree, rounds)?,
-        ("insert_front", "wide") => insert_front(alloc, tree, rounds)?,
-        ("insert_end", "wide") => insert_end(alloc, tree, rounds)?,
-        ("replace", "ten") => replace_ten(alloc, tree, rounds)?,
-        ("replace", "document") => replace_document(alloc, tree, rounds)?,
-        ("replace_equal", "document") => replace_equal(alloc, tree, rounds)?,
-        ("replace", "chain") => replace_chain(alloc, tree, asked)?,
+    let lengths = match (asked.verb, asked.shape) {
+        ("replace", "wide") => replace_wide(alloc, tree, rounds),
+        ("resize", "wide") => resize_wide(alloc, tree, rounds),
+        ("insert_front", "wide") => insert_front(alloc, tree, rounds),
+        ("insert_end", "wide") => insert_end(alloc, tree, rounds),
+        ("replace", "ten") => replace_ten(alloc, tree, rounds),
+        ("replace", "document") => replace_document(alloc, tree, rounds),
+        ("replace_equal", "document") => replace_equal(alloc, tree, rounds),
+        ("replace", "chain") => replace_chain(alloc, tree, asked),
         _ => return Ok(None),
-    }))
+    };
+    Ok(Some(lengths?))
 }
 
 /// How many letters `c` a tree has.

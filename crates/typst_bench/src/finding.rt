@@ -16,11 +16,11 @@ pub fn made(alloc: Global, watch: &mut Stopwatch<'_>, asked: Asked<'_>) -> Resul
     let spans = spans(alloc, &tree, asked.rounds)?;
     watch.start()?;
     let sum = match asked.verb {
-        "find" => found(alloc, &tree, &spans)?,
-        _ => found_at(alloc, &tree, asked.rounds)?,
+        "find" => found(alloc, &tree, &spans),
+        _ => found_at(alloc, &tree, asked.rounds),
     };
     watch.stop()?;
-    Ok(Some(sum))
+    Ok(Some(sum?))
 }
 
 /// The spans of this many nodes, spread over the tree.

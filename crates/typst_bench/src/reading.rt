@@ -16,13 +16,13 @@ pub fn made(alloc: Global, watch: &mut Stopwatch<'_>, asked: Asked<'_>) -> Resul
     }
     watch.start()?;
     let seen = match asked.verb {
-        "number" => numbered(&mut tree, asked.rounds)?,
-        "synthesize" => synthesized(&mut tree, asked.rounds),
-        "full_text" => written(alloc, &tree, asked.rounds)?,
-        _ => told(alloc, &tree, asked.rounds)?,
+        "number" => numbered(&mut tree, asked.rounds),
+        "synthesize" => Ok(synthesized(&mut tree, asked.rounds)),
+        "full_text" => written(alloc, &tree, asked.rounds),
+        _ => told(alloc, &tree, asked.rounds),
     };
     watch.stop()?;
-    Ok(Some(seen))
+    Ok(Some(seen?))
 }
 
 /// Numbers a tree, and returns how many nodes were numbered.

@@ -77,15 +77,16 @@ const BOLD: [Leaf; 1] = [Leaf {
 /// - `chain`: `size` nodes, each in the one before, and a leaf `ab` in the last;
 /// - `errors`: `size` leaves `ab` in one node, of which a tenth are errors.
 pub fn tree(alloc: Global, shape: &str, size: usize) -> Result<Option<SyntaxNode>> {
-    Ok(Some(match shape {
-        "wide" => wide(alloc, size)?,
-        "long" => long(alloc, size)?,
-        "ten" => ten(alloc, size)?,
-        "document" => document(alloc, size)?,
-        "chain" => chain(alloc, size)?,
-        "errors" => errors(alloc, size)?,
+    let made = match shape {
+        "wide" => wide(alloc, size),
+        "long" => long(alloc, size),
+        "ten" => ten(alloc, size),
+        "document" => document(alloc, size),
+        "chain" => chain(alloc, size),
+        "errors" => errors(alloc, size),
         _ => return Ok(None),
-    }))
+    };
+    Ok(Some(made?))
 }
 
 /// Makes leaves after those that are there.

@@ -78,13 +78,15 @@ pub fn typed(verb: &str) -> Option<Edit> {
 /// block. With the shape `far` the edits are made in turns in the first paragraph and in the last one.
 pub fn made(alloc: Global, watch: &mut Stopwatch<'_>, asked: Asked<'_>) -> Result<Option<usize>> {
     let text = match asked.shape {
-        "block" => block(alloc, asked.size)?,
-        _ => text(alloc, asked.size)?,
+        "block" => block(alloc, asked.size),
+        _ => text(alloc, asked.size),
     };
-    Ok(Some(match typed(asked.verb) {
-        Some(edit) => edited(alloc, watch, &text, edit, asked)?,
-        None => parsed(alloc, watch, &text, asked.rounds)?,
-    }))
+    let text = text?;
+    let seen = match typed(asked.verb) {
+        Some(edit) => edited(alloc, watch, &text, edit, asked),
+        None => parsed(alloc, watch, &text, asked.rounds),
+    };
+    Ok(Some(seen?))
 }
 
 /// Where the paragraph begins that is edited in a round, in bytes.

@@ -91,14 +91,14 @@ fn sums(alloc: Global, size: usize) -> Result<SyntaxNode> {
 
 /// Reads all parts of a node once.
 fn read(alloc: Global, node: &SyntaxNode, verb: &str) -> Result<usize> {
-    Ok(match verb {
-        "exprs" => exprs(node),
-        "items" => items(node),
-        "arg_items" => arg_items(node),
-        "str" => strings(alloc, node)?,
-        "math_shorthand" => arrows(node),
-        _ => operands(node),
-    })
+    match verb {
+        "exprs" => Ok(exprs(node)),
+        "items" => Ok(items(node)),
+        "arg_items" => Ok(arg_items(node)),
+        "str" => strings(alloc, node),
+        "math_shorthand" => Ok(arrows(node)),
+        _ => Ok(operands(node)),
+    }
 }
 
 /// How many expressions of markup are texts and spaces.

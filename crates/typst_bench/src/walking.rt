@@ -17,16 +17,20 @@ pub fn made(alloc: Global, watch: &mut Stopwatch<'_>, asked: Asked<'_>) -> Resul
     let mut sum = 0usize;
     watch.start()?;
     for _ in 0..asked.rounds {
-        let walked = match asked.verb {
-            "next_leaf" => onwards(alloc, &tree)?,
-            "prev_leaf" => backwards(alloc, &tree)?,
-            "children" => below(alloc, &LinkedNode::new(&tree), LEVELS)?,
-            _ => in_preorder(alloc, &tree)?,
-        };
-        sum = sum.saturating_add(walked);
+        sum = sum.saturating_add(walked(alloc, asked.verb, &tree)?);
     }
     watch.stop()?;
     Ok(Some(sum))
+}
+
+/// Walks over a tree once.
+fn walked(alloc: Global, verb: &str, tree: &SyntaxNode) -> Result<usize> {
+    match verb {
+        "next_leaf" => onwards(alloc, tree),
+        "prev_leaf" => backwards(alloc, tree),
+        "children" => below(alloc, &LinkedNode::new(tree), LEVELS),
+        _ => in_preorder(alloc, tree),
+    }
 }
 
 /// Walks from the first leaf to the last.

@@ -107,7 +107,7 @@ impl Run {
     /// Makes the run. Where a request was refused memory, all else must be as if that request hadn't been made.
     pub fn run(self, alloc: Global, requests: Requests) -> Result<End, Stop> {
         let whole = self.served(alloc, None)?;
-        let mut tree = numbered(alloc, self.tree, 2..self.end)?;
+        let mut tree = self.tree(alloc)?;
         let mut slots = self.slots(alloc, None)?;
         requests.make(alloc)?;
         if !tree.is_numbered() {
@@ -126,9 +126,14 @@ impl Run {
         }
     }
 
+    /// The tree. It is a clone, whose lists of children have no room for more.
+    fn tree(self, alloc: Global) -> Result<SyntaxNode, Stop> {
+        Ok(numbered(alloc, self.tree, 2..self.end)?.clone()?)
+    }
+
     /// The run over all requests but one.
     fn served(self, alloc: Global, but: Option<usize>) -> Result<Served, Stop> {
-        let mut tree = numbered(alloc, self.tree, 2..self.end)?;
+        let mut tree = self.tree(alloc)?;
         let mut slots = self.slots(alloc, but)?;
         if !tree.is_numbered() {
             return Err(Stop::Early);

@@ -1,8 +1,7 @@
 //! Calls on a chain of nodes, each inside the one before, with a text of two bytes in the last. bench/depth.py looks for
 //! the depths that a stack holds.
 //!
-//! A chain is forgotten after the call, so only the call `drop` uses the stack for dropping. What a call gives is looked
-//! at level by level, which uses no stack either.
+//! A chain is forgotten after the call, so only the call `drop` uses the stack for dropping.
 use crate::chains::{chain, chain_over, end_of};
 use crate::wide::numbered;
 use anyhow::Result;
@@ -43,7 +42,7 @@ fn read(alloc: Global, name: &str, root: &SyntaxNode, depth: usize) -> Result<Op
     let right = match name {
         "path" => is_as_deep(alloc, root, depth),
         "leaf_at" => is_leaf(alloc, root),
-        "clone" => is_cloned(root, depth),
+        "clone" => is_cloned(root),
         "compare" => is_equal(alloc, root, depth),
         "hash" => Ok(is_hashed(root)),
         "full_text" => is_whole(alloc, root),
@@ -66,10 +65,10 @@ fn is_whole(alloc: Global, root: &SyntaxNode) -> Result<bool> {
     Ok(root.full_text(alloc)?.as_str() == "ab")
 }
 
-/// Whether a clone is such a chain.
-fn is_cloned(root: &SyntaxNode, depth: usize) -> Result<bool> {
+/// Whether a clone equals the chain. Comparing takes less of the stack than cloning does.
+fn is_cloned(root: &SyntaxNode) -> Result<bool> {
     let same = root.clone()?;
-    let right = end_of(&same, depth).is_some_and(|leaf| leaf.leaf_text() == "ab");
+    let right = same == *root;
     mem::forget(same);
     Ok(right)
 }
