@@ -53,24 +53,44 @@ impl Viewing {
     /// Whether the answer is what the tree says.
     fn reads(self, alloc: Global, tree: &SyntaxNode) -> Result<bool, AllocError> {
         match self {
-            Viewing::StrGet => match tree.cast::<Str>() {
-                Some(view) => Ok(view.get(alloc)?.as_str() == "aA\\x"),
-                None => Ok(false),
-            },
+            Viewing::StrGet => reads_escapes(alloc, tree),
             Viewing::BareName => names_file(alloc, tree),
-            Viewing::KindBindings => match tree.cast::<LetBinding>() {
-                Some(view) => Ok(are_three(view.kind().bindings(alloc)?.as_slice())),
-                None => Ok(false),
-            },
-            Viewing::PatternBindings => match tree.cast::<Pattern>() {
-                Some(view) => Ok(are_three(view.bindings(alloc)?.as_slice())),
-                None => Ok(false),
-            },
-            Viewing::DestructuringBindings => match tree.cast::<Destructuring>() {
-                Some(view) => Ok(are_three(view.bindings(alloc)?.as_slice())),
-                None => Ok(false),
-            },
+            Viewing::KindBindings => binds_by_kind(alloc, tree),
+            Viewing::PatternBindings => binds_by_pattern(alloc, tree),
+            Viewing::DestructuringBindings => binds_by_parts(alloc, tree),
         }
+    }
+}
+
+/// Whether the string is read with its escapes.
+fn reads_escapes(alloc: Global, tree: &SyntaxNode) -> Result<bool, AllocError> {
+    match tree.cast::<Str>() {
+        Some(view) => Ok(view.get(alloc)?.as_str() == "aA\\x"),
+        None => Ok(false),
+    }
+}
+
+/// Whether the kind of the let binds the names.
+fn binds_by_kind(alloc: Global, tree: &SyntaxNode) -> Result<bool, AllocError> {
+    match tree.cast::<LetBinding>() {
+        Some(view) => Ok(are_three(view.kind().bindings(alloc)?.as_slice())),
+        None => Ok(false),
+    }
+}
+
+/// Whether the pattern binds the names.
+fn binds_by_pattern(alloc: Global, tree: &SyntaxNode) -> Result<bool, AllocError> {
+    match tree.cast::<Pattern>() {
+        Some(view) => Ok(are_three(view.bindings(alloc)?.as_slice())),
+        None => Ok(false),
+    }
+}
+
+/// Whether the destructuring itself binds the names.
+fn binds_by_parts(alloc: Global, tree: &SyntaxNode) -> Result<bool, AllocError> {
+    match tree.cast::<Destructuring>() {
+        Some(view) => Ok(are_three(view.bindings(alloc)?.as_slice())),
+        None => Ok(false),
     }
 }
 

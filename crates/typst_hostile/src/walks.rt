@@ -163,29 +163,52 @@ impl Walk {
         seen: &mut Vec<usize>,
     ) -> Result<(), AllocError> {
         match self {
-            Walk::Children => {
-                for child in node.children(alloc)? {
-                    see(Some(child?), seen)?;
-                }
-            }
-            Walk::ChildrenBack => {
-                for child in node.children(alloc)?.rev() {
-                    see(Some(child?), seen)?;
-                }
-            }
-            Walk::Preorder => {
-                for below in node.preorder(alloc)? {
-                    see(Some(below?), seen)?;
-                }
-            }
-            _ => {
-                for index in node.path(alloc)? {
-                    seen.push(index)?;
-                }
-            }
+            Walk::Children => see_children(alloc, node, seen),
+            Walk::ChildrenBack => see_children_back(alloc, node, seen),
+            Walk::Preorder => see_all_below(alloc, node, seen),
+            _ => see_path(alloc, node, seen),
         }
-        Ok(())
     }
+}
+
+/// Adds where the children are.
+fn see_children(alloc: Global, node: &LinkedNode, seen: &mut Vec<usize>) -> Result<(), AllocError> {
+    for child in node.children(alloc)? {
+        see(Some(child?), seen)?;
+    }
+    Ok(())
+}
+
+/// Adds where the children are, the last first.
+fn see_children_back(
+    alloc: Global,
+    node: &LinkedNode,
+    seen: &mut Vec<usize>,
+) -> Result<(), AllocError> {
+    for child in node.children(alloc)?.rev() {
+        see(Some(child?), seen)?;
+    }
+    Ok(())
+}
+
+/// Adds where the node is and all nodes below it are.
+fn see_all_below(
+    alloc: Global,
+    node: &LinkedNode,
+    seen: &mut Vec<usize>,
+) -> Result<(), AllocError> {
+    for below in node.preorder(alloc)? {
+        see(Some(below?), seen)?;
+    }
+    Ok(())
+}
+
+/// Adds the steps of the path to the node.
+fn see_path(alloc: Global, node: &LinkedNode, seen: &mut Vec<usize>) -> Result<(), AllocError> {
+    for index in node.path(alloc)? {
+        seen.push(index)?;
+    }
+    Ok(())
 }
 
 /// All nodes of a tree, in preorder.
