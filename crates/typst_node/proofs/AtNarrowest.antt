@@ -1,5 +1,5 @@
 -- What a reconciliation makes, given what is done at the narrowest place.
-use Rattle.std.proofs.Common.{◌≡◌, ◌-◌, ◌+◌, ◌<◌, ◌⊎◌, ℕ, List, length, Some, None, inl, inr, refl, sym, ap, subst, ◌∙◌, arith}
+use Rattle.std.proofs.Common.{◌≡◌, ◌-◌, ◌+◌, ◌⊎◌, ℕ, List, length, Some, None, inl, inr, refl, sym, ap, subst, ◌∙◌}
 use Rattle.std.specs.Prelude.{Result, Ok, Err, IfOk, IfErr, IsErrOf, OnOk}
 use Rattle.typst_node.specs.Tree.{Content, AsLeaf, AsError, AsInner, Tree, kind_of}
 use Rattle.typst_node.specs.Plain.{plain, unbounded}
@@ -16,7 +16,6 @@ use Rattle.typst_node.specs.Labels.{number}
 use Rattle.typst_node.specs.Moves.{NumberMoves, followed, no_moves}
 use Rattle.typst_node.specs.Following.{IsGone, IsFollowed, GoesOn, AllGoOnOrGo, StayInPlace, place_after}
 use Rattle.typst_node.specs.declared.node.reconcile.Reconciled.{Reconciled}
-use Rattle.typst_node.specs.declared.node.reconcile.Touched.{Touched}
 use Rattle.typst_node.specs.declared.node.reconcile.Touched.TheVariants.{Leaf, Window}
 use Rattle.typst_node.specs.declared.node.replace.Renumbered.{Renumbered}
 use Rattle.typst_node.specs.declared.node.replace.ReplaceError.{ReplaceError}

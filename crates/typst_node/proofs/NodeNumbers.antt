@@ -1,10 +1,10 @@
 -- All nodes of a numbered tree have numbers of its file, and the spans of these are followed as the numbers are.
-use Rattle.std.proofs.Common.{◌≡◌, ℕ, suc, zero, ◌+◌, ◌<◌, ◌≤◌, ◌^◌, Bool, true, false, ◌==◌, List, [], ◌∷◌, ◌++◌, length, map, get_or, take, drop, refl, sym, ap, subst, ◌∙◌, arith, Option, Some, None, eq-eqb}
-use Rattle.std.specs.Prelude.{slice_range, option_map, if◌then◌else◌, ◌&&◌, nat_le, nat_lt}
+use Rattle.std.proofs.Common.{◌≡◌, ℕ, suc, zero, ◌<◌, ◌≤◌, Bool, true, false, ◌==◌, List, [], ◌∷◌, ◌++◌, length, map, get_or, take, drop, refl, sym, ap, subst, ◌∙◌, arith, Some, None, eq-eqb}
+use Rattle.std.specs.Prelude.{slice_range, option_map, if◌then◌else◌}
 use Rattle.std.specs.List.{AllByRecursion, position_or_len}
 use Rattle.std.proofs.lemmas.Bool.Decides.{nat_tests}
 use Rattle.typst_base.specs.Span.{SpanParts, numbered}
-use Rattle.typst_node.specs.Tree.{Label, Forest, Tree, forest, trees}
+use Rattle.typst_node.specs.Tree.{Label, Tree, forest, trees}
 use Rattle.typst_node.specs.Preorder.{preorder, nodes}
 use Rattle.typst_node.specs.Labels.{number}
 use Rattle.typst_node.specs.Numbered.{IsNumberOf, IsNumberedFor}

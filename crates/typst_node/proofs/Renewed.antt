@@ -1,5 +1,5 @@
 -- What was noted of an edit, and the children after it, give its moves.
-use Rattle.std.proofs.Common.{◌≡◌, ℕ, ◌+◌, ◌-◌, ◌≤◌, List, [], ◌∷◌, ◌++◌, length, map, set, get_or, get_or-set_same, take, drop, refl, sym, ap, subst, ◌∙◌, arith, Option, length-take, length-drop}
+use Rattle.std.proofs.Common.{◌≡◌, ℕ, ◌+◌, ◌-◌, ◌≤◌, List, [], ◌∷◌, ◌++◌, length, map, set, get_or, get_or-set_same, sym, ap, subst, ◌∙◌, arith, Option, length-take, length-drop}
 use Rattle.std.specs.Prelude.{slice_range}
 use Rattle.std.specs.List.{splice}
 use Rattle.std.proofs.lemmas.List.{length-set}
@@ -12,7 +12,7 @@ use Rattle.typst_node.specs.PlainEdit.{edited}
 use Rattle.typst_node.specs.ChangedChildren.{kept_first, kept_last}
 use Rattle.typst_node.specs.Edit.{Edit, site_by}
 use Rattle.typst_node.specs.Accepted.{IsAccepted}
-use Rattle.typst_node.specs.Moves.{NumberMoves, AreNoted, AreMoves, numbers}
+use Rattle.typst_node.specs.Moves.{AreNoted, AreMoves, numbers}
 use Rattle.typst_node.specs.declared.node.moves.Noted.{Noted}
 use Rattle.typst_node.specs.declared.node.replace.Renumbered.{Renumbered}
 use Rattle.typst_node.proofs.Trees.{trees_of_forest}

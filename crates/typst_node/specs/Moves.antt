@@ -3,7 +3,7 @@ use Rattle.std.specs.Prelude.{ℕ, Bool, ◌≡◌, ◌-◌, ◌+◌, ◌^◌, �
 use Rattle.std.specs.List.{position_or_len}
 use Rattle.typst_base.specs.Span.{SpanParts, numbered}
 use Rattle.std.specs.declared.ops.Range.{Range}
-use Rattle.typst_node.specs.Tree.{Tree, forest, trees}
+use Rattle.typst_node.specs.Tree.{Tree, forest}
 use Rattle.typst_node.specs.Preorder.{preorder}
 use Rattle.typst_node.specs.Labels.{number}
 use Rattle.typst_node.specs.Window.{Site, site_of}

@@ -1,4 +1,4 @@
-use Rattle.std.proofs.Common.{ℕ, ◌<◌, List, sym, subst, Option, Some, None}
+use Rattle.std.proofs.Common.{ℕ, List, sym, subst, Some, None}
 use Rattle.typst_node.specs.Edit.{Fits}
 use Rattle.typst_node.specs.Accepted.{IsAccepted}
 use Rattle.typst_node.specs.Refusals.{IsRefusedFollowing}

@@ -1,8 +1,7 @@
-use Rattle.std.proofs.Common.{◌≡◌, ◌+◌, ◌-◌, ℕ, ◌<◌, arith, inl, inr, refl, sym, ap, subst, ◌∙◌, List}
-use Rattle.std.specs.Prelude.{Option, None, Some, Result, Ok, Err, IfErr, IfOk, IfSome, SomeIff}
+use Rattle.std.proofs.Common.{◌≡◌, arith, inr, sym, ap, subst, ◌∙◌}
+use Rattle.std.specs.Prelude.{Option, Some, Result, Ok, Err, IfSome}
 use Rattle.typst_node.specs.Tree.{Tree}
 use Rattle.typst_node.specs.Paths.{tree_at, trees_at}
-use Rattle.typst_node.specs.Numbered.{IsNumbered}
 use Rattle.typst_node.specs.Edit.{Edit, edit_of, site_by}
 use Rattle.typst_node.specs.Accepted.{IsAccepted}
 use Rattle.typst_node.specs.EditBelow.{IsReplacement}
@@ -119,3 +118,13 @@ returns-in-Ok-clause-file c =
     let made = answered (IsReplacement e.from e.to e.others c.growth.result (tree_at e.path t) (tree_at e.path new)) answer (Ok c.in-Ok.renumbered) is c.replace_below.ensures.at in
     let done : IsAccepted e t c.in-Ok.renumbered new = accepted e c.growth.result t new c.requires.fits c.growth.ensures (Ok c.in-Ok.renumbered) made (inr c.requires.numbered) c.replace_below.ensures.frame in
     ap (λ (m : NumberMoves). m.file) c.moves_at-moves.ensures ∙ ap Some (file_within t.label.span.file new done.numbered)
+
+pub returns-clause-refused : goal.returns-clause-refused
+returns-clause-refused c =
+    let t = c.args.self.now in
+    let new = c.replace_below.new.self in
+    let e = edit_of c.args.path.now c.args.range c.args.replacement.items in
+    let answer = c.replace_below.new.errand.answer in
+    let is : answer ≡ Some (Err c.in-Err.why) = c.unwrap.ensures ∙ ap Some c.in-Err.is in
+    let made = answered (IsReplacement e.from e.to e.others c.growth.result (tree_at e.path t) (tree_at e.path new)) answer (Err c.in-Err.why) is c.replace_below.ensures.at in
+    refused_following e c.growth.result t new c.requires.fits c.growth.ensures (Err c.in-Err.why) made
