@@ -1,12 +1,14 @@
 -- The children in a window, and numbers that differ.
-use Rattle.std.proofs.Common.{◌≡◌, ℕ, zero, suc, ◌+◌, ◌<◌, ◌≤◌, ◌==◌, ◌⊎◌, inl, inr, List, [], ◌∷◌, length, take, get_or, refl, sym, ap, ◌∙◌, arith, min}
+use Rattle.std.proofs.Common.{◌≡◌, ℕ, zero, suc, ◌+◌, ◌-◌, ◌<◌, ◌≤◌, ◌==◌, ◌⊎◌, inl, inr, List, [], ◌∷◌, length, take, drop, get_or, refl, sym, ap, ◌∙◌, arith, min, Bool, true, false}
 use Rattle.std.specs.Prelude.{if◌then◌else◌, nat_lt}
 use Rattle.std.proofs.lemmas.Bool.{ltb-true, ltb-false}
 use Rattle.std.proofs.lemmas.List.{get_or_past}
 use Rattle.typst_node.specs.Tree.{Tree, trees}
 use Rattle.typst_node.specs.Paths.{IsPath, no_tree, tree_at, trees_at}
 use Rattle.typst_node.proofs.FirstThatPasses.{bool_cases}
-use Rattle.typst_rows.specs.Report.{differing}
+use Rattle.typst_node.specs.declared.node.reconcile.Touched.TheVariants.{Window}
+use Rattle.typst_node.specs.declared.node.replace.Renumbered.{Renumbered}
+use Rattle.typst_rows.specs.Report.{differing, in_window}
 
 inside_or_past : (i n : ℕ) → (i < n) ⊎ (n ≤ i)
 inside_or_past i n = elim (bool_cases (nat_lt i n)) [ inl e ↦ inl (ltb-true i n e) | inr e ↦ inr (ltb-false i n e) ]
@@ -23,19 +25,38 @@ none_off (i ∷ path) t off = elim (inside_or_past i (length (trees t.children))
   | inr past ↦ ap (λ (u : Tree). trees (tree_at path u).children) (get_or_past (trees t.children) i no_tree past) ∙ none_below path
 ]
 
+drop_none : {X : Type 0} (n : ℕ) → drop {A = X} n [] ≡ []
+drop_none zero = refl
+drop_none (suc n) = refl
+
+take_none : {X : Type 0} (n : ℕ) → take {A = X} n [] ≡ []
+take_none zero = refl
+take_none (suc n) = refl
+
+pub no_window : (r : Renumbered) → in_window (Window r) [] ≡ []
+no_window r = ap (take (r.window.end - r.window.start)) (drop_none {X = Tree} r.window.start) ∙ take_none {X = Tree} (r.window.end - r.window.start)
+
 -- how many numbers differ among one more
+differing_next : (xs ys : List ℕ) (i : ℕ) → i < length xs → i < length ys
+    → differing (take (suc i) xs) (take (suc i) ys) ≡ differing (take i xs) (take i ys) + (if get_or xs i 0 == get_or ys i 0 then 0 else 1)
+differing_next [] ys i h k = absurd (omega arith)
+differing_next (x ∷ xs) [] i h k = absurd (omega arith)
+differing_next (x ∷ xs) (y ∷ ys) zero h k = omega arith
+differing_next (x ∷ xs) (y ∷ ys) (suc i) h k = let more = differing_next xs ys i (omega arith) (omega arith) in omega arith
+
 pub differing_more : (xs ys : List ℕ) (i : ℕ) → i < length xs → i < length ys
     → differing (take (i + 1) xs) (take (i + 1) ys) ≡ differing (take i xs) (take i ys) + (if get_or xs i 0 == get_or ys i 0 then 0 else 1)
-differing_more [] ys i h k = absurd (omega arith)
-differing_more (x ∷ xs) [] i h k = absurd (omega arith)
-differing_more (x ∷ xs) (y ∷ ys) zero h k = omega arith
-differing_more (x ∷ xs) (y ∷ ys) (suc i) h k = let more = differing_more xs ys i (omega arith) (omega arith) in omega arith
+differing_more xs ys i h k = let next : i + 1 ≡ suc i = omega arith in ap (λ n. differing (take n xs) (take n ys)) next ∙ differing_next xs ys i h k
+
+pub at_most_one : (b : Bool) → (if b then 0 else 1) ≤ 1
+at_most_one true = omega arith
+at_most_one false = omega arith
 
 pub differing_few : (xs ys : List ℕ) (i : ℕ) → differing (take i xs) (take i ys) ≤ i
 differing_few xs ys zero = omega arith
 differing_few [] ys (suc i) = omega arith
 differing_few (x ∷ xs) [] (suc i) = omega arith
-differing_few (x ∷ xs) (y ∷ ys) (suc i) = let few = differing_few xs ys i in omega arith
+differing_few (x ∷ xs) (y ∷ ys) (suc i) = omega (arith, differing_few xs ys i, at_most_one (x == y))
 
 -- all of them
 pub differing_all : (xs ys : List ℕ) (n : ℕ) → n ≡ min (length xs) (length ys) → differing (take n xs) (take n ys) ≡ differing xs ys

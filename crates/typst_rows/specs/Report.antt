@@ -38,13 +38,13 @@ differing (x ∷ xs) (y ∷ ys) = (if x == y then 0 else 1) + differing xs ys
 
 -- The report of an edit has its answer, and counts the bytes and nodes of the tree that the edit left. The nodes in the
 -- window that aren't among the moves are new, and the nodes whose numbers differ were moved.
-pub record Reports (done : Edited) (new : Tree) (report : EditReport) : Type 0 where
+pub record Reports (done : Edited) (after : Tree) (report : EditReport) : Type 0 where
   pub done_is : report.done ≡ done
-  pub bytes : report.bytes ≡ length (text new)
-  pub nodes : report.nodes ≡ count new
-  pub new : report.new ≡ count_of_all (touched_nodes done new) - length done.moves.news
+  pub bytes : report.bytes ≡ length (text after)
+  pub nodes : report.nodes ≡ count after
+  pub new : report.new ≡ count_of_all (touched_nodes done after) - length done.moves.news
   pub moved : report.moved ≡ differing done.moves.olds done.moves.news
-  pub numbers : report.numbers ≡ numbers_of (touched_nodes done new)
+  pub numbers : report.numbers ≡ numbers_of (touched_nodes done after)
 
 -- a node in the window is new if the moves don't lead to its number, and else it was moved, unless its number is the old one
 abbrev pub status_before : Option ℕ → ℕ → NodeStatus

@@ -1,8 +1,9 @@
 //! What an edit did, counted.
-ghost use Rattle.std.specs.Prelude.{ℕ, List, ◌≡◌, ◌-◌, ◌^◌, ◌<◌, drop, length, take};
+ghost use Rattle.std.specs.Prelude.{◌≡◌, ◌-◌, ◌^◌, ◌<◌, ◌==◌, if◌then◌else◌, Some, drop, take};
+ghost use Rattle.std.specs.List.{position_or_len};
 ghost use Rattle.typst_node.specs.Count.{count_of_all};
-ghost use Rattle.typst_node.specs.Tree.{trees};
-ghost use Rattle.typst_rows.specs.Report.{Reports, differing, numbers_of, status_of, touched_nodes};
+ghost use Rattle.typst_node.specs.Moves.{is_within};
+ghost use Rattle.typst_rows.specs.Report.{Reports, differing, numbers_of, status_before, status_of, touched_nodes};
 
 use std::ops::Range;
 use typst_linked::node_at;
@@ -73,21 +74,45 @@ impl EditReport {
     pub fn status(&self, number: u64) -> NodeStatus
         ensures { result ≡ status_of self.now.numbers self.now.done.moves number }
     {
-        if !self.numbers.contains(&number) {
+        if !is_in(&self.numbers, number) {
             return NodeStatus::Kept;
         }
         let (before, after) = self.done.moves.moved();
-        match after.iter().position(|now| *now == number) {
+        match before.get(index_of(after, number)) {
             None => NodeStatus::New,
-            Some(index) => {
-                if before.get(index) == Some(&number) {
-                    NodeStatus::Kept
-                } else {
-                    NodeStatus::Moved
-                }
-            }
+            Some(was) => status_from(*was, number),
         }
     }
+}
+
+/// Whether a number is in a range.
+fn is_in(range: &Range<u64>, number: u64) -> bool
+    ensures { result ≡ is_within range.now number }
+{
+    range.start <= number && number < range.end
+}
+
+/// What an edit did to a node that went on: the number that it had, and the one that it has.
+fn status_from(was: u64, number: u64) -> NodeStatus
+    ensures { result ≡ status_before (Some was) number }
+{
+    if was == number {
+        NodeStatus::Kept
+    } else {
+        NodeStatus::Moved
+    }
+}
+
+/// The index of the first of some numbers that is this one, or how many there are.
+fn index_of(numbers: &[u64], number: u64) -> usize
+    ensures { result ≡ position_or_len (λ x. x == number) numbers.now }
+{
+    for i in 0..numbers.len() {
+        if numbers[i] == number {
+            return i;
+        }
+    }
+    numbers.len()
 }
 
 /// The children in the window of an edit, and none if a leaf went on.
@@ -118,15 +143,20 @@ fn numbers_in(nodes: &[SyntaxNode]) -> Range<u64>
     }
 }
 
+/// 1 if two numbers differ, and 0 if not.
+fn differ(one: u64, other: u64) -> usize
+    ensures { result ≡ if one == other then 0 else 1 }
+{
+    if one == other { 0 } else { 1 }
+}
+
 /// How many numbers differ from those in the other list.
 fn count_differing(before: &[u64], after: &[u64]) -> usize
     ensures { result ≡ differing before.now after.now }
 {
     let mut sum = 0;
     for i in 0..before.len().min(after.len()) {
-        if before[i] != after[i] {
-            sum += 1;
-        }
+        sum += differ(before[i], after[i]);
     }
     sum
 }
