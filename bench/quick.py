@@ -23,6 +23,7 @@ import sys
 import tempfile
 import time
 from concurrent.futures import ThreadPoolExecutor, as_completed
+from itertools import zip_longest
 from pathlib import Path
 
 TOP = Path(__file__).resolve().parent.parent
@@ -82,9 +83,12 @@ def program(name):
 
 def compared(done, wanted, status=0):
     """Whether a command has printed what is in a file, and ended with this status."""
-    is_right = done.stdout == wanted.read_bytes() and done.returncode == status
-    how = f"status {done.returncode}, and {status} is wanted; standard output should be {wanted.relative_to(TOP)}\n"
-    return int(is_right), int(not is_right), how + told(done)
+    text = wanted.read_bytes()
+    is_right = done.stdout == text and done.returncode == status
+    lines = zip_longest(done.stdout.splitlines(), text.splitlines())
+    differing = next(((at, *both) for at, both in enumerate(lines, 1) if both[0] != both[1]), None)
+    how = f"line {differing[0]} is {differing[1]!r}, and {wanted.relative_to(TOP)} has {differing[2]!r}\n" if differing else ""
+    return int(is_right), int(not is_right), f"status {done.returncode}, and {status} is wanted\n{how}{told(done)}"
 
 
 def scripts(ending):
