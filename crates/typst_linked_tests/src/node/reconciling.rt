@@ -321,7 +321,11 @@ fn are_followed(rt: &impl std::process::Abort, moves: &Moves) {
         assert_row(rt, row.shows, found == wanted);
     }
     let bytes = Span::from_range(FileId::FIRST, 5..7);
-    assert_row(rt, "a range of bytes stays", moves.follow_span(bytes) == Some(bytes));
+    assert_row(
+        rt,
+        "a range of bytes stays",
+        moves.follow_span(bytes) == Some(bytes),
+    );
     let nowhere = Span::detached();
     let found = moves.follow_span(nowhere);
     assert_row(rt, "a detached span stays", found == Some(nowhere));
