@@ -1,6 +1,6 @@
 -- What a reconciliation makes, given what is done at the narrowest place.
-use Rattle.std.proofs.Common.{◌≡◌, ◌-◌, ◌+◌, ◌<◌, ◌⊎◌, ℕ, List, length, Some, None, inl, inr, refl, sym, ap, subst, ◌∙◌, arith}
-use Rattle.std.specs.Prelude.{Result, Ok, Err, IfOk, IfErr, IsErrOf, OnOk, Option, SomeIff}
+use Rattle.std.proofs.Common.{◌≡◌, ◌-◌, ◌+◌, ◌⊎◌, ℕ, List, length, Some, None, inl, inr, refl, sym, ap, subst, ◌∙◌}
+use Rattle.std.specs.Prelude.{Result, Ok, Err, IfOk, IfErr, IsErrOf, OnOk}
 use Rattle.typst_node.specs.Tree.{Content, AsLeaf, AsError, AsInner, Tree, kind_of}
 use Rattle.typst_node.specs.Plain.{plain, unbounded}
 use Rattle.typst_node.specs.Paths.{tree_at, trees_at}
@@ -13,10 +13,9 @@ use Rattle.typst_node.specs.Outside.{KeepsBeside}
 use Rattle.typst_node.specs.Narrower.{EndsWithoutLeaf, GoesOnAs, GoesOnWithin, IsLowest, IsNarrowest}
 use Rattle.typst_node.specs.Reconciled.{IsReconciled, IsLeafKept, IsUnreconciledBy, KeepsNumbers}
 use Rattle.typst_node.specs.Labels.{number}
-use Rattle.typst_node.specs.Moves.{NumberMoves, followed, in_file, no_moves}
+use Rattle.typst_node.specs.Moves.{NumberMoves, followed, no_moves}
 use Rattle.typst_node.specs.Following.{IsGone, IsFollowed, GoesOn, AllGoOnOrGo, StayInPlace, place_after}
 use Rattle.typst_node.specs.declared.node.reconcile.Reconciled.{Reconciled}
-use Rattle.typst_node.specs.declared.node.reconcile.Touched.{Touched}
 use Rattle.typst_node.specs.declared.node.reconcile.Touched.TheVariants.{Leaf, Window}
 use Rattle.typst_node.specs.declared.node.replace.Renumbered.{Renumbered}
 use Rattle.typst_node.specs.declared.node.replace.ReplaceError.{ReplaceError}
@@ -52,41 +51,28 @@ all_in_place old new m stay p at =
     let here = stay p at in
     inl (p, here.0, here.2, here.3 ∙ ap Some (sym here.1))
 
--- moves are followed in the file, too
-followed_in : (id : Option ℕ) (f : Edit) (old new : Tree) (m : NumberMoves) → IsFollowed f old new m → IsFollowed f old new (in_file id m)
-followed_in id f old new m moves = record {
-  stays = λ p path out. let same = moves.stays p path out in record { path = same.path; plain = same.plain; number = same.number };
-  gone = moves.gone;
-  others = moves.others;
-}
-
 module _ (e : Edit) (old : Tree) (f : Edit) (fit : Fits e old) where
   -- an edit was accepted at the narrowest place
   pub fits_narrow : IsNarrowest e old f → Fits f old
   fits_narrow narrowest = leads_fits GoesOnWithin as_within narrowest.steps e old f fit narrowest.leads
 
-  pub accepted_there : (id : Option ℕ) (r : Renumbered) (m : NumberMoves) (new : Tree) → SomeIff id (0 < old.label.span.file) old.label.span.file → IsNumbered old → IsNarrowest e old f → EndsWithoutLeaf e old → IsAccepted f old r new
-      → IsFollowed f old new m → IsReconciled e old f.path (Window r) (in_file id m) new
-  accepted_there id r m new file numbered narrowest none accepted moves =
+  pub accepted_there : (r : Renumbered) (m : NumberMoves) (new : Tree) → m.file ≡ Some old.label.span.file → IsNumbered old → IsNarrowest e old f → EndsWithoutLeaf e old → IsAccepted f old r new
+      → IsFollowed f old new m → IsReconciled e old f.path (Window r) m new
+  accepted_there r m new file numbered narrowest none accepted moves =
       let same_edit : plain (edited_by f old) ≡ plain (edited_by e old) = leads_plain GoesOnWithin as_within narrowest.steps e old f fit narrowest.leads in
       let whole : plain new ≡ plain (edited_by e old) = accepted.plain ∙ same_edit in
       let is : old.label.span.file ≡ numbered.0 = file_within numbered.0 old numbered.2 in
-      let some : id ≡ Some numbered.0 = filed id old.label.span.file (omega (arith, is, numbered.1)) file ∙ ap Some is in
       record {
-        made = record { no_leaf = none; narrowest = f; is_narrowest = narrowest; path_is = refl; accepted = accepted; followed = followed_in id f old new m moves };
+        made = record { no_leaf = none; narrowest = f; is_narrowest = narrowest; path_is = refl; accepted = accepted; followed = moves };
         sums = tree_fits_alike (edited_by f old) (edited_by e old) same_edit accepted.sums;
         plain = whole;
         reads = tells_alike new (edited_by e old) whole;
         numbered = accepted.numbered;
         outside = accepted.outside;
         all = all_followed f old new m moves;
-        spans = spans_follow numbered.0 old (in_file id m) numbered.1 numbered.2 some;
+        spans = spans_follow numbered.0 old m numbered.1 numbered.2 (file ∙ ap Some is);
         still = tt;
       }
-    where
-      filed : (o : Option ℕ) (n : ℕ) → 0 < n → SomeIff o (0 < n) n → o ≡ Some n
-      filed (Some x) n h is = ap Some is.1
-      filed None n h never = absurd (never h)
 
 -- a leaf went on at the lowest place
 module _ (e : Edit) (old : Tree) (f : Edit) (fit : Fits e old) (lowest : IsLowest e old f) where

@@ -62,12 +62,10 @@ at_cons path n rest from to others g t u olds news o is kids children h =
     subst (λ (p : List ℕ). IfSome o (IsReplacement from to others g (tree_at p t) (tree_at p u))) (sym is) whole
 
 -- what holds of the trees at the rest of a path holds of those at the path
-pub any_cons : (P : Tree → Tree → Type 0) (path : List ℕ) (n : ℕ) (rest : List ℕ) (t u : Tree) (olds news : List Tree) → path ≡ n ∷ rest → trees t.children ≡ olds → u.children ≡ forest news
-    → P (tree_at rest (get_or olds n no_tree)) (tree_at rest (get_or news n no_tree)) → P (tree_at path t) (tree_at path u)
-any_cons P path n rest t u olds news is kids children h =
-    let now : news ≡ trees u.children = sym (ap trees children ∙ trees_of_forest news) in
-    let whole : P (tree_at (n ∷ rest) t) (tree_at (n ∷ rest) u) = coe 0 1 (i. P (tree_at rest (get_or (sym kids i) n no_tree)) (tree_at rest (get_or (now i) n no_tree))) h in
-    subst (λ (p : List ℕ). P (tree_at p t) (tree_at p u)) (sym is) whole
+pub here_cons : (P : Tree → Type 0) (path : List ℕ) (n : ℕ) (rest : List ℕ) (t : Tree) (olds : List Tree) → path ≡ n ∷ rest → trees t.children ≡ olds → P (tree_at rest (get_or olds n no_tree)) → P (tree_at path t)
+here_cons P path n rest t olds is kids h =
+    let whole : P (tree_at (n ∷ rest) t) = subst (λ (ts : List Tree). P (tree_at rest (get_or ts n no_tree))) (sym kids) h in
+    subst (λ (p : List ℕ). P (tree_at p t)) (sym is) whole
 
 -- the plain trees of children
 plain_trees : (f : Forest) → map plain (trees f) ≡ trees (plain_forest f)

@@ -44,6 +44,7 @@ pub mod Narrowed
 pub mod OnlyChange
 pub mod LeafKept
 pub mod NodeNumbers
+pub mod Renewed
 pub mod Trails
 pub mod AtNarrowest
 pub mod Measured

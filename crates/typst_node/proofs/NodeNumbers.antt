@@ -1,16 +1,15 @@
 -- All nodes of a numbered tree have numbers of its file, and the spans of these are followed as the numbers are.
-use Rattle.std.proofs.Common.{◌≡◌, ℕ, suc, zero, ◌+◌, ◌<◌, ◌≤◌, ◌^◌, Bool, true, false, ◌==◌, List, [], ◌∷◌, ◌++◌, length, map, get_or, take, drop, refl, sym, ap, subst, ◌∙◌, arith, Option, Some, None, eq-eqb}
-use Rattle.std.specs.Prelude.{slice_range, option_map, if◌then◌else◌, ◌&&◌, nat_le, nat_lt}
+use Rattle.std.proofs.Common.{◌≡◌, ℕ, suc, zero, ◌<◌, ◌≤◌, Bool, true, false, ◌==◌, List, [], ◌∷◌, ◌++◌, length, map, get_or, take, drop, refl, sym, ap, subst, ◌∙◌, arith, Some, None, eq-eqb}
+use Rattle.std.specs.Prelude.{slice_range, option_map, if◌then◌else◌}
 use Rattle.std.specs.List.{AllByRecursion, position_or_len}
 use Rattle.std.proofs.lemmas.Bool.Decides.{nat_tests}
 use Rattle.typst_base.specs.Span.{SpanParts, numbered}
-use Rattle.typst_node.specs.Tree.{Label, Forest, Tree, forest, trees}
+use Rattle.typst_node.specs.Tree.{Label, Tree, forest, trees}
 use Rattle.typst_node.specs.Preorder.{preorder, nodes}
 use Rattle.typst_node.specs.Labels.{number}
 use Rattle.typst_node.specs.Numbered.{IsNumberOf, IsNumberedFor}
 use Rattle.typst_node.specs.Paths.{IsPath, no_tree, tree_at, trees_at}
-use Rattle.typst_node.specs.Window.{Site}
-use Rattle.typst_node.specs.Moves.{NumberMoves, AreMoves, IsNodeNumber, numbers, stay_after, is_within, is_file, is_span_in, followed, followed_span, in_file, no_moves}
+use Rattle.typst_node.specs.Moves.{NumberMoves, IsNodeNumber, numbers, is_within, is_file, is_span_in, followed, followed_span, no_moves}
 use Rattle.typst_node.specs.Following.{SpansFollow}
 use Rattle.typst_node.proofs.Trees.{forest-trees}
 use Rattle.typst_node.proofs.Settled.{preorder_append}
@@ -78,14 +77,11 @@ only_numbers : (file : ℕ) (ls : List Label) → AllByRecursion (IsNumberOf fil
 only_numbers file [] h = tt
 only_numbers file (l ∷ ls) h = ((h.0.1, h.0.2), only_numbers file ls h.1)
 
--- the new numbers of moves are numbers of nodes
-pub new_numbers : (file : ℕ) (path : List ℕ) (s : Site) (window : _) (new : Tree) (m : NumberMoves) → IsNumberedFor file new → AreMoves s window (trees_at path new) m → AllByRecursion IsNodeNumber m.news
-new_numbers file path s window new m n are =
-    let kids = hold_below (IsNumberOf file) path new n.in_file.1 in
-    let one = hold_part (IsNumberOf file) window.start (length s.before) (trees_at path new) kids in
-    let two = hold_part (IsNumberOf file) (length s.before + length s.changed) window.end (trees_at path new) kids in
-    subst (AllByRecursion IsNodeNumber) (sym are.news)
-    (only_numbers file (preorder (forest (stay_after s window (trees_at path new)))) (hold_both (IsNumberOf file) _ _ one two))
+-- the numbers of parts of the children at a path are numbers of nodes
+pub some_numbers : (file : ℕ) (path : List ℕ) (t : Tree) (a b c d : ℕ) → IsNumberedFor file t → AllByRecursion IsNodeNumber (numbers (slice_range (trees_at path t) a b ++ slice_range (trees_at path t) c d))
+some_numbers file path t a b c d n =
+    let kids = hold_below (IsNumberOf file) path t n.in_file.1 in
+    only_numbers file (preorder (forest (slice_range (trees_at path t) a b ++ slice_range (trees_at path t) c d))) (hold_both (IsNumberOf file) _ _ (hold_part (IsNumberOf file) a b (trees_at path t) kids) (hold_part (IsNumberOf file) c d (trees_at path t) kids))
 
 -- a number that is followed to another one comes to a number of a node
 listed : (xs : List ℕ) (i n : ℕ) → AllByRecursion IsNodeNumber xs → IsNodeNumber n → IsNodeNumber (get_or xs i n)

@@ -12,7 +12,8 @@ use Rattle.typst_node.specs.Numbered.{Rise}
 use Rattle.typst_node.specs.OpenNumbers.{open_from, open_to}
 use Rattle.typst_node.specs.Window.{Site, site_at}
 use Rattle.typst_node.specs.WindowNumbers.{open_start, open_end}
-use Rattle.typst_node.specs.Moves.{NumberMoves, AreNoted, numbers, stay_before, stay_after}
+use Rattle.typst_node.specs.Moves.{AreNoted, numbers, stay_before, stay_after}
+use Rattle.typst_node.specs.declared.node.moves.Noted.{Noted}
 use Rattle.typst_node.proofs.Plain.{same_count_of_all}
 use Rattle.typst_node.proofs.Opens.{count_append}
 use Rattle.typst_node.proofs.Replaced.{whole_parts, drop_window}
@@ -129,9 +130,9 @@ module _ (first upper from to : ℕ) (ys xs : List Tree) (window : Range ℕ) (o
     pub room_back : count_of_all (slice_range us (from + length ys) window.end) ≡ count_of_all (slice_range xs to last)
     room_back = same_count_of_all (slice_range us (from + length ys) window.end) (slice_range xs to last) plain_back
 
-    pub room_after : (m : NumberMoves) → AreNoted site window m → length m.news ≡ count_of_all (slice_range us window.start from) + count_of_all (slice_range us (from + length ys) window.end)
+    pub room_after : (m : Noted) → AreNoted site window m → length m.room.items ≡ count_of_all (slice_range us window.start from) + count_of_all (slice_range us (from + length ys) window.end)
     room_after m h =
-        let all : length m.olds ≡ count_of_all (slice_range xs window.start from ++ slice_range xs to last) = ap length (h.olds ∙ ap numbers stays) ∙ length_numbers (slice_range xs window.start from ++ slice_range xs to last) in
+        let all : length m.olds.items ≡ count_of_all (slice_range xs window.start from ++ slice_range xs to last) = ap length (h.olds ∙ ap numbers stays) ∙ length_numbers (slice_range xs window.start from ++ slice_range xs to last) in
         omega (arith, all, h.room, count_append (slice_range xs window.start from) (slice_range xs to last), room_front, room_back)
 
     pub within_after : window.end ≤ length us

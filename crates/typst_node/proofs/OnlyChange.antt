@@ -20,7 +20,7 @@ use Rattle.typst_node.specs.declared.node.SyntaxNode.TheInside.{Inside}
 use Rattle.typst_node.proofs.Trees.{drop_next}
 use Rattle.typst_node.proofs.Settled.{slice_one}
 use Rattle.typst_node.proofs.Outside.{get_drop, p_old, p_new, e_old, e_new}
-use Rattle.typst_node.proofs.SamePlain.{many_alike, one_alike}
+use Rattle.typst_node.proofs.SamePlain.{one_alike}
 
 -- after the longest common beginning nothing is alike at the beginning
 first_after : (ts us : List Tree) → common_first (drop (common_first ts us) ts) (drop (common_first ts us) us) ≡ 0

@@ -1,6 +1,6 @@
 -- A trail leads down to the narrowest place of an edit.
-use Rattle.std.proofs.Common.{◌≡◌, ℕ, suc, zero, ◌+◌, ◌-◌, ◌<◌, ◌≤◌, ◌⊎◌, inl, inr, Bool, true, false, List, [], ◌∷◌, ◌++◌, length, map, get_or, take, drop, reverse, refl, sym, ap, subst, ◌∙◌, arith, Option, Some, None, length-drop}
-use Rattle.std.specs.Prelude.{slice_range, nat_lt, if◌then◌else◌}
+use Rattle.std.proofs.Common.{◌≡◌, ℕ, suc, zero, ◌+◌, ◌-◌, ◌<◌, ◌≤◌, ◌⊎◌, inl, inr, Bool, true, false, List, [], ◌∷◌, length, map, get_or, take, drop, reverse, refl, sym, ap, subst, ◌∙◌, arith, Option, Some, None, length-drop}
+use Rattle.std.specs.Prelude.{nat_lt, if◌then◌else◌}
 use Rattle.std.proofs.lemmas.Bool.{lt-ltb, le-ltb, cases_lt}
 use Rattle.std.proofs.lemmas.List.{reverse-append, take_all}
 use Rattle.typst_node.specs.Tree.{Tree, trees, IsInner}
@@ -10,9 +10,8 @@ use Rattle.typst_node.specs.Count.{count}
 use Rattle.typst_node.specs.Paths.{no_tree, tree_at, trees_at, with_children}
 use Rattle.typst_node.specs.Edit.{Edit, Fits, site_by}
 use Rattle.typst_node.specs.EditBelow.{child_of}
-use Rattle.typst_node.specs.Narrower.{IsOnlyChange, GoesOnAs, GoesOnWithin, HasNumbersFor, EndsOnAs, EndsWithoutLeaf, HasNoLeaf, IsStep, IsLast, IsLowest, IsNarrowest, LeadsTo, edit_inside}
+use Rattle.typst_node.specs.Narrower.{GoesOnAs, GoesOnWithin, EndsOnAs, HasNoLeaf, IsStep, IsLast, LeadsTo, edit_inside}
 use Rattle.typst_node.specs.Narrowing.{IsOnlyPair, IsLeafPair, IsTrail, IsTrailOf, IsTraced, IsEmptyTrail, ArePaired, NoneGoesOn, LeadOn, LeadDown, RaisesBy, IsNarrowedTo, edit_along, replaced_by, steps_within}
-use Rattle.typst_node.specs.declared.node.narrow.Pair.{Pair}
 use Rattle.typst_node.specs.declared.node.narrow.Trail.{Trail}
 use Rattle.typst_node.specs.declared.node.narrow.Paired.{Paired}
 use Rattle.typst_node.specs.declared.node.narrow.Paired.TheVariants.{Alike, GoesOn, Ends, Other}
@@ -22,7 +21,7 @@ use Rattle.typst_node.proofs.Outside.{get_drop}
 use Rattle.typst_node.proofs.EditStep.{kids_plain}
 use Rattle.typst_node.proofs.EditsBelow.{plain_kids}
 use Rattle.typst_node.proofs.Put.{child_at}
-use Rattle.typst_node.proofs.SamePlain.{one_alike, many_alike}
+use Rattle.typst_node.proofs.SamePlain.{one_alike}
 use Rattle.typst_node.proofs.OnlyChange.{IsPairAt, pair_changes, change_is_pair, at_slice, taken}
 use Rattle.typst_node.proofs.Narrowed.{only_same, step_fits, leads_cons, as_it_is, as_within, goes_on_plain}
 

@@ -5,7 +5,7 @@ use Rattle.typst_node.specs.PlainEdit.{FitsInner}
 use Rattle.typst_node.specs.Edit.{IsNumberedOrUnfiled}
 use Rattle.typst_node.specs.Growth.{CanGrow}
 use Rattle.typst_node.specs.EditBelow.{IsReplacement}
-use Rattle.typst_node.specs.Moves.{AreMovesOf}
+use Rattle.typst_node.specs.Moves.{AreNotedFor}
 use Rattle.typst_node.specs.declared.node.replace.ReplaceError.TheVariants.{Memory}
 use Rattle.typst_node.specs.declared.node.replace_at.Errand.{Errand}
 
@@ -22,13 +22,12 @@ IsErrand path e t = (e.answer ≡ None) × CanGrow e.edit.growth t × (FitsAt pa
 abbrev pub IsCarriedOut : Errand → Errand → Tree → Tree → Type 0
 IsCarriedOut before after old new = IfSome after.answer (IsReplacement before.edit.from before.edit.to before.edit.others.items before.edit.growth old new)
 
--- the moves, if the errand asks for them, are those of its replacement
-abbrev pub HasMoves : Errand → Errand → Tree → Tree → Type 0
-HasMoves before after old new =
-    IfSome after.answer (AreMovesOf before.edit.from before.edit.to before.edit.others.items old new after.moves)
+-- what is noted, if the errand asks for it, is that of its replacement in this node
+abbrev pub IsNoted : Errand → Errand → Tree → Type 0
+IsNoted before after old = IfSome after.answer (AreNotedFor before.edit.from before.edit.to before.edit.others.items old after.noted)
 
--- unless the errand asks for moves, it needs memory only if the number of children grows
+-- unless the errand asks for a note, it needs memory only if the number of children grows
 abbrev pub IsSparing : Errand → Errand → Type 0
 IsSparing before after =
-    IsNone before.moves → length before.edit.others.items ≤ before.edit.to - before.edit.from
+    IsNone before.noted → length before.edit.others.items ≤ before.edit.to - before.edit.from
     → IfSome after.answer (λ answer. ¬ (IsErrOf answer Memory))

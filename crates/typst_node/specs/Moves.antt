@@ -3,11 +3,13 @@ use Rattle.std.specs.Prelude.{ℕ, Bool, ◌≡◌, ◌-◌, ◌+◌, ◌^◌, �
 use Rattle.std.specs.List.{position_or_len}
 use Rattle.typst_base.specs.Span.{SpanParts, numbered}
 use Rattle.std.specs.declared.ops.Range.{Range}
-use Rattle.typst_node.specs.Tree.{Tree, forest, trees}
+use Rattle.typst_node.specs.Tree.{Tree, forest}
 use Rattle.typst_node.specs.Preorder.{preorder}
 use Rattle.typst_node.specs.Labels.{number}
 use Rattle.typst_node.specs.Window.{Site, site_of}
 use Rattle.typst_node.specs.WindowNumbers.{open_start, open_end}
+use Rattle.typst_node.specs.Numbered.{Rise}
+use Rattle.typst_node.specs.declared.node.moves.Noted.{Noted}
 use Rattle.typst_node.specs.declared.node.replace.Renumbered.{Renumbered}
 use Rattle.typst_node.specs.declared.node.replace.ReplaceError.{ReplaceError}
 
@@ -48,10 +50,6 @@ is_span_in m s = nat_lt 0 s.file && is_file m.file s.file && is_within record { 
 abbrev pub followed_span : NumberMoves → SpanParts → Option SpanParts
 followed_span m s = if is_span_in m s then option_map (numbered s.file) (followed m s.low) else Some s
 
--- the moves of numbers in a file
-abbrev pub in_file : Option ℕ → NumberMoves → NumberMoves
-in_file file m = record { file = file; olds = m.olds; news = m.news; gone = m.gone }
-
 -- no node moves, and none is gone
 abbrev pub no_moves : NumberMoves
 no_moves = record { file = None; olds = []; news = []; gone = record { start = 0; end = 0 } }
@@ -65,11 +63,15 @@ abbrev pub stay_after : Site → Range ℕ → List Tree → List Tree
 stay_after s window kids =
     slice_range kids window.start (length s.before) ++ slice_range kids (length s.before + length s.changed) window.end
 
--- The moves of such an edit before it is made: there is room for the new numbers.
-pub record AreNoted (s : Site) (window : Range ℕ) (m : NumberMoves) : Type 0 where
-  pub olds : m.olds ≡ numbers (stay_before s window)
-  pub room : length m.news ≡ length m.olds
+-- What is noted of such an edit before it is made: the numbers of the children that stay in its window, room for others,
+-- the numbers that are gone, and how many children stay on each side.
+pub record AreNoted (s : Site) (window : Range ℕ) (m : Noted) : Type 0 where
+  pub olds : m.olds.items ≡ numbers (stay_before s window)
+  pub rise : Rise m.olds.items
+  pub room : length m.room.items ≡ length m.olds.items
   pub gone : m.gone ≡ record { start = open_start s 0; end = open_end s 0 }
+  pub ahead : window.start + m.ahead ≡ length s.before
+  pub behind : m.behind + (length s.before + length s.changed) ≡ window.end
 
 -- The moves of an edit with this window and with these children after it: the children that stay in the window have new
 -- numbers. The numbers between the neighbours of the replaced children are those of nodes that are gone.
@@ -78,7 +80,6 @@ pub record AreMoves (s : Site) (window : Range ℕ) (kids : List Tree) (m : Numb
   pub news : m.news ≡ numbers (stay_after s window kids)
   pub gone : m.gone ≡ record { start = open_start s 0; end = open_end s 0 }
 
--- The moves, if they are asked for, are those of the answer to a replacement of children of a node.
-abbrev pub AreMovesOf : ℕ → ℕ → List Tree → Tree → Tree → Option NumberMoves → Result Renumbered ReplaceError → Type 0
-AreMovesOf from to others old new moves result =
-    IfOk result (λ r. IfSome moves (AreMoves (site_of from to others old) r.window (trees new.children)))
+-- what is noted, if it is asked for, is that of the answer to a replacement of children of a node
+abbrev pub AreNotedFor : ℕ → ℕ → List Tree → Tree → Option Noted → Result Renumbered ReplaceError → Type 0
+AreNotedFor from to others old noted result = IfOk result (λ r. IfSome noted (AreNoted (site_of from to others old) r.window))

@@ -3,7 +3,7 @@ ghost use Rattle.std.specs.Prelude.{◌≡◌, ◌+◌, ◌^◌, ◌<◌, ◌++�
 ghost use Rattle.std.specs.List.{AllByRecursion};
 ghost use Rattle.typst_node.specs.Count.{count_of_all};
 ghost use Rattle.typst_node.specs.Numbered.{Rise};
-ghost use Rattle.typst_node.specs.Moves.{IsNodeNumber, numbers, followed, followed_span, in_file, no_moves};
+ghost use Rattle.typst_node.specs.Moves.{IsNodeNumber, numbers, followed, followed_span, no_moves};
 
 use crate::node::SyntaxNode;
 use crate::node::window::count_all;
@@ -12,26 +12,18 @@ use std::marker::Model;
 use std::ops::Range;
 use typst_base::{FileId, Span, SpanNumber};
 
-/// Numbers of the nodes that stay in a window, and the numbers of the nodes that an edit takes away.
-#[derive(Clone, Debug, Drop)]
+/// What is noted of the nodes that stay in a window before the edit is made.
+#[derive(Drop)]
 pub(super) struct Noted {
-    // The numbers that the nodes had, in rising order, and those that they have now.
-    olds: Vec<u64>,
-    news: Vec<u64>,
-    // The numbers between the neighbours of the replaced nodes.
-    gone: Range<u64>,
-}
-
-impl Model for Noted {
-    ghost use Rattle.std.specs.Prelude.{◌≡◌, length, None};
-    ghost use Rattle.typst_node.specs.Numbered.{Rise};
-    ghost use Rattle.typst_node.specs.Moves.{NumberMoves};
-
-    ghost Value = { NumberMoves };
-
-    ghost view = { λ m. record { file = None; olds = m.olds.items; news = m.news.items; gone = m.gone } };
-
-    ghost invariant = { λ m. Rise m.olds.items × (length m.news.items ≡ length m.olds.items) };
+    /// Their numbers, in rising order.
+    pub(super) olds: Vec<u64>,
+    /// Room for the numbers that they get.
+    pub(super) room: Vec<u64>,
+    /// The numbers between the neighbours of the replaced nodes.
+    pub(super) gone: Range<u64>,
+    /// How many children stay in the window before the replaced ones, and how many after them.
+    pub(super) ahead: usize,
+    pub(super) behind: usize,
 }
 
 /// Where the nodes of a tree are after an edit, by their numbers.
@@ -42,18 +34,25 @@ impl Model for Noted {
 pub struct Moves {
     // The tree's file, unless no node moves or goes.
     id: Option<FileId>,
-    noted: Noted,
+    // The numbers that the nodes in the window had, in rising order, and those that they have now.
+    olds: Vec<u64>,
+    news: Vec<u64>,
+    // The numbers between the neighbours of the replaced nodes.
+    gone: Range<u64>,
 }
 
 impl Model for Moves {
+    ghost use Rattle.std.specs.Prelude.{◌≡◌, length};
     ghost use Rattle.std.specs.List.{AllByRecursion};
-    ghost use Rattle.typst_node.specs.Moves.{NumberMoves, IsNodeNumber, in_file};
+    ghost use Rattle.typst_node.specs.Numbered.{Rise};
+    ghost use Rattle.typst_node.specs.Moves.{NumberMoves, IsNodeNumber};
 
     ghost Value = { NumberMoves };
 
-    ghost view = { λ m. in_file m.id m.noted };
+    ghost view = { λ m. record { file = m.id; olds = m.olds.items; news = m.news.items; gone = m.gone } };
 
-    ghost invariant = { λ m. AllByRecursion IsNodeNumber m.noted.news };
+    ghost invariant = { λ m. Rise m.olds.items × (length m.news.items ≡ length m.olds.items)
+        × AllByRecursion IsNodeNumber m.news.items };
 }
 
 /// Writes the numbers of the trees' nodes, in preorder.
@@ -90,19 +89,18 @@ fn zeros(alloc: Global, count: usize) -> Result<Vec<u64>, AllocError>
 }
 
 impl Noted {
-    /// The numbers of an edit that changes nothing.
-    pub(super) fn none(alloc: Global) -> Noted
-        ensures { result ≡ no_moves }
-    {
+    /// What is noted of no nodes.
+    pub(super) fn none(alloc: Global) -> Noted {
         Noted {
             olds: Vec::new(alloc),
-            news: Vec::new(alloc),
+            room: Vec::new(alloc),
             gone: 0..0,
+            ahead: 0,
+            behind: 0,
         }
     }
 
-    /// The numbers of the nodes that stay in a window, before the edit, and room for those after it. The numbers `gone`
-    /// are between the two rows.
+    /// Notes the numbers of the nodes of two rows of trees, and room for others. The numbers `gone` are between the rows.
     pub(super) fn note(
         alloc: Global,
         ahead: &[SyntaxNode],
@@ -110,40 +108,24 @@ impl Noted {
         gone: Range<u64>,
     ) -> Result<Noted, AllocError>
         requires fits { count_of_all ahead.now + count_of_all behind.now < 2 ^ 64 }
-        requires rise { Rise (numbers (ahead.now ++ behind.now)) }
-        ensures olds { IfOk result (λ noted. noted.olds ≡ numbers (ahead.now ++ behind.now)) }
-        ensures room { IfOk result (λ noted. length noted.news ≡ count_of_all ahead.now + count_of_all behind.now) }
+        ensures olds { IfOk result (λ noted. noted.olds.items ≡ numbers (ahead.now ++ behind.now)) }
+        ensures room { IfOk result (λ noted. length noted.room.items
+            ≡ count_of_all ahead.now + count_of_all behind.now) }
         ensures gone { IfOk result (λ noted. noted.gone ≡ gone) }
+        ensures ahead { IfOk result (λ noted. noted.ahead ≡ length ahead.now) }
+        ensures behind { IfOk result (λ noted. noted.behind ≡ length behind.now) }
     {
         let count = count_all(ahead) + count_all(behind);
         let mut olds = zeros(alloc, count)?;
-        let news = zeros(alloc, count)?;
+        let room = zeros(alloc, count)?;
         write_both(ahead, behind, &mut olds);
-        Ok(Noted { olds, news, gone })
-    }
-
-    /// Takes down the numbers of the nodes that stay in the window, after the edit.
-    #[inline(never)]
-    pub(super) fn renew(&mut self, ahead: &[SyntaxNode], behind: &[SyntaxNode])
-        requires { length self.old.news ≡ count_of_all ahead.now + count_of_all behind.now }
-        ensures news { self.new.news ≡ numbers (ahead.now ++ behind.now) }
-        ensures olds { self.new.olds ≡ self.old.olds }
-        ensures gone { self.new.gone ≡ self.old.gone }
-    {
-        write_both(ahead, behind, &mut self.news);
-    }
-
-    /// The number that a node has after the edit.
-    fn follow(&self, number: u64) -> Option<u64>
-        ensures { result ≡ followed self.now number }
-    {
-        if self.gone.contains(&number) {
-            return None;
-        }
-        match self.olds.binary_search(&number) {
-            Ok(index) => Some(self.news[index]),
-            Err(_) => Some(number),
-        }
+        Ok(Noted {
+            olds,
+            room,
+            gone,
+            ahead: ahead.len(),
+            behind: behind.len(),
+        })
     }
 }
 
@@ -154,16 +136,38 @@ impl Moves {
     {
         Moves {
             id: None,
-            noted: Noted::none(alloc),
+            olds: Vec::new(alloc),
+            news: Vec::new(alloc),
+            gone: 0..0,
         }
     }
 
-    /// The moves of an edit of a tree in this file.
-    pub(super) fn new(id: Option<FileId>, noted: Noted) -> Moves
-        requires { AllByRecursion IsNodeNumber noted.news }
-        ensures { result ≡ in_file id noted }
+    /// The moves of an edit of a tree in this file, by what was noted before it and the same two rows after it.
+    pub(super) fn new(
+        id: Option<FileId>,
+        noted: Noted,
+        ahead: &[SyntaxNode],
+        behind: &[SyntaxNode],
+    ) -> Moves
+        requires rise { Rise noted.olds.items }
+        requires many { length noted.room.items ≡ length noted.olds.items }
+        requires room { length noted.room.items ≡ count_of_all ahead.now + count_of_all behind.now }
+        requires news { AllByRecursion IsNodeNumber (numbers (ahead.now ++ behind.now)) }
+        ensures { result ≡ record {
+          file = id;
+          olds = noted.olds.items;
+          news = numbers (ahead.now ++ behind.now);
+          gone = noted.gone;
+        } }
     {
-        Moves { id, noted }
+        let mut news = noted.room;
+        write_both(ahead, behind, &mut news);
+        Moves {
+            id,
+            olds: noted.olds,
+            news,
+            gone: noted.gone,
+        }
     }
 
     /// The number that a node has after the edit, by its number before the edit. It is `None` for a node that the edit
@@ -176,7 +180,13 @@ impl Moves {
     pub fn follow(&self, number: u64) -> Option<u64>
         ensures { result ≡ followed self.now number }
     {
-        self.noted.follow(number)
+        if self.gone.contains(&number) {
+            return None;
+        }
+        match self.olds.binary_search(&number) {
+            Ok(index) => Some(self.news[index]),
+            Err(_) => Some(number),
+        }
     }
 
     /// The span that a node has after the edit, by its span before the edit. It is `None` for a node that the edit took
@@ -221,10 +231,10 @@ impl PartialEq for Moves {
 
     fn eq(&self, other: &Moves) -> bool {
         self.id == other.id
-            && self.noted.olds == other.noted.olds
-            && self.noted.news == other.noted.news
-            && self.noted.gone.start == other.noted.gone.start
-            && self.noted.gone.end == other.noted.gone.end
+            && self.olds == other.olds
+            && self.news == other.news
+            && self.gone.start == other.gone.start
+            && self.gone.end == other.gone.end
     }
 }
 

@@ -119,12 +119,11 @@ impl SyntaxNode {
             to,
             others,
         } = edit;
-        let id = self.span().id();
         match self.replace_following(alloc, &path, from..to, others) {
             Ok(done) => Ok(Reconciled {
                 path,
                 touched: Touched::Window(done.renumbered),
-                moves: Moves::new(id, done.moves),
+                moves: done.moves,
             }),
             Err(why) => Err(why),
         }

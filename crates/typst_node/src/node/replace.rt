@@ -3,7 +3,7 @@ ghost use Rattle.std.specs.Prelude.{[], List, ◌++◌, slice_range, IsNone, ◌
 ghost use Rattle.std.specs.List.{splice};
 ghost use Rattle.typst_node.specs.Tree.{Tree, forest, trees, IsInner};
 ghost use Rattle.typst_node.specs.Numbered.{Rise};
-ghost use Rattle.typst_node.specs.Moves.{numbers, AreMoves, AreMovesOf, AreNoted};
+ghost use Rattle.typst_node.specs.Moves.{numbers, AreNoted, AreNotedFor};
 ghost use Rattle.typst_node.specs.Text.{text_of_all};
 ghost use Rattle.typst_node.specs.Count.{SumsFit, count_of_all};
 ghost use Rattle.typst_node.specs.Interval.{IsWithin};
@@ -173,8 +173,8 @@ impl InnerNode {
 }
 
 impl InnerNode {
-    /// The moves of an edit before it is made: the numbers of the children that stay in its window, and room for those
-    /// after it. It is a call of its own, so that edits without moves have a small function.
+    /// What is noted of an edit before it is made: the numbers of the children that stay in its window, and room for those
+    /// after it. It is a call of its own, so that edits without a note have a small function.
     #[inline(never)]
     fn noted(&self, edit: &Splice, first: u64, window: Range<usize>) -> Result<Noted, AllocError>
         requires order { edit.now.from ≤ edit.now.to }
@@ -199,14 +199,14 @@ impl InnerNode {
         Ok(noted)
     }
 
-    /// Notes the moves of an edit, before it is made, if they are asked for.
+    /// Notes an edit, if there is a note to fill.
     #[inline(always)]
     fn note(
         &self,
         edit: &Splice,
         first: u64,
         window: Range<usize>,
-        moves: &mut Option<Noted>,
+        noted: &mut Option<Noted>,
     ) -> Result<(), AllocError>
         requires order { edit.now.from ≤ edit.now.to }
         requires inside { edit.now.to ≤ length self.now.children.items }
@@ -216,36 +216,15 @@ impl InnerNode {
             ≤ edit.now.from + length edit.now.others.items + length self.now.children.items }
         requires fits { SumsFit self.now.children.items }
         requires rise { Rise (numbers self.now.children.items) }
-        ensures asked { IsSome moves.new ↔ IsSome moves.old }
+        ensures asked { IsSome noted.new ↔ IsSome noted.old }
         ensures noted { let s : Site = site_at first self.now.upper edit.now.from edit.now.to edit.now.others.items
-            self.now.children.items in OnOk result (IfSome moves.new (AreNoted s window)) }
-        ensures memory { IsNone moves.old → IsOk result }
+            self.now.children.items in OnOk result (IfSome noted.new (AreNoted s window)) }
+        ensures memory { IsNone noted.old → IsOk result }
     {
-        if moves.is_some() {
-            *moves = Some(self.noted(edit, first, window)?);
+        if noted.is_some() {
+            *noted = Some(self.noted(edit, first, window)?);
         }
         Ok(())
-    }
-
-    /// Notes the numbers of the children that stay in the window, after the edit, if moves are asked for.
-    #[inline(always)]
-    fn renew(&self, change: &Change, window: Range<usize>, moves: &mut Option<Noted>)
-        requires start { window.start ≤ change.now.from }
-        requires changed { change.now.from + change.now.many ≤ window.end }
-        requires end { window.end ≤ length self.now.children.items }
-        requires room { IfSome moves.old (λ m. length m.news
-            ≡ count_of_all (slice_range self.now.children.items window.start change.now.from)
-            + count_of_all (slice_range self.now.children.items (change.now.from + change.now.many) window.end)) }
-        ensures asked { IsSome moves.new ↔ IsSome moves.old }
-        ensures renewed { MatchOption moves.old (IsNone moves.new) (λ m. IfSome moves.new (λ n. (n.olds ≡ m.olds)
-            × (n.gone ≡ m.gone) × (n.news ≡ numbers (slice_range self.now.children.items window.start change.now.from
-            ++ slice_range self.now.children.items (change.now.from + change.now.many) window.end)))) }
-    {
-        if let Some(moves) = moves {
-            let ahead = &self.children[window.start..change.from];
-            let behind = &self.children[change.from + change.many..window.end];
-            moves.renew(ahead, behind);
-        }
     }
 }
 
@@ -256,7 +235,7 @@ impl InnerNode {
         len: &mut usize,
         owner: Owner,
         edit: Splice,
-        moves: &mut Option<Noted>,
+        noted: &mut Option<Noted>,
     ) -> Result<Renumbered, ReplaceError>
         requires len { len.old ≡ length (text_of_all self.old.children.items) }
         requires measured { IsMeasured self.old }
@@ -270,11 +249,11 @@ impl InnerNode {
         ensures made { let site : Site = site_at (owner.number + 1) self.old.upper
             edit.from edit.to edit.others.items self.old.children.items in
             AreReplaced site edit.growth owner.id self.old self.new len.new result }
-        ensures asked { IsSome moves.new ↔ IsSome moves.old }
-        ensures moves { let site : Site = site_at (owner.number + 1) self.old.upper
+        ensures asked { IsSome noted.new ↔ IsSome noted.old }
+        ensures noted { let site : Site = site_at (owner.number + 1) self.old.upper
             edit.from edit.to edit.others.items self.old.children.items in
-            IfOk result (λ r. IfSome moves.new (AreMoves site r.window self.new.children.items)) }
-        ensures memory { IsNone moves.old → length edit.others.items ≤ edit.to - edit.from
+            IfOk result (λ r. IfSome noted.new (AreNoted site r.window)) }
+        ensures memory { IsNone noted.old → length edit.others.items ≤ edit.to - edit.from
             → ¬ (IsErrOf result Memory) }
     {
         let Some(change) = self.change(&edit) else {
@@ -288,11 +267,10 @@ impl InnerNode {
         };
         let start = edit.from.saturating_sub(found.width);
         let end = edit.from + edit.others.len() + found.width.min(self.children.len() - edit.to);
-        self.note(&edit, owner.number + 1, start..end, moves)?;
+        self.note(&edit, owner.number + 1, start..end, noted)?;
         self.put(edit, &change)?;
         *len = *len - change.gone.len + change.added.len;
         self.renumber(id, start..end, found.numbering);
-        self.renew(&change, start..end, moves);
         Ok(Renumbered {
             window: start..end,
             tried: found.tried,
@@ -314,7 +292,7 @@ impl InnerNode {
         len: &mut usize,
         owner: Owner,
         edit: Splice,
-        moves: &mut Option<Noted>,
+        noted: &mut Option<Noted>,
     ) -> Result<Renumbered, ReplaceError>
         requires len { len.old ≡ length (text_of_all self.old.children.items) }
         requires measured { IsMeasured self.old }
@@ -328,11 +306,11 @@ impl InnerNode {
         ensures made { let site : Site = site_among (owner.number + 1) self.old.upper
             edit.from edit.to edit.others.items self.old.children.items in
             AreReplaced site edit.growth owner.id self.old self.new len.new result }
-        ensures asked { IsSome moves.new ↔ IsSome moves.old }
-        ensures moves { let site : Site = site_among (owner.number + 1) self.old.upper
+        ensures asked { IsSome noted.new ↔ IsSome noted.old }
+        ensures noted { let site : Site = site_among (owner.number + 1) self.old.upper
             edit.from edit.to edit.others.items self.old.children.items in
-            IfOk result (λ r. IfSome moves.new (AreMoves site r.window self.new.children.items)) }
-        ensures memory { IsNone moves.old → length edit.others.items ≤ edit.to - edit.from
+            IfOk result (λ r. IfSome noted.new (AreNoted site r.window)) }
+        ensures memory { IsNone noted.old → length edit.others.items ≤ edit.to - edit.from
             → ¬ (IsErrOf result Memory) }
     {
         let Splice {
@@ -351,7 +329,7 @@ impl InnerNode {
             others,
             growth,
         };
-        self.replace_changed(len, owner, rest, moves)
+        self.replace_changed(len, owner, rest, noted)
     }
 }
 
@@ -371,7 +349,7 @@ impl SyntaxNode {
     pub(super) fn replace_range(
         &mut self,
         edit: Splice,
-        moves: &mut Option<Noted>,
+        noted: &mut Option<Noted>,
     ) -> Option<Result<Renumbered, ReplaceError>>
         requires numbered { FitsInner [] edit.from edit.to self.old → IsNumberedOrUnfiled [] self.old }
         requires growth { CanGrow edit.growth self.old }
@@ -379,9 +357,9 @@ impl SyntaxNode {
         ensures misfit { IfNone result (self.new ≡ self.old) }
         ensures err { IfSome result (λ answer. OnErr answer (self.new ≡ self.old)) }
         ensures made { IfSome result (IsReplacement edit.from edit.to edit.others.items edit.growth self.old self.new) }
-        ensures asked { IsSome moves.new ↔ IsSome moves.old }
-        ensures moves { IfSome result (AreMovesOf edit.from edit.to edit.others.items self.old self.new moves.new) }
-        ensures memory { IsNone moves.old → length edit.others.items ≤ edit.to - edit.from
+        ensures asked { IsSome noted.new ↔ IsSome noted.old }
+        ensures noted { IfSome result (AreNotedFor edit.from edit.to edit.others.items self.old noted.new) }
+        ensures memory { IsNone noted.old → length edit.others.items ≤ edit.to - edit.from
             → IfSome result (λ answer. ¬ (IsErrOf answer Memory)) }
     {
         let id = self.span.id();
@@ -391,7 +369,7 @@ impl SyntaxNode {
                 if !inner.holds(&edit) {
                     return None;
                 }
-                return Some(inner.replace(len, Owner { id, number }, edit, moves));
+                return Some(inner.replace(len, Owner { id, number }, edit, noted));
             }
             Node::Short(..) | Node::Long(..) | Node::Leaf(..) | Node::Error(_) => None,
         }

@@ -1,6 +1,5 @@
 //! Replacements at any depth.
-ghost use Rattle.std.specs.Prelude.{[], ◌∷◌, ◌≡◌, ◌+◌, ◌^◌, ◌<◌, ◌≤◌, ◌↔◌, suc, length, set, false, Ok, Err, Some, OnErr, IfOk, IfSome, IfNone, IfErr, IsSome, IsTrue};
-ghost use Rattle.std.specs.List.{AllByRecursion};
+ghost use Rattle.std.specs.Prelude.{[], ◌∷◌, ◌≡◌, ◌+◌, ◌-◌, ◌^◌, ◌<◌, ◌≤◌, ◌↔◌, ◌++◌, suc, length, set, slice_range, false, Ok, Err, Some, OnErr, IfOk, IfSome, IfNone, IfErr, IsSome, IsTrue};
 ghost use Rattle.typst_node.specs.Tree.{trees};
 ghost use Rattle.typst_node.specs.Text.{text, text_of_all};
 ghost use Rattle.typst_node.specs.Count.{SumsFit, count, count_of_all};
@@ -15,13 +14,13 @@ ghost use Rattle.typst_node.specs.Edit.{Fits, IsNumberedOrUnfiled, edit_of};
 ghost use Rattle.typst_node.specs.Accepted.{IsAccepted};
 ghost use Rattle.typst_node.specs.Refusals.{IsRefusedBy, IsRefusedFollowing};
 ghost use Rattle.typst_node.specs.Following.{IsFollowed};
-ghost use Rattle.typst_node.specs.Moves.{IsNodeNumber};
-ghost use Rattle.typst_node.specs.Numbered.{IsNumbered};
+ghost use Rattle.typst_node.specs.Moves.{numbers};
+ghost use Rattle.typst_node.specs.Numbered.{IsNumbered, Rise};
 ghost use Rattle.typst_node.specs.EditBelow.{child_of};
-ghost use Rattle.typst_node.specs.Errand.{FitsAt, HasMoves, IsCarriedOut, IsErrand, IsSparing};
+ghost use Rattle.typst_node.specs.Errand.{FitsAt, IsCarriedOut, IsErrand, IsNoted, IsSparing};
 
 use crate::node::inner::Sums;
-use crate::node::moves::Noted;
+use crate::node::moves::{Moves, Noted};
 use crate::node::replace::{Renumbered, ReplaceError, Splice};
 use crate::node::settle::Change;
 use crate::node::{InnerNode, Node, SyntaxNode};
@@ -36,15 +35,15 @@ struct Errand {
     edit: Splice,
     // The outcome, once it reached an inner node whose children hold the range.
     answer: Option<Result<Renumbered, ReplaceError>>,
-    // The moves, if they are asked for.
-    moves: Option<Noted>,
+    // What is noted before it is made, if that is asked for.
+    noted: Option<Noted>,
 }
 
 /// The window that an edit numbered anew, and where the nodes are after it.
 #[derive(Drop)]
 pub(super) struct Followed {
     pub(super) renumbered: Renumbered,
-    pub(super) moves: Noted,
+    pub(super) moves: Moves,
 }
 
 impl Errand {
@@ -57,8 +56,8 @@ impl Errand {
         ensures err { IfSome self.new.answer (λ answer. OnErr answer (node.new ≡ node.old)) }
         ensures label { node.new.label ≡ node.old.label }
         ensures done { IsCarriedOut self.old self.new node.old node.new }
-        ensures asked { IsSome self.new.moves ↔ IsSome self.old.moves }
-        ensures moves { HasMoves self.old self.new node.old node.new }
+        ensures asked { IsSome self.new.noted ↔ IsSome self.old.noted }
+        ensures noted { IsNoted self.old self.new node.old }
         ensures sparing { IsSparing self.old self.new }
     {
         let empty = Vec::new(*self.edit.others.allocator());
@@ -75,24 +74,7 @@ impl Errand {
             others,
             growth,
         };
-        self.answer = node.replace_range(rest, &mut self.moves);
-    }
-}
-
-impl Errand {
-    /// The answer and the moves, which were asked for.
-    fn followed(self) -> Result<Followed, ReplaceError>
-        requires made { IsSome self.answer }
-        requires asked { IsSome self.moves }
-        ensures done { IfOk result (λ followed. (self.answer ≡ Some (Ok followed.renumbered))
-            × (self.moves ≡ Some followed.moves)) }
-        ensures refused { IfErr result (λ why. self.answer ≡ Some (Err why)) }
-    {
-        let moves = self.moves.unwrap();
-        match self.answer.unwrap() {
-            Ok(renumbered) => Ok(Followed { renumbered, moves }),
-            Err(why) => Err(why),
-        }
+        self.answer = node.replace_range(rest, &mut self.noted);
     }
 }
 
@@ -107,8 +89,8 @@ impl SyntaxNode {
         ensures err { IfSome errand.new.answer (λ answer. OnErr answer (self.new ≡ self.old)) }
         ensures frame { StaysBeside path.now self.old self.new }
         ensures at { IsCarriedOut errand.old errand.new (tree_at path.now self.old) (tree_at path.now self.new) }
-        ensures asked { IsSome errand.new.moves ↔ IsSome errand.old.moves }
-        ensures moves { HasMoves errand.old errand.new (tree_at path.now self.old) (tree_at path.now self.new) }
+        ensures asked { IsSome errand.new.noted ↔ IsSome errand.old.noted }
+        ensures noted { IsNoted errand.old errand.new (tree_at path.now self.old) }
         ensures sparing { IsSparing errand.old errand.new }
     {
         match path.split_first() {
@@ -150,9 +132,8 @@ impl InnerNode {
             (child_of self.new.children.items index) }
         ensures at { IsCarriedOut errand.old errand.new (tree_at path.now (child_of self.old.children.items index))
             (tree_at path.now (child_of self.new.children.items index)) }
-        ensures asked { IsSome errand.new.moves ↔ IsSome errand.old.moves }
-        ensures moves { HasMoves errand.old errand.new (tree_at path.now (child_of self.old.children.items index))
-            (tree_at path.now (child_of self.new.children.items index)) }
+        ensures asked { IsSome errand.new.noted ↔ IsSome errand.old.noted }
+        ensures noted { IsNoted errand.old errand.new (tree_at path.now (child_of self.old.children.items index)) }
         ensures sparing { IsSparing errand.old errand.new }
     {
         let gone = self.children[index].measures();
@@ -238,7 +219,7 @@ impl SyntaxNode {
         let mut errand = Errand {
             edit,
             answer: None,
-            moves: None,
+            noted: None,
         };
         self.replace_below(path, &mut errand);
         errand.answer
@@ -298,7 +279,7 @@ impl SyntaxNode {
             IsAccepted (edit_of path.now range replacement.items) self.old done.renumbered self.new) }
         ensures followed { IfOk result (λ done.
             IsFollowed (edit_of path.now range replacement.items) self.old self.new done.moves) }
-        ensures numbers { IfOk result (λ done. AllByRecursion IsNodeNumber done.moves.news) }
+        ensures file { IfOk result (λ done. done.moves.file ≡ Some self.old.label.span.file) }
         ensures refused { IfErr result (λ why.
             IsRefusedFollowing why (edit_of path.now range replacement.items) self.old) }
         ensures err { OnErr result (self.new ≡ self.old) }
@@ -312,9 +293,41 @@ impl SyntaxNode {
         let mut errand = Errand {
             edit,
             answer: None,
-            moves: Some(Noted::none(alloc)),
+            noted: Some(Noted::none(alloc)),
         };
         self.replace_below(path, &mut errand);
-        errand.followed()
+        let noted = errand.noted.unwrap();
+        match errand.answer.unwrap() {
+            Ok(renumbered) => {
+                let moves = self.moves_at(path, noted, &renumbered.window);
+                Ok(Followed { renumbered, moves })
+            }
+            Err(why) => Err(why),
+        }
+    }
+
+    /// The moves of an edit that was made, by what was noted of it.
+    fn moves_at(&self, path: &[usize], noted: Noted, window: &Range<usize>) -> Moves
+        requires path { IsPath path.now self.now }
+        requires numbered { IsNumbered self.now }
+        requires ahead { window.now.start + noted.ahead + noted.behind ≤ window.now.end }
+        requires end { window.now.end ≤ length (trees_at path.now self.now) }
+        requires rise { Rise noted.olds.items }
+        requires many { length noted.room.items ≡ length noted.olds.items }
+        requires room { length noted.room.items
+            ≡ count_of_all (slice_range (trees_at path.now self.now) window.now.start (window.now.start + noted.ahead))
+            + count_of_all (slice_range (trees_at path.now self.now) (window.now.end - noted.behind) window.now.end) }
+        ensures { result ≡ record {
+          file = Some self.now.label.span.file;
+          olds = noted.olds.items;
+          news = numbers (slice_range (trees_at path.now self.now) window.now.start (window.now.start + noted.ahead)
+              ++ slice_range (trees_at path.now self.now) (window.now.end - noted.behind) window.now.end);
+          gone = noted.gone;
+        } }
+    {
+        let children = self.node_at(path).child_slice();
+        let ahead = &children[window.start..window.start + noted.ahead];
+        let behind = &children[window.end - noted.behind..window.end];
+        Moves::new(self.span().id(), noted, ahead, behind)
     }
 }

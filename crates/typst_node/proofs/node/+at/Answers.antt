@@ -11,14 +11,14 @@ use Rattle.typst_node.specs.Paths.{StaysBeside, no_tree, tree_at}
 use Rattle.typst_node.specs.Edit.{IsNumberedOrUnfiled, IsUnfiled}
 use Rattle.typst_node.specs.Growth.{CanGrow, ChildrenCanGrow}
 use Rattle.typst_node.specs.EditBelow.{child_of}
-use Rattle.typst_node.specs.Errand.{HasMoves}
+use Rattle.typst_node.specs.Errand.{IsNoted}
 use Rattle.std.specs.Prelude.{slice_range, is_some}
 use Rattle.typst_node.specs.Sums.{AreSums}
 use Rattle.typst_node.proofs.Settled.{set_splice, slice_one, sums_of_one, len_after_one, place_for_one, put_stale}
 use Rattle.typst_node.proofs.Edited.{inner_kids, inner_label}
 use Rattle.typst_node.proofs.EditsBelow.{numbered_below}
 use Rattle.typst_node.proofs.WholeTreeEdited.{child_can_grow, children_can_grow}
-use Rattle.typst_node.proofs.EditStep.{frame_nil, frame_same, frame_cons, at_cons, any_cons, fits_cons, fits_not, fits_after}
+use Rattle.typst_node.proofs.EditStep.{frame_nil, frame_same, frame_cons, at_cons, here_cons, fits_cons, fits_not, fits_after}
 use Rattle.typst_node.proofs.node.+at.Goals as goal
 
 pub SyntaxNode::replace_below-returns-in-None-clause-frame : goal.SyntaxNode::replace_below-returns-in-None-clause-frame
@@ -98,11 +98,10 @@ SyntaxNode::replace_below-returns-else-index-len-clause-at t c =
     at_cons c.args.path.now c.in-Some.index.now c.in-Some.rest.now c.args.errand.now.edit.from c.args.errand.now.edit.to c.args.errand.now.edit.others.items c.args.errand.now.edit.growth c.args.self.now (tree_of record { node = Inner _ c.in-Inner.len (with_value c.in-Inner.inner c.replace_in.new.self); span = c.self.inside.span })
     c.deref_mut.result.now.children.items c.replace_in.new.self.children.items c.replace_in.new.errand.answer c.in-Some.ensures.cases.0 kids refl c.replace_in.ensures.at
 
-pub SyntaxNode::replace_below-returns-else-index-len-clause-moves : goal.SyntaxNode::replace_below-returns-else-index-len-clause-moves
-SyntaxNode::replace_below-returns-else-index-len-clause-moves t c =
+pub SyntaxNode::replace_below-returns-else-index-len-clause-noted : goal.SyntaxNode::replace_below-returns-else-index-len-clause-noted
+SyntaxNode::replace_below-returns-else-index-len-clause-noted t c =
     let kids : trees c.args.self.now.children ≡ c.deref_mut.result.now.children.items = inner_kids c.self.inside _ _ c.in-Inner.inner c.args.self.now c.in-Inner.is c.self.view_is ∙ sym (ap (λ b. b.children.items) c.deref_mut.ensures.value) in
-    any_cons (HasMoves c.args.errand.now c.replace_in.new.errand) c.args.path.now c.in-Some.index.now c.in-Some.rest.now c.args.self.now (tree_of record { node = Inner _ c.in-Inner.len (with_value c.in-Inner.inner c.replace_in.new.self); span = c.self.inside.span })
-    c.deref_mut.result.now.children.items c.replace_in.new.self.children.items c.in-Some.ensures.cases.0 kids refl c.replace_in.ensures.moves
+    here_cons (IsNoted c.args.errand.now c.replace_in.new.errand) c.args.path.now c.in-Some.index.now c.in-Some.rest.now c.args.self.now c.deref_mut.result.now.children.items c.in-Some.ensures.cases.0 kids c.replace_in.ensures.noted
 
 pub SyntaxNode::replace_below-returns-then-index-len-clause-fits : goal.SyntaxNode::replace_below-returns-then-index-len-clause-fits
 SyntaxNode::replace_below-returns-then-index-len-clause-fits t c =

@@ -1,4 +1,4 @@
-use Rattle.std.proofs.Common.{◌≡◌, ◌+◌, ◌*◌, ◌<◌, map, arith, ap, sym, refl, ◌∙◌, subst, true, false}
+use Rattle.std.proofs.Common.{map, arith, ap, sym, refl, ◌∙◌, true, false}
 use Rattle.typst_node.specs.Tree.{trees}
 use Rattle.typst_node.specs.Count.{count, count_of_all}
 use Rattle.typst_node.specs.Plain.{plain}

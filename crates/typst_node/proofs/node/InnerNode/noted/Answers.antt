@@ -1,4 +1,4 @@
-use Rattle.std.proofs.Common.{◌≡◌, ◌+◌, ◌-◌, ◌++◌, List, length, take, drop, sym, ap, ◌∙◌, arith}
+use Rattle.std.proofs.Common.{◌≡◌, ◌+◌, ◌-◌, ◌++◌, List, length, take, drop, sym, ap, subst, ◌∙◌, arith, length-take, length-drop}
 use Rattle.std.specs.Prelude.{slice_range}
 use Rattle.typst_node.specs.Tree.{Tree}
 use Rattle.typst_node.specs.Count.{count_of_all}
@@ -10,8 +10,8 @@ use Rattle.typst_node.proofs.Following.{length_numbers}
 use Rattle.typst_node.proofs.Noted.{stays, few, rises, gap}
 use Rattle.typst_node.proofs.node.InnerNode.noted.Goals as goal
 
-pub note-requires-clause-fits : goal.note-requires-clause-fits
-note-requires-clause-fits c =
+pub note-requires : goal.note-requires
+note-requires c =
     let xs = c.args.self.now.children.items in
     let e = c.args.edit.now in
     let many : c.len.result ≡ length e.others.items = omega arith in
@@ -20,14 +20,6 @@ note-requires-clause-fits c =
     let last = e.to + (c.args.window.end - (e.from + c.len.result)) in
     let two : count_of_all (slice_range c.deref-2.result.now e.to last) ≡ count_of_all (slice_range xs e.to (e.to + (c.args.window.end - (e.from + length e.others.items)))) = (λ i. count_of_all (slice_range (c.deref-2.ensures.value i) e.to (e.to + (c.args.window.end - (e.from + many i))))) in
     omega (arith, h, one, two, c.requires.fits.1)
-
-pub note-requires-clause-rise : goal.note-requires-clause-rise
-note-requires-clause-rise c =
-    let xs = c.args.self.now.children.items in
-    let e = c.args.edit.now in
-    let many : c.len.result ≡ length e.others.items = omega arith in
-    let h = rises c.args.first c.args.self.now.upper e.from e.to e.others.items xs c.args.window c.requires.order c.requires.inside c.requires.start c.requires.changed c.requires.end c.requires.rise in
-    coe 1 0 (i. Rise (numbers (slice_range (c.deref.ensures.value i) c.args.window.start e.from ++ slice_range (c.deref-2.ensures.value i) e.to (e.to + (c.args.window.end - (e.from + many i)))))) h
 
 pub returns : goal.returns
 returns c =
@@ -42,6 +34,32 @@ returns c =
       olds = c.in_ok-noted.ensures.olds ∙ ap numbers (parts ∙ sym (stays c.args.first up e.from e.to e.others.items xs w c.requires.order c.requires.inside c.requires.start c.requires.changed c.requires.end));
       room = c.in_ok-noted.ensures.room ∙ (sym (count_append (slice_range c.deref.result.now w.start e.from) (slice_range c.deref-2.result.now e.to (e.to + (w.end - (e.from + c.len.result)))))
           ∙ (sym (length_numbers (slice_range c.deref.result.now w.start e.from ++ slice_range c.deref-2.result.now e.to (e.to + (w.end - (e.from + c.len.result))))) ∙ ap length (sym c.in_ok-noted.ensures.olds)));
+      rise = subst Rise (sym (c.in_ok-noted.ensures.olds ∙ ap numbers parts))
+          (rises c.args.first up e.from e.to e.others.items xs w c.requires.order c.requires.inside c.requires.start c.requires.changed c.requires.end c.requires.rise);
+      ahead = omega (
+        arith,
+        c.in_ok-noted.ensures.ahead,
+        c.requires.start,
+        c.requires.order,
+        c.requires.inside,
+        length-take (e.from - w.start) (drop w.start c.deref.result.now),
+        length-drop w.start c.deref.result.now,
+        ap length c.deref.ensures.value,
+        length-take e.from xs,
+      );
+      behind = omega (
+        arith,
+        c.in_ok-noted.ensures.behind,
+        c.requires.order,
+        c.requires.inside,
+        c.requires.changed,
+        c.requires.end,
+        many,
+        length-take (e.to + (w.end - (e.from + c.len.result)) - e.to) (drop e.to c.deref-2.result.now),
+        length-drop e.to c.deref-2.result.now,
+        ap length c.deref-2.ensures.value,
+        length-take e.from xs,
+      );
       gone = c.in_ok-noted.ensures.gone ∙ gap c.args.first up e.from e.to e.others.items xs w c.requires.order c.requires.inside c.requires.start c.requires.changed c.requires.end
           (record { start = c.open_behind.result; end = c.open_before.result })
           (c.open_behind.ensures ∙ ap (open_from c.args.first) (c.split_at.ensures.front ∙ ap (take e.from) c.deref-3.ensures.value))

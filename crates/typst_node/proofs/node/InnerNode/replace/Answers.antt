@@ -1,6 +1,6 @@
 use Rattle.std.proofs.Common.{◌≡◌, ◌+◌, ◌-◌, length, drop, subst, ◌∙◌}
 use Rattle.std.specs.Prelude.{slice_range, IfOk, IfSome}
-use Rattle.typst_node.specs.Moves.{AreMoves}
+use Rattle.typst_node.specs.Moves.{AreNoted}
 use Rattle.typst_node.specs.Window.{Site, site_at, site_among}
 use Rattle.typst_node.specs.ChangedChildren.{kept_first, kept_last, common_first, common_last}
 use Rattle.typst_node.specs.EditBelow.{AreReplaced}
@@ -20,8 +20,8 @@ returns-clause-made c =
     λ i. site_at (c.args.owner.number + 1) c.args.self.now.upper (a + p i) (b - e i) (q i) xs in
     subst (λ (s : Site). AreReplaced s c.args.edit.growth c.args.owner.id c.args.self.now c.replace_changed.new.self c.replace_changed.new.len c.replace_changed.result) at c.replace_changed.ensures.made
 
-pub returns-clause-moves : goal.returns-clause-moves
-returns-clause-moves c =
+pub returns-clause-noted : goal.returns-clause-noted
+returns-clause-noted c =
     let xs = c.args.self.now.children.items in
     let ys = c.args.edit.others.items in
     let a = c.args.edit.from in
@@ -32,4 +32,4 @@ returns-clause-moves c =
     let q : c.trim.new.nodes.items ≡ slice_range ys (kept_first a b ys xs) (length ys - kept_last a b ys xs) = c.trim.ensures ∙ (λ i. slice_range ys (p i) (length ys - e i)) in
     let at : site_at (c.args.owner.number + 1) c.args.self.now.upper (a + c.count_common_first-first.result) (b - c.count_common_last-last.result) c.trim.new.nodes.items xs ≡ site_among (c.args.owner.number + 1) c.args.self.now.upper a b ys xs =
     λ i. site_at (c.args.owner.number + 1) c.args.self.now.upper (a + p i) (b - e i) (q i) xs in
-    subst (λ (s : Site). IfOk c.replace_changed.result (λ r. IfSome c.replace_changed.new.moves (AreMoves s r.window c.replace_changed.new.self.children.items))) at c.replace_changed.ensures.moves
+    subst (λ (s : Site). IfOk c.replace_changed.result (λ r. IfSome c.replace_changed.new.noted (AreNoted s r.window))) at c.replace_changed.ensures.noted

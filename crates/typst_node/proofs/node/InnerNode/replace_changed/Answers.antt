@@ -10,13 +10,7 @@ use Rattle.typst_node.specs.Renumbering.{AreIn}
 use Rattle.typst_node.proofs.Replaced.{old_within, site_above, site_ordered, site_below, put_window, new_before, new_behind, new_half, new_within}
 use Rattle.typst_node.proofs.Settled.{len_after}
 use Rattle.typst_node.proofs.Plain.{same_text_of_all}
-use Rattle.std.proofs.Common.{map}
-use Rattle.std.specs.declared.ops.Range.{Range}
-use Rattle.std.proofs.lemmas.Option.{IfSome_then}
-use Rattle.typst_node.specs.Plain.{plain}
-use Rattle.typst_node.specs.Moves.{AreNoted}
 use Rattle.typst_node.proofs.Ordered.{rise_in}
-use Rattle.typst_node.proofs.Noted.{within_after, room_after}
 use Rattle.typst_node.proofs.node.InnerNode.replace_changed.Goals as goal
 
 if_some : (o : Option ℕ) (id : ℕ) (P : ℕ → Type 0) → o ≡ Some id → IfSome o P → P id
@@ -116,27 +110,3 @@ note-requires-clause-rise c =
     let xs = c.args.self.now.children.items in
     let within = if_some c.args.owner.id c.in-Some-id.id (λ file. IsWithin file (c.args.owner.number + 1) c.args.self.now.upper (forest xs)) c.in-Some-id.is c.requires.within in
     rise_in c.in-Some-id.id (c.args.owner.number + 1) c.args.self.now.upper (forest xs) within
-
-pub renew-requires-clause-end : goal.renew-requires-clause-end
-renew-requires-clause-end c =
-    let xs = c.args.self.now.children.items in
-    let ys = c.args.edit.others.items in
-    let window : Range ℕ = record { start = c.saturating_sub-start.result; end = c.args.edit.from + c.len.result + c.min.result } in
-    within_after (c.args.owner.number + 1) c.args.self.now.upper c.args.edit.from c.args.edit.to ys xs window c.requires.window c.requires.inside (omega arith) (omega arith) (omega arith)
-    c.renumber.new.self.children.items (c.renumber.ensures.plain ∙ ap (map plain) c.in_ok-put.ensures.ok)
-
-pub renew-requires-clause-room : goal.renew-requires-clause-room
-renew-requires-clause-room c =
-    let xs = c.args.self.now.children.items in
-    let ys = c.args.edit.others.items in
-    let from = c.args.edit.from in
-    let window : Range ℕ = record { start = c.saturating_sub-start.result; end = from + c.len.result + c.min.result } in
-    let us = c.renumber.new.self.children.items in
-    let is = c.in-Some.ensures.1 in
-    let s = site_at (c.args.owner.number + 1) c.args.self.now.upper from c.args.edit.to ys xs in
-    let ends : c.in-Some.change.from + c.in-Some.change.many ≡ from + length ys = (λ i. is.from_is i + is.many i) in
-    IfSome_then c.note.new.moves {P = AreNoted s window} c.in_ok-note.ensures.noted
-    (λ m noted.
-    coe 1 0 (i. length m.news ≡ count_of_all (slice_range us window.start (is.from_is i)) + count_of_all (slice_range us (ends i) window.end))
-    (room_after (c.args.owner.number + 1) c.args.self.now.upper from c.args.edit.to ys xs window c.requires.window c.requires.inside (omega arith) (omega arith) (omega arith)
-    us (c.renumber.ensures.plain ∙ ap (map plain) c.in_ok-put.ensures.ok) m noted))

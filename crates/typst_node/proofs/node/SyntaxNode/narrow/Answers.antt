@@ -1,8 +1,8 @@
-use Rattle.std.proofs.Common.{◌≡◌, ℕ, ◌+◌, ◌-◌, ◌<◌, ◌^◌, length, take, drop, reverse, refl, sym, ap, subst, ◌∙◌, arith, Option, Some, None, List, length-take, length-drop, rules}
+use Rattle.std.proofs.Common.{◌≡◌, ◌-◌, ◌<◌, ◌^◌, length, take, drop, reverse, sym, ap, subst, ◌∙◌, arith, Some, None, length-take, length-drop}
 use Rattle.std.specs.Prelude.{slice_range}
 use Rattle.typst_node.specs.Tree.{Tree, trees}
 use Rattle.typst_node.specs.Paths.{tree_at, trees_at}
-use Rattle.typst_node.specs.Narrowing.{edit_in, edit_along, replaced_by, steps_within, IsTrail, IsTrailOf, IsTraced, LeadDown, LeadOn, IsNarrowedTo}
+use Rattle.typst_node.specs.Narrowing.{edit_in, edit_along, replaced_by, steps_within, IsTrail, IsTrailOf, IsTraced, LeadDown, LeadOn}
 use Rattle.typst_node.proofs.Trails.{all_lead_on, leads_on, leads_down, leaf_below, leaf_found, none_found, traced_trail}
 use Rattle.typst_node.proofs.node.SyntaxNode.narrow.Goals as goal
 

@@ -1,13 +1,9 @@
-use Rattle.std.proofs.Common.{ℕ, ◌<◌, List, sym, subst, Option, Some, None}
-use Rattle.std.specs.Prelude.{SomeIff}
-use Rattle.typst_base.specs.Span.{SpanParts}
+use Rattle.std.proofs.Common.{ℕ, List, sym, subst, Some, None}
 use Rattle.typst_node.specs.Edit.{Fits}
 use Rattle.typst_node.specs.Accepted.{IsAccepted}
 use Rattle.typst_node.specs.Refusals.{IsRefusedFollowing}
 use Rattle.typst_node.specs.Following.{IsFollowed}
 use Rattle.typst_node.specs.Narrowing.{edit_in, IsNarrowedTo}
-use Rattle.typst_node.specs.Reconciled.{IsReconciled}
-use Rattle.typst_node.specs.declared.node.reconcile.Touched.TheVariants.{Window}
 use Rattle.typst_node.proofs.Narrowed.{refused_before}
 use Rattle.typst_node.proofs.AtNarrowest.{fits_narrow, fits_low, accepted_there, kept_if_ok, leaf_refused}
 use Rattle.typst_node.proofs.node.SyntaxNode.reconcile.Goals as goal
@@ -67,5 +63,4 @@ returns-in-Ok-clause-reconciled c =
     subst (λ (p : List ℕ). IsAccepted (record { path = p; from = f.from; to = f.to; others = f.others }) t c.in-Ok.done.renumbered c.replace_following.new.self) c.deref.ensures.value c.in-Ok.ensures.accepted in
     let moves : IsFollowed f t c.replace_following.new.self c.in-Ok.done.moves =
     subst (λ (p : List ℕ). IsFollowed (record { path = p; from = f.from; to = f.to; others = f.others }) t c.replace_following.new.self c.in-Ok.done.moves) c.deref.ensures.value c.in-Ok.ensures.followed in
-    let made = accepted_there e t f c.requires.fits c.id-id.result c.in-Ok.done.renumbered c.in-Ok.done.moves c.replace_following.new.self (subst (λ (s : SpanParts). SomeIff c.id-id.result (0 < s.file) s.file) c.span.ensures c.id-id.ensures) c.requires.numbered found.0 found.1 accepted moves in
-    subst (λ moves. IsReconciled e t f.path (Window c.in-Ok.done.renumbered) moves c.replace_following.new.self) (sym c.new.ensures) made
+    accepted_there e t f c.requires.fits c.in-Ok.done.renumbered c.in-Ok.done.moves c.replace_following.new.self c.in-Ok.ensures.file c.requires.numbered found.0 found.1 accepted moves

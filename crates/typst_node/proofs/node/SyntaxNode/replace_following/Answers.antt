@@ -1,103 +1,123 @@
-use Rattle.std.proofs.Common.{◌≡◌, ◌+◌, ◌-◌, ◌^◌, arith, inl, inr, refl, subst, List}
-use Rattle.std.specs.Prelude.{Option, None, Some, Result, Ok, Err, IfErr, IfOk, IfSome, IsSome}
-use Rattle.std.specs.List.{AllByRecursion}
+use Rattle.std.proofs.Common.{◌≡◌, arith, inr, sym, ap, subst, ◌∙◌}
+use Rattle.std.specs.Prelude.{Option, Some, Result, Ok, Err, IfSome}
 use Rattle.typst_node.specs.Tree.{Tree}
 use Rattle.typst_node.specs.Paths.{tree_at, trees_at}
-use Rattle.typst_node.specs.Numbered.{IsNumbered, IsNumberedFor}
 use Rattle.typst_node.specs.Edit.{Edit, edit_of, site_by}
 use Rattle.typst_node.specs.Accepted.{IsAccepted}
-use Rattle.typst_node.specs.Refusals.{IsRefusedFollowing}
 use Rattle.typst_node.specs.EditBelow.{IsReplacement}
-use Rattle.typst_node.specs.Moves.{NumberMoves, AreMoves, AreMovesOf, IsNodeNumber}
-use Rattle.typst_node.specs.Following.{IsFollowed}
-use Rattle.typst_node.specs.declared.node.replace.Growth.{Growth}
+use Rattle.typst_node.specs.Moves.{AreNoted, AreNotedFor, AreMoves, NumberMoves}
+use Rattle.typst_node.specs.declared.node.moves.Noted.{Noted}
 use Rattle.typst_node.specs.declared.node.replace.Renumbered.{Renumbered}
 use Rattle.typst_node.specs.declared.node.replace.ReplaceError.{ReplaceError}
-use Rattle.typst_node.specs.declared.node.replace_at.Followed.{Followed}
 use Rattle.typst_node.proofs.Decided.{accepted, refused_following}
 use Rattle.typst_node.proofs.Edited.{file_within}
-use Rattle.typst_node.proofs.NodeNumbers.{new_numbers}
+use Rattle.typst_node.proofs.Renewed.{path_there, rows_fit, window_fits, room_there, moves_there}
 use Rattle.typst_node.proofs.WholeMoved.{is_followed}
 use Rattle.typst_node.proofs.node.SyntaxNode.replace_following.Goals as goal
 
--- what holds of the answer with moves, if it holds of the answer without them
-from_answer : (P : Renumbered → Type 0) (o : Result Followed ReplaceError) (a : Option (Result Renumbered ReplaceError)) (m : Option NumberMoves)
-    → IfOk o (λ done. (a ≡ Some (Ok done.renumbered)) × (m ≡ Some done.moves)) → IfSome a (λ answer. IfOk answer P) → IfOk o (λ done. P done.renumbered)
-from_answer P (Err why) a m h k = tt
-from_answer P (Ok done) a m h k = subst (λ b. IfSome b (λ answer. IfOk answer P)) h.0 k
+-- what holds of an answer that is there
+answered : (P : Result Renumbered ReplaceError → Type 0) (o : Option (Result Renumbered ReplaceError)) (a : Result Renumbered ReplaceError) → o ≡ Some a → IfSome o P → P a
+answered P o a is h = subst (λ b. IfSome b P) is h
 
-from_refusal : (P : ReplaceError → Type 0) (o : Result Followed ReplaceError) (a : Option (Result Renumbered ReplaceError)) → IfErr o (λ why. a ≡ Some (Err why)) → IfSome a (λ answer. IfErr answer P) → IfErr o P
-from_refusal P (Ok done) a h k = tt
-from_refusal P (Err why) a h k = subst (λ b. IfSome b (λ answer. IfErr answer P)) h k
+noted_there : (e : Edit) (old : Tree) (o : Option (Result Renumbered ReplaceError)) (n : Option Noted) (r : Renumbered) (m : Noted) → o ≡ Some (Ok r) → n ≡ Some m → IfSome o (AreNotedFor e.from e.to e.others (tree_at e.path old) n) → AreNoted (site_by e old) r.window m
+noted_there e old o n r m is some h =
+    subst (λ k. IfSome k (AreNoted (site_by e old) r.window)) some (answered (AreNotedFor e.from e.to e.others (tree_at e.path old) n) o (Ok r) is h)
 
-from_moves : (P : Renumbered → NumberMoves → Type 0) (o : Result Followed ReplaceError) (a : Option (Result Renumbered ReplaceError)) (m : Option NumberMoves)
-    → IfOk o (λ done. (a ≡ Some (Ok done.renumbered)) × (m ≡ Some done.moves)) → IfSome a (λ answer. IfOk answer (λ r. IfSome m (P r))) → IfOk o (λ done. P done.renumbered done.moves)
-from_moves P (Err why) a m h k = tt
-from_moves P (Ok done) a m h k = coe 0 1 (i. IfSome (h.0 i) (λ answer. IfOk answer (λ r. IfSome (h.1 i) (P r)))) k
-
-if_some : {A : Type 0} (P Q : A → Type 0) (o : Option A) → (IsSome o → (a : A) → P a → Q a) → IfSome o P → IfSome o Q
-if_some P Q None f h = tt
-if_some P Q (Some a) f h = f refl a h
-
-if_moves : (P Q : NumberMoves → Type 0) (m : Option NumberMoves) → ((n : NumberMoves) → P n → Q n) → IfSome m P → IfSome m Q
-if_moves P Q None f h = tt
-if_moves P Q (Some n) f h = f n h
-
--- of the answer without moves: how the moves follow
-module _ (e : Edit) (g : Growth) (old new : Tree) (m : Option NumberMoves) (numbered : IsNumbered old) where
-  follow : (a : Option (Result Renumbered ReplaceError)) → IfSome a (IsReplacement e.from e.to e.others g (tree_at e.path old) (tree_at e.path new)) → IfSome a (λ answer. IfOk answer (λ r. IsAccepted e old r new))
-      → IfSome a (AreMovesOf e.from e.to e.others (tree_at e.path old) (tree_at e.path new) m) → IfSome a (λ answer. IfOk answer (λ r. IfSome m (IsFollowed e old new)))
-  follow None at done are = tt
-  follow (Some (Err why)) at done are = tt
-  follow (Some (Ok r)) at done are = if_moves (AreMoves (site_by e old) r.window (trees_at e.path new)) (IsFollowed e old new) m (λ n. is_followed e old new r n numbered.0 numbered.2 done at.plain) are
-
-  numbers : (a : Option (Result Renumbered ReplaceError)) → IfSome a (λ answer. IfOk answer (λ r. IsAccepted e old r new)) → IfSome a (AreMovesOf e.from e.to e.others (tree_at e.path old) (tree_at e.path new) m)
-      → IfSome a (λ answer. IfOk answer (λ r. IfSome m (λ n. AllByRecursion IsNodeNumber n.news)))
-  numbers None done are = tt
-  numbers (Some (Err why)) done are = tt
-  numbers (Some (Ok r)) done are =
-      if_moves (AreMoves (site_by e old) r.window (trees_at e.path new)) (λ n. AllByRecursion IsNodeNumber n.news) m (λ n. new_numbers old.label.span.file e.path (site_by e old) r.window new n done.numbered) are
-
-pub followed-requires-clause-made : goal.followed-requires-clause-made
-followed-requires-clause-made c = c.replace_below.ensures.fits.1 c.requires.fits
-
-pub returns-clause-accepted : goal.returns-clause-accepted
-returns-clause-accepted c =
+pub moves_at-moves-requires-clause-path : goal.moves_at-moves-requires-clause-path
+moves_at-moves-requires-clause-path c =
     let t = c.args.self.now in
     let new = c.replace_below.new.self in
     let e = edit_of c.args.path.now c.args.range c.args.replacement.items in
     let answer = c.replace_below.new.errand.answer in
-    let done : IfSome answer (λ answer. IfOk answer (λ r. IsAccepted e t r new)) =
-    if_some (IsReplacement e.from e.to e.others c.growth.result (tree_at e.path t) (tree_at e.path new)) (λ answer. IfOk answer (λ r. IsAccepted e t r new)) answer
-    (λ yes answer made. accepted e c.growth.result t new c.requires.fits c.growth.ensures answer made (inr c.requires.numbered) c.replace_below.ensures.frame)
-    c.replace_below.ensures.at in
-    from_answer (λ r. IsAccepted e t r new) c.followed.result answer c.replace_below.new.errand.moves c.followed.ensures.done done
+    let is : answer ≡ Some (Ok c.in-Ok.renumbered) = c.unwrap.ensures ∙ ap Some c.in-Ok.is in
+    let made = answered (IsReplacement e.from e.to e.others c.growth.result (tree_at e.path t) (tree_at e.path new)) answer (Ok c.in-Ok.renumbered) is c.replace_below.ensures.at in
+    let done : IsAccepted e t c.in-Ok.renumbered new = accepted e c.growth.result t new c.requires.fits c.growth.ensures (Ok c.in-Ok.renumbered) made (inr c.requires.numbered) c.replace_below.ensures.frame in
+    let noted = noted_there e t answer c.replace_below.new.errand.noted c.in-Ok.renumbered c.unwrap-noted.result is c.unwrap-noted.ensures c.replace_below.ensures.noted in
+    path_there e t new c.in-Ok.renumbered c.unwrap-noted.result done made.plain noted
 
-pub returns-clause-followed : goal.returns-clause-followed
-returns-clause-followed c =
+pub moves_at-moves-requires-clause-numbered : goal.moves_at-moves-requires-clause-numbered
+moves_at-moves-requires-clause-numbered c =
     let t = c.args.self.now in
     let new = c.replace_below.new.self in
     let e = edit_of c.args.path.now c.args.range c.args.replacement.items in
     let answer = c.replace_below.new.errand.answer in
-    let done : IfSome answer (λ answer. IfOk answer (λ r. IsAccepted e t r new)) =
-    if_some (IsReplacement e.from e.to e.others c.growth.result (tree_at e.path t) (tree_at e.path new)) (λ answer. IfOk answer (λ r. IsAccepted e t r new)) answer
-    (λ yes answer made. accepted e c.growth.result t new c.requires.fits c.growth.ensures answer made (inr c.requires.numbered) c.replace_below.ensures.frame)
-    c.replace_below.ensures.at in
-    from_moves (λ r m. IsFollowed e t new m) c.followed.result answer c.replace_below.new.errand.moves c.followed.ensures.done
-    (follow e c.growth.result t new c.replace_below.new.errand.moves c.requires.numbered answer c.replace_below.ensures.at done c.replace_below.ensures.moves)
+    let is : answer ≡ Some (Ok c.in-Ok.renumbered) = c.unwrap.ensures ∙ ap Some c.in-Ok.is in
+    let made = answered (IsReplacement e.from e.to e.others c.growth.result (tree_at e.path t) (tree_at e.path new)) answer (Ok c.in-Ok.renumbered) is c.replace_below.ensures.at in
+    let done : IsAccepted e t c.in-Ok.renumbered new = accepted e c.growth.result t new c.requires.fits c.growth.ensures (Ok c.in-Ok.renumbered) made (inr c.requires.numbered) c.replace_below.ensures.frame in
+    let is_file : t.label.span.file ≡ c.requires.numbered.0 = file_within c.requires.numbered.0 t c.requires.numbered.2 in
+    (t.label.span.file, omega (arith, is_file, c.requires.numbered.1), done.numbered)
 
-pub returns-clause-numbers : goal.returns-clause-numbers
-returns-clause-numbers c =
+pub moves_at-moves-requires-clause-ahead : goal.moves_at-moves-requires-clause-ahead
+moves_at-moves-requires-clause-ahead c =
     let t = c.args.self.now in
     let new = c.replace_below.new.self in
     let e = edit_of c.args.path.now c.args.range c.args.replacement.items in
     let answer = c.replace_below.new.errand.answer in
-    let done : IfSome answer (λ answer. IfOk answer (λ r. IsAccepted e t r new)) =
-    if_some (IsReplacement e.from e.to e.others c.growth.result (tree_at e.path t) (tree_at e.path new)) (λ answer. IfOk answer (λ r. IsAccepted e t r new)) answer
-    (λ yes answer made. accepted e c.growth.result t new c.requires.fits c.growth.ensures answer made (inr c.requires.numbered) c.replace_below.ensures.frame)
-    c.replace_below.ensures.at in
-    from_moves (λ r m. AllByRecursion IsNodeNumber m.news) c.followed.result answer c.replace_below.new.errand.moves c.followed.ensures.done
-    (numbers e c.growth.result t new c.replace_below.new.errand.moves c.requires.numbered answer done c.replace_below.ensures.moves)
+    let is : answer ≡ Some (Ok c.in-Ok.renumbered) = c.unwrap.ensures ∙ ap Some c.in-Ok.is in
+    let made = answered (IsReplacement e.from e.to e.others c.growth.result (tree_at e.path t) (tree_at e.path new)) answer (Ok c.in-Ok.renumbered) is c.replace_below.ensures.at in
+    let done : IsAccepted e t c.in-Ok.renumbered new = accepted e c.growth.result t new c.requires.fits c.growth.ensures (Ok c.in-Ok.renumbered) made (inr c.requires.numbered) c.replace_below.ensures.frame in
+    let noted = noted_there e t answer c.replace_below.new.errand.noted c.in-Ok.renumbered c.unwrap-noted.result is c.unwrap-noted.ensures c.replace_below.ensures.noted in
+    rows_fit e t new c.in-Ok.renumbered c.unwrap-noted.result done made.plain noted
+
+pub moves_at-moves-requires-clause-end : goal.moves_at-moves-requires-clause-end
+moves_at-moves-requires-clause-end c =
+    let t = c.args.self.now in
+    let new = c.replace_below.new.self in
+    let e = edit_of c.args.path.now c.args.range c.args.replacement.items in
+    let answer = c.replace_below.new.errand.answer in
+    let is : answer ≡ Some (Ok c.in-Ok.renumbered) = c.unwrap.ensures ∙ ap Some c.in-Ok.is in
+    let made = answered (IsReplacement e.from e.to e.others c.growth.result (tree_at e.path t) (tree_at e.path new)) answer (Ok c.in-Ok.renumbered) is c.replace_below.ensures.at in
+    let done : IsAccepted e t c.in-Ok.renumbered new = accepted e c.growth.result t new c.requires.fits c.growth.ensures (Ok c.in-Ok.renumbered) made (inr c.requires.numbered) c.replace_below.ensures.frame in
+    let noted = noted_there e t answer c.replace_below.new.errand.noted c.in-Ok.renumbered c.unwrap-noted.result is c.unwrap-noted.ensures c.replace_below.ensures.noted in
+    window_fits e t new c.in-Ok.renumbered c.unwrap-noted.result done made.plain noted
+
+pub moves_at-moves-requires-clause-room : goal.moves_at-moves-requires-clause-room
+moves_at-moves-requires-clause-room c =
+    let t = c.args.self.now in
+    let new = c.replace_below.new.self in
+    let e = edit_of c.args.path.now c.args.range c.args.replacement.items in
+    let answer = c.replace_below.new.errand.answer in
+    let is : answer ≡ Some (Ok c.in-Ok.renumbered) = c.unwrap.ensures ∙ ap Some c.in-Ok.is in
+    let made = answered (IsReplacement e.from e.to e.others c.growth.result (tree_at e.path t) (tree_at e.path new)) answer (Ok c.in-Ok.renumbered) is c.replace_below.ensures.at in
+    let done : IsAccepted e t c.in-Ok.renumbered new = accepted e c.growth.result t new c.requires.fits c.growth.ensures (Ok c.in-Ok.renumbered) made (inr c.requires.numbered) c.replace_below.ensures.frame in
+    let noted = noted_there e t answer c.replace_below.new.errand.noted c.in-Ok.renumbered c.unwrap-noted.result is c.unwrap-noted.ensures c.replace_below.ensures.noted in
+    room_there e t new c.in-Ok.renumbered c.unwrap-noted.result done made.plain noted
+
+pub returns-in-Ok-clause-accepted : goal.returns-in-Ok-clause-accepted
+returns-in-Ok-clause-accepted c =
+    let t = c.args.self.now in
+    let new = c.replace_below.new.self in
+    let e = edit_of c.args.path.now c.args.range c.args.replacement.items in
+    let answer = c.replace_below.new.errand.answer in
+    let is : answer ≡ Some (Ok c.in-Ok.renumbered) = c.unwrap.ensures ∙ ap Some c.in-Ok.is in
+    let made = answered (IsReplacement e.from e.to e.others c.growth.result (tree_at e.path t) (tree_at e.path new)) answer (Ok c.in-Ok.renumbered) is c.replace_below.ensures.at in
+    let done : IsAccepted e t c.in-Ok.renumbered new = accepted e c.growth.result t new c.requires.fits c.growth.ensures (Ok c.in-Ok.renumbered) made (inr c.requires.numbered) c.replace_below.ensures.frame in
+    done
+
+pub returns-in-Ok-clause-followed : goal.returns-in-Ok-clause-followed
+returns-in-Ok-clause-followed c =
+    let t = c.args.self.now in
+    let new = c.replace_below.new.self in
+    let e = edit_of c.args.path.now c.args.range c.args.replacement.items in
+    let answer = c.replace_below.new.errand.answer in
+    let is : answer ≡ Some (Ok c.in-Ok.renumbered) = c.unwrap.ensures ∙ ap Some c.in-Ok.is in
+    let made = answered (IsReplacement e.from e.to e.others c.growth.result (tree_at e.path t) (tree_at e.path new)) answer (Ok c.in-Ok.renumbered) is c.replace_below.ensures.at in
+    let done : IsAccepted e t c.in-Ok.renumbered new = accepted e c.growth.result t new c.requires.fits c.growth.ensures (Ok c.in-Ok.renumbered) made (inr c.requires.numbered) c.replace_below.ensures.frame in
+    let noted = noted_there e t answer c.replace_below.new.errand.noted c.in-Ok.renumbered c.unwrap-noted.result is c.unwrap-noted.ensures c.replace_below.ensures.noted in
+    let moves : AreMoves (site_by e t) c.in-Ok.renumbered.window (trees_at e.path new) c.moves_at-moves.result =
+    subst (AreMoves (site_by e t) c.in-Ok.renumbered.window (trees_at e.path new)) (sym c.moves_at-moves.ensures) (moves_there e t new c.in-Ok.renumbered c.unwrap-noted.result done made.plain noted (Some new.label.span.file)) in
+    is_followed e t new c.in-Ok.renumbered c.moves_at-moves.result c.requires.numbered.0 c.requires.numbered.2 done made.plain moves
+
+pub returns-in-Ok-clause-file : goal.returns-in-Ok-clause-file
+returns-in-Ok-clause-file c =
+    let t = c.args.self.now in
+    let new = c.replace_below.new.self in
+    let e = edit_of c.args.path.now c.args.range c.args.replacement.items in
+    let answer = c.replace_below.new.errand.answer in
+    let is : answer ≡ Some (Ok c.in-Ok.renumbered) = c.unwrap.ensures ∙ ap Some c.in-Ok.is in
+    let made = answered (IsReplacement e.from e.to e.others c.growth.result (tree_at e.path t) (tree_at e.path new)) answer (Ok c.in-Ok.renumbered) is c.replace_below.ensures.at in
+    let done : IsAccepted e t c.in-Ok.renumbered new = accepted e c.growth.result t new c.requires.fits c.growth.ensures (Ok c.in-Ok.renumbered) made (inr c.requires.numbered) c.replace_below.ensures.frame in
+    ap (λ (m : NumberMoves). m.file) c.moves_at-moves.ensures ∙ ap Some (file_within t.label.span.file new done.numbered)
 
 pub returns-clause-refused : goal.returns-clause-refused
 returns-clause-refused c =
@@ -105,8 +125,6 @@ returns-clause-refused c =
     let new = c.replace_below.new.self in
     let e = edit_of c.args.path.now c.args.range c.args.replacement.items in
     let answer = c.replace_below.new.errand.answer in
-    let why : IfSome answer (λ answer. IfErr answer (λ why. IsRefusedFollowing why e t)) =
-    if_some (IsReplacement e.from e.to e.others c.growth.result (tree_at e.path t) (tree_at e.path new)) (λ answer. IfErr answer (λ why. IsRefusedFollowing why e t)) answer
-    (λ yes answer made. refused_following e c.growth.result t new c.requires.fits c.growth.ensures answer made)
-    c.replace_below.ensures.at in
-    from_refusal (λ why. IsRefusedFollowing why e t) c.followed.result answer c.followed.ensures.refused why
+    let is : answer ≡ Some (Err c.in-Err.why) = c.unwrap.ensures ∙ ap Some c.in-Err.is in
+    let made = answered (IsReplacement e.from e.to e.others c.growth.result (tree_at e.path t) (tree_at e.path new)) answer (Err c.in-Err.why) is c.replace_below.ensures.at in
+    refused_following e c.growth.result t new c.requires.fits c.growth.ensures (Err c.in-Err.why) made

@@ -13,7 +13,7 @@ use Rattle.typst_node.specs.Window.{Site, site_of, site_among}
 use Rattle.typst_node.specs.Renumbering.{IsRenumbering}
 use Rattle.typst_node.specs.FirstWindow.{HasNoFirst}
 use Rattle.std.specs.Prelude.{IfOk, IfSome}
-use Rattle.typst_node.specs.Moves.{AreMoves}
+use Rattle.typst_node.specs.Moves.{AreNoted}
 use Rattle.typst_node.specs.Growth.{ChildrenCanGrow, GrowWithin}
 use Rattle.typst_node.specs.EditBelow.{AreReplaced, all_at}
 use Rattle.typst_node.proofs.Trees.{trees_of_forest}
@@ -127,8 +127,8 @@ returns-in-Inner-clause-made c =
           id numbered refl refl label h) e.within;
     }
 
-pub returns-in-Inner-clause-moves : goal.returns-in-Inner-clause-moves
-returns-in-Inner-clause-moves c =
+pub returns-in-Inner-clause-noted : goal.returns-in-Inner-clause-noted
+returns-in-Inner-clause-noted c =
     let t = c.args.self.now in
     let items : trees t.children ≡ c.in-Inner.inner.value.children.items = inner_kids c.self.inside _ _ c.in-Inner.inner t c.in-Inner.is c.self.view_is in
     let kids : trees t.children ≡ c.deref_mut.result.now.children.items = items ∙ sym (ap (λ b. b.children.items) c.deref_mut.ensures.value) in
@@ -137,6 +137,5 @@ returns-in-Inner-clause-moves c =
     let a = c.args.edit.from in
     let b = c.args.edit.to in
     let ys = c.args.edit.others.items in
-    let new = c.replace.new.self in
     let at : site_among (c.number-number.result + 1) c.deref_mut.result.now.upper a b ys c.deref_mut.result.now.children.items ≡ site_of a b ys t = λ i. site_among (sym num i + 1) (sym up i) a b ys (sym kids i) in
-    coe 0 1 (i. IfOk c.replace.result (λ r. IfSome c.replace.new.moves (AreMoves (at i) r.window (sym (trees_of_forest new.children.items) i)))) c.replace.ensures.moves
+    subst (λ (s : Site). IfOk c.replace.result (λ r. IfSome c.replace.new.noted (AreNoted s r.window))) at c.replace.ensures.noted

@@ -1,10 +1,10 @@
-use Rattle.std.proofs.Common.{arith, None, ◌≡◌, ◌<◌, ◌≤◌, ℕ, false, length, get_or, sym, ap, subst, ◌∙◌, List}
+use Rattle.std.proofs.Common.{arith, ◌≡◌, ◌<◌, ◌≤◌, ℕ, false, length, get_or, sym, ap, subst, ◌∙◌, List}
 use Rattle.std.proofs.lemmas.Grind.{get_or_default_zero}
 use Rattle.std.proofs.lemmas.List.Sorted.{searched}
 use Rattle.typst_node.specs.Numbered.{Rise}
 use Rattle.typst_node.specs.Moves.{NumberMoves, followed, is_within}
 use Rattle.typst_node.proofs.Following.{test_is, rise_le, followed_listed, followed_other}
-use Rattle.typst_node.proofs.node.moves.Noted.follow.Goals as goal
+use Rattle.typst_node.proofs.node.moves.Moves.follow.Goals as goal
 
 absurd_at : (xs : List ℕ) (n k i : ℕ) → ((j : ℕ) → j < k → get_or xs j 0 < n) → ((j : ℕ) → k ≤ j → j < length xs → n < get_or xs j 0) → i < length xs → get_or xs i 0 ≡ n → ⊥
 absurd_at xs n k i low high h is =
@@ -15,7 +15,7 @@ absurd_at xs n k i low high h is =
 
 pub returns-in-Ok : goal.returns-in-Ok
 returns-in-Ok c =
-    let m : NumberMoves = record { file = None; olds = c.self.inside.olds.items; news = c.self.inside.news.items; gone = c.self.inside.gone } in
+    let m : NumberMoves = record { file = c.self.inside.id; olds = c.self.inside.olds.items; news = c.self.inside.news.items; gone = c.self.inside.gone } in
     let n = c.args.number in
     let i = c.in-Ok.index in
     let out : is_within m.gone n ≡ false = sym (test_is m.gone n) ∙ sym c.if-contains.ensures.value in
@@ -29,7 +29,7 @@ returns-in-Ok c =
 
 pub returns-in-Err : goal.returns-in-Err
 returns-in-Err c =
-    let m : NumberMoves = record { file = None; olds = c.self.inside.olds.items; news = c.self.inside.news.items; gone = c.self.inside.gone } in
+    let m : NumberMoves = record { file = c.self.inside.id; olds = c.self.inside.olds.items; news = c.self.inside.news.items; gone = c.self.inside.gone } in
     let n = c.args.number in
     let out : is_within m.gone n ≡ false = sym (test_is m.gone n) ∙ sym c.if-contains.ensures.value in
     let list : c.deref.result.now ≡ m.olds = c.deref.ensures.value in
