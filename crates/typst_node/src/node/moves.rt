@@ -4,6 +4,7 @@ ghost use Rattle.std.specs.List.{AllByRecursion};
 ghost use Rattle.typst_node.specs.Count.{count_of_all};
 ghost use Rattle.typst_node.specs.Numbered.{Rise};
 ghost use Rattle.typst_node.specs.Moves.{IsNodeNumber, numbers, followed, followed_span, no_moves};
+ghost use Rattle.typst_node.specs.Updated.{all_gone};
 
 use crate::node::SyntaxNode;
 use crate::node::window::count_all;
@@ -142,6 +143,18 @@ impl Moves {
         }
     }
 
+    /// The moves of an edit that takes away all nodes of a file.
+    pub(super) fn all_gone(alloc: Global, id: FileId) -> Moves
+        ensures { result ≡ all_gone id }
+    {
+        Moves {
+            id: Some(id),
+            olds: Vec::new(alloc),
+            news: Vec::new(alloc),
+            gone: Span::FULL,
+        }
+    }
+
     /// The moves of an edit of a tree in this file, by what was noted before it and the same two rows after it.
     pub(super) fn new(
         id: Option<FileId>,
@@ -209,16 +222,14 @@ impl Moves {
             None => None,
         }
     }
-}
 
-impl Moves {
     /// The nodes that stay in the window: the numbers that they had, in rising order, and in the same order the numbers
     /// that they have now. Every other node that isn't gone has the number that it had. It takes no memory.
     pub fn moved(&self) -> (&[u64], &[u64])
         ensures before { result.0.now ≡ self.now.olds }
         ensures after { result.1.now ≡ self.now.news }
     {
-        (&self.noted.olds, &self.noted.news)
+        (&self.olds, &self.news)
     }
 }
 

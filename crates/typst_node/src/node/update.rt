@@ -7,7 +7,7 @@ ghost use Rattle.typst_node.specs.Updated.{IsRootUpdated, IsUpdated, all_gone};
 ghost use Rattle.typst_node.specs.declared.node.replace.ReplaceError.TheVariants.{Overflow, Unnumberable as TooFew};
 
 use crate::node::SyntaxNode;
-use crate::node::moves::{Moves, Noted};
+use crate::node::moves::Moves;
 use crate::node::number::Unnumberable;
 use crate::node::reconcile::Touched;
 use crate::node::replace::ReplaceError;
@@ -48,9 +48,8 @@ impl SyntaxNode {
         ensures unnumberable { IsErrOf result TooFew → IsTooShort self.old 2 (2 ^ 47) }
         ensures overflow { ¬ (IsErrOf result Overflow) }
     {
-        let gone = Noted::note(alloc, &[], &[], Span::FULL)?;
         match self.numberize(id, Span::FULL) {
-            Ok(()) => Ok(Moves::new(Some(id), gone)),
+            Ok(()) => Ok(Moves::all_gone(alloc, id)),
             Err(Unnumberable) => Err(ReplaceError::Unnumberable),
         }
     }
