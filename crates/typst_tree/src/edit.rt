@@ -113,14 +113,7 @@ impl NumberedTree {
         ensures reconciliation { IsReconciliation (edit_of path.now range nodes.items) self.old result self.new }
         ensures numbered { IsNumberedFor self.old.label.span.file self.new }
     {
-        let (start, end) = (range.start, range.end);
-        if !fits(&self.root, path, &range) {
-            return Err(misfit(&self.root, path, start..end));
-        }
-        match self.root.reconcile_at(alloc, path, range, nodes) {
-            Ok(done) => Ok(done),
-            Err(error) => Err(EditError::Refused(error)),
-        }
+        reconcile(alloc, &mut self.root, path, range, nodes)
     }
 
     /// Puts a whole tree that any parser made in place of this one. All nodes that go on keep their numbers, as
@@ -135,18 +128,6 @@ impl NumberedTree {
         ensures numbered { IsNumberedFor self.old.label.span.file self.new }
     {
         self.root.update(alloc, root)
-    }
-}
-
-/// Whether a path leads to an inner node, and a range is one of its children.
-fn fits(root: &SyntaxNode, path: &[usize], range: &Range<usize>) -> bool
-    ensures { IsTrue result ↔ FitsInner path.now range.now.start range.now.end root.now }
-{
-    match node_at(root, path) {
-        Some(node) => {
-            node.is_inner() && range.start <= range.end && range.end <= node.child_slice().len()
-        }
-        None => false,
     }
 }
 
@@ -167,6 +148,40 @@ fn edit(
         Some(Ok(renumbered)) => Ok(renumbered),
         Some(Err(error)) => Err(EditError::Refused(error)),
         None => Err(misfit(root, path, start..end)),
+    }
+}
+
+/// Whether a path leads to an inner node, and a range is one of its children.
+fn fits(root: &SyntaxNode, path: &[usize], range: &Range<usize>) -> bool
+    ensures { IsTrue result ↔ FitsInner path.now range.now.start range.now.end root.now }
+{
+    match node_at(root, path) {
+        Some(node) => {
+            node.is_inner() && range.start <= range.end && range.end <= node.child_slice().len()
+        }
+        None => false,
+    }
+}
+
+/// Replaces a range of the children of the node at a path, as far down as it can.
+fn reconcile(
+    alloc: Global,
+    root: &mut SyntaxNode,
+    path: &[usize],
+    range: Range<usize>,
+    nodes: Vec<SyntaxNode>,
+) -> Result<Reconciled, EditError>
+    requires { IsNumbered root.old }
+    ensures reconciliation { IsReconciliation (edit_of path.now range nodes.items) root.old result root.new }
+    ensures numbered { IsNumberedFor root.old.label.span.file root.new }
+{
+    if fits(root, path, &range) {
+        match root.reconcile_at(alloc, path, range, nodes) {
+            Ok(done) => Ok(done),
+            Err(error) => Err(EditError::Refused(error)),
+        }
+    } else {
+        Err(misfit(root, path, range))
     }
 }
 

@@ -143,7 +143,7 @@ impl Moves {
         }
     }
 
-    /// The moves of an edit after which no node of a tree in this file is left.
+    /// The moves of an edit that takes away all nodes of a file.
     pub(super) fn all_gone(alloc: Global, id: FileId) -> Moves
         ensures { result ≡ all_gone id }
     {
@@ -222,9 +222,7 @@ impl Moves {
             None => None,
         }
     }
-}
 
-impl Moves {
     /// The nodes that stay in the window: the numbers that they had, in rising order, and in the same order the numbers
     /// that they have now. Every other node that isn't gone has the number that it had. It takes no memory.
     pub fn moved(&self) -> (&[u64], &[u64])

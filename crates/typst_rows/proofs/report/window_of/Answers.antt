@@ -20,6 +20,6 @@ returns-in_default-node_at-clause-window c =
     let off : ¬ (IsPath path root) = λ there.
     let some = rw c.in_default-node_at.is at (c.node_at.ensures.some.1 (subst (λ (p : List ℕ). IsPath p root) (sym c.deref.ensures.value) there)) in cc in
     sym (
-      ap (λ t. in_window t (trees_at path root)) c.in-Window.is
-      ∙ (ap (in_window (Window c.in-Window.renumbered)) (none_off path root off) ∙ no_window c.in-Window.renumbered)
+    ap (λ t. in_window t (trees_at path root)) c.in-Window.is
+    ∙ (ap (in_window (Window c.in-Window.renumbered)) (none_off path root off) ∙ no_window c.in-Window.renumbered)
     )
