@@ -10,14 +10,15 @@
    bench/accessors.py.
 2. The exports of crates/typst_c, the functions of bindings/c/typst.h and those of bindings/rust/src/raw.rs must be the same, with
    the same names, numbers and widths of arguments. So must the fields of the structs that are passed, and the functions of the
-   archive. Each export needs a function `typst_try_` in the header. The text of a status in C must be that of its refusal in
-   crates/typst_session, and its error in Rust must have the same name. A refusal is no error in Rust only if no call there can get
-   it, or if the crate then calls again.
+   archive. Each export needs a function `typst_try_` in the header. A session is `const` in C and in Rust exactly if the contract of
+   the export says that the handle stays the same, and bindings/c/tests/read_only.c must make each such call. The text of a status in
+   C must be that of its refusal in crates/typst_session, and its error in Rust must have the same name. A refusal is no error in Rust
+   only if no call there can get it, or if the crate then calls again.
 3. `rt lib` builds the archive, and proves what isn't kept.
 4. gcc compiles the examples and the tests in C with all warnings. They run under the sanitizers of addresses and of undefined
    behavior. One test makes calls that are drawn at random: a million, or as many as --calls says. Another refuses each request for
-   memory in turn. Each example must print what the file `.stdout` next to it says. clang, if it is there, reads the comments of the
-   headers.
+   memory in turn. A third makes each call that only reads on sessions in memory that can't be written. Each example must print what
+   the file `.stdout` next to it says. clang, if it is there, reads the comments of the headers.
 5. cargo, offline, runs the tests, the lints and the documentation of the Rust crate. Its examples must print what the files
    `.stdout` next to them say. One of them carries out scripts: the vectors of scripts and the scripts in examples/.
 
@@ -41,6 +42,7 @@ ARCHIVE = "out/libtypst_c.a"
 C, RUST = TOP / "bindings/c", TOP / "bindings/rust"
 SCRIPTS = [TOP / "crates/typst_script_tests/vectors", TOP / "examples"]
 HEADER, RAW = C / "typst.h", RUST / "src/raw.rs"
+READ_ONLY = C / "tests/read_only.c"
 STRICT = ["-std=c11", "-O1", "-g", "-Wall", "-Wextra", "-Werror", "-pedantic", f"-I{C}"]
 SANITIZED = ["-fsanitize=address,undefined", "-fno-sanitize-recover=all", "-fno-omit-frame-pointer"]
 REFUSALS = TOP / "crates/typst_session/src/refusal.rt"
@@ -169,6 +171,18 @@ def status_differences(header):
     return differ + [f"the refusal {name} must be an error in Rust or in RULED_OUT, and not both" for name in sorted(told_apart)]
 
 
+def reading_differences(header, raw):
+    """What differs between the exports that leave a handle the same, the calls that take a `const` session, and those of read_only.c."""
+    texts = re.findall(r'pub extern "C" fn (\w+)\((.*?)\n\{', code(EXPORTS / "src", "*.rt"), re.S)
+    reading = {name for name, text in texts if "ensures kept { IsSameHandle handle.old handle.new }" in text}
+    told = {"typst.h": re.findall(r"^typst_status (\w+)\(const typst_session \*session\b", header, re.M),
+            "typst.h, typst_try_": [f"typst_{name}" for name in re.findall(r"typst_try_(\w+)\(const typst_session \*session\b", header)],
+            "raw.rs": re.findall(r"pub fn (\w+)\(\s*session: \*const Session\b", raw),
+            "read_only.c": re.findall(r'\{"(\w+)", \w+\}', READ_ONLY.read_text())}
+    return [f"{where}: these read a session there or in the contracts, and not in both: {sorted(reading ^ set(names))}"
+            for where, names in told.items() if reading != set(names)]
+
+
 def compare_declarations():
     wanted, text = exports(), re.sub(r"/\*.*?\*/", "", HEADER.read_text(), flags=re.S)
     raw = re.sub(r"//.*", "", RAW.read_text())
@@ -177,7 +191,7 @@ def compare_declarations():
     differ = compare("typst.h", wanted, declared(text)) + compare("raw.rs", wanted, rust_declared(raw))
     tries = set(re.findall(r"^static inline \w+ typst_try_(\w+)\(", text, re.M))
     differ += [f"typst.h lacks typst_try_{name[6:]}" for name in wanted if name[6:] not in tries]
-    differ += struct_differences(text, raw) + status_differences(text)
+    differ += struct_differences(text, raw) + status_differences(text) + reading_differences(text, raw)
     if differ:
         raise Differs("\n".join(differ))
     return wanted
@@ -222,9 +236,12 @@ def programs_in_c(folder, archive, calls):
                "random": [C / "tests/random.c", model, heap], "refuse": [C / "tests/refuse.c"]}
     for name, files in sources.items():
         run(["gcc", *STRICT, *SANITIZED, *files, archive, "-o", folder / name])
+    # Without sanitizers, which would catch the signals that the test waits for.
+    run(["gcc", *STRICT, READ_ONLY, heap, archive, "-o", folder / "read_only"])
     for name in examples:
         compare_printed(f"{name}.c", run([folder / name]), C / f"examples/{name}.stdout")
     print(run([folder / "refuse"]), end="")
+    print(run([folder / "read_only"]), end="")
     print(run([folder / "random", calls]), end="")
     header = folder / "header.cc"
     header.write_text('#include "typst.h"\n')

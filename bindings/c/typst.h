@@ -430,7 +430,7 @@ typst_status typst_replace(typst_session *session, const size_t *path, size_t de
  * Reads the node at a path.
  * @return TYPST_DONE, TYPST_NOT_MADE, TYPST_NO_TREE or TYPST_NO_NODE.
  */
-typst_status typst_node(typst_session *session, const size_t *path, size_t depth, typst_node_info *info);
+typst_status typst_node(const typst_session *session, const size_t *path, size_t depth, typst_node_info *info);
 
 /**
  * Reads all children of the node at a path, in order.
@@ -439,7 +439,7 @@ typst_status typst_node(typst_session *session, const size_t *path, size_t depth
  * @param length receives the number of children, even if the buffer is too short.
  * @return TYPST_DONE, TYPST_NOT_MADE, TYPST_NO_TREE, TYPST_NO_NODE or TYPST_SHORT_BUFFER.
  */
-typst_status typst_children(typst_session *session, const size_t *path, size_t depth, typst_node_info *out, size_t room,
+typst_status typst_children(const typst_session *session, const size_t *path, size_t depth, typst_node_info *out, size_t room,
                             typst_length *length);
 
 /**
@@ -451,7 +451,7 @@ typst_status typst_children(typst_session *session, const size_t *path, size_t d
  * @param length receives the number of nodes, even if the buffer is too short.
  * @return TYPST_DONE, TYPST_NOT_MADE, TYPST_NO_TREE, TYPST_NO_NODE or TYPST_SHORT_BUFFER.
  */
-typst_status typst_preorder(typst_session *session, const size_t *path, size_t depth, typst_node_info *out, size_t room,
+typst_status typst_preorder(const typst_session *session, const size_t *path, size_t depth, typst_node_info *out, size_t room,
                             typst_length *length);
 
 /**
@@ -459,7 +459,7 @@ typst_status typst_preorder(typst_session *session, const size_t *path, size_t d
  * @param length receives the length of the text, even if the buffer is too short.
  * @return TYPST_DONE, TYPST_NOT_MADE, TYPST_NO_TREE, TYPST_NO_NODE or TYPST_SHORT_BUFFER.
  */
-typst_status typst_leaf_text(typst_session *session, const size_t *path, size_t depth, char *out, size_t room,
+typst_status typst_leaf_text(const typst_session *session, const size_t *path, size_t depth, char *out, size_t room,
                              typst_length *length);
 
 /**
@@ -468,7 +468,7 @@ typst_status typst_leaf_text(typst_session *session, const size_t *path, size_t 
  * @param length receives the length of the text, even if the buffer is too short.
  * @return TYPST_DONE, TYPST_NOT_MADE, TYPST_NO_TREE, TYPST_NO_NODE, TYPST_SHORT_BUFFER or TYPST_NO_MEMORY.
  */
-typst_status typst_full_text(typst_session *session, const size_t *path, size_t depth, char *out, size_t room,
+typst_status typst_full_text(const typst_session *session, const size_t *path, size_t depth, char *out, size_t room,
                              typst_length *length);
 
 /**
@@ -481,7 +481,7 @@ typst_status typst_full_text(typst_session *session, const size_t *path, size_t 
  * @param child receives the child's index.
  * @return TYPST_DONE, TYPST_NOT_MADE, TYPST_BAD_KIND, TYPST_NO_TREE, TYPST_NO_NODE or TYPST_NOT_FOUND.
  */
-typst_status typst_child_of_class(typst_session *session, const size_t *path, size_t depth, uint32_t node_class, size_t index,
+typst_status typst_child_of_class(const typst_session *session, const size_t *path, size_t depth, uint32_t node_class, size_t index,
                                   uint32_t from_end, size_t *child);
 
 /**
@@ -497,7 +497,7 @@ typst_status typst_child_of_class(typst_session *session, const size_t *path, si
  * @param answer receives the answer, even if the buffer is too short for its text.
  * @return TYPST_DONE, TYPST_NOT_MADE, TYPST_BAD_ACCESSOR, TYPST_NO_TREE, TYPST_NO_NODE, TYPST_NO_MEMORY or TYPST_SHORT_BUFFER.
  */
-typst_status typst_view(typst_session *session, const size_t *path, size_t depth, uint32_t accessor, size_t index, char *out,
+typst_status typst_view(const typst_session *session, const size_t *path, size_t depth, uint32_t accessor, size_t index, char *out,
                         size_t room, typst_answer *answer);
 
 /**
@@ -512,7 +512,7 @@ typst_status typst_view(typst_session *session, const size_t *path, size_t depth
  *     they were.
  * @return TYPST_DONE, TYPST_NOT_MADE, TYPST_NO_TREE, TYPST_SHORT_BUFFER or TYPST_NO_MEMORY.
  */
-typst_status typst_diagnostics(typst_session *session, typst_diagnostic *out, size_t room, char *texts, size_t texts_room,
+typst_status typst_diagnostics(const typst_session *session, typst_diagnostic *out, size_t room, char *texts, size_t texts_room,
                                typst_diagnostic_sizes *sizes);
 
 /**
@@ -521,7 +521,7 @@ typst_status typst_diagnostics(typst_session *session, typst_diagnostic *out, si
  * @param equal receives 1 if they are equal, else 0.
  * @return TYPST_DONE, TYPST_NOT_MADE, TYPST_NO_TREE or TYPST_NO_NODE.
  */
-typst_status typst_spanless_eq_within(typst_session *session, const size_t *path, size_t depth, const size_t *other_path,
+typst_status typst_spanless_eq_within(const typst_session *session, const size_t *path, size_t depth, const size_t *other_path,
                                       size_t other_depth, uint32_t *equal);
 
 /**
@@ -529,7 +529,7 @@ typst_status typst_spanless_eq_within(typst_session *session, const size_t *path
  * different ones: pass no session twice.
  * @return TYPST_DONE, TYPST_NOT_MADE, TYPST_NO_TREE or TYPST_NO_NODE, each also for the other session.
  */
-typst_status typst_spanless_eq(typst_session *session, const size_t *path, size_t depth, typst_session *other,
+typst_status typst_spanless_eq(const typst_session *session, const size_t *path, size_t depth, const typst_session *other,
                                const size_t *other_path, size_t other_depth, uint32_t *equal);
 
 /** @} */
@@ -543,7 +543,7 @@ typst_status typst_spanless_eq(typst_session *session, const size_t *path, size_
  * @param place receives the length of the path and where the node's text begins, even if the buffer is too short.
  * @return TYPST_DONE, TYPST_NOT_MADE, TYPST_NO_TREE, TYPST_NOT_FOUND, TYPST_SHORT_BUFFER or TYPST_NO_MEMORY.
  */
-typst_status typst_find(typst_session *session, uint64_t number, size_t *path, size_t room, typst_place *place);
+typst_status typst_find(const typst_session *session, uint64_t number, size_t *path, size_t room, typst_place *place);
 
 /**
  * Finds the node without children that holds the byte before a cursor (TYPST_BEFORE) or the byte after it (TYPST_AFTER). There is one
@@ -553,14 +553,14 @@ typst_status typst_find(typst_session *session, uint64_t number, size_t *path, s
  * @param place receives the length of the path and where the node's text begins, even if the buffer is too short.
  * @return TYPST_DONE, TYPST_NOT_MADE, TYPST_NO_TREE, TYPST_NOT_FOUND, TYPST_SHORT_BUFFER or TYPST_NO_MEMORY.
  */
-typst_status typst_leaf_at(typst_session *session, size_t cursor, uint32_t side, size_t *path, size_t room,
+typst_status typst_leaf_at(const typst_session *session, size_t cursor, uint32_t side, size_t *path, size_t room,
                            typst_place *place);
 
 /**
  * Tells which bytes of the text belong to the node at a path. The call takes memory for the node's parents.
  * @return TYPST_DONE, TYPST_NOT_MADE, TYPST_NO_TREE, TYPST_NO_NODE or TYPST_NO_MEMORY.
  */
-typst_status typst_range_of(typst_session *session, const size_t *path, size_t depth, typst_range *range);
+typst_status typst_range_of(const typst_session *session, const size_t *path, size_t depth, typst_range *range);
 
 /**
  * Finds the node next to the one at a path.
@@ -569,7 +569,7 @@ typst_status typst_range_of(typst_session *session, const size_t *path, size_t d
  * @param place receives the length of that path and where the node's text begins, even if the buffer is too short.
  * @return TYPST_DONE, TYPST_NOT_MADE, TYPST_NO_TREE, TYPST_NO_NODE, TYPST_NOT_FOUND, TYPST_SHORT_BUFFER or TYPST_NO_MEMORY.
  */
-typst_status typst_neighbor(typst_session *session, const size_t *path, size_t depth, uint32_t which, size_t *found, size_t room,
+typst_status typst_neighbor(const typst_session *session, const size_t *path, size_t depth, uint32_t which, size_t *found, size_t room,
                             typst_place *place);
 
 /** @} */
@@ -600,7 +600,7 @@ typst_status typst_edit(typst_session *session, size_t from, size_t to, const ch
  * tab, a form feed, a carriage return alone or with a line feed after it, U+0085, U+2028 or U+2029.
  * @return TYPST_DONE, TYPST_NOT_MADE or TYPST_NO_DOCUMENT.
  */
-typst_status typst_len_lines(typst_session *session, size_t *count);
+typst_status typst_len_lines(const typst_session *session, size_t *count);
 
 /**
  * Tells the line and the column of a byte of the document's text. The call takes time in proportion to the line up to the byte.
@@ -608,7 +608,7 @@ typst_status typst_len_lines(typst_session *session, size_t *count);
  * @param unit what columns count: TYPST_BYTES or TYPST_CHARACTERS; any other number is TYPST_UTF16.
  * @return TYPST_DONE, TYPST_NOT_MADE, TYPST_NO_DOCUMENT or TYPST_NO_PLACE.
  */
-typst_status typst_byte_to_line_column(typst_session *session, size_t byte, uint32_t unit, typst_line_column *place);
+typst_status typst_byte_to_line_column(const typst_session *session, size_t byte, uint32_t unit, typst_line_column *place);
 
 /**
  * Tells which byte of the document's text is at a line and a column, which both count from 0. The call takes time in proportion to
@@ -616,7 +616,7 @@ typst_status typst_byte_to_line_column(typst_session *session, size_t byte, uint
  * @param unit what columns count: TYPST_BYTES or TYPST_CHARACTERS; any other number is TYPST_UTF16.
  * @return TYPST_DONE, TYPST_NOT_MADE, TYPST_NO_DOCUMENT or TYPST_NO_PLACE.
  */
-typst_status typst_line_column_to_byte(typst_session *session, size_t line, size_t column, uint32_t unit, size_t *byte);
+typst_status typst_line_column_to_byte(const typst_session *session, size_t line, size_t column, uint32_t unit, size_t *byte);
 
 /** @} */
 
@@ -783,13 +783,13 @@ static inline typst_status typst_try_replace(typst_session *session, const size_
     return typst_replace(session, TYPST_OR_NOWHERE(path, const size_t *), depth, from, to, count, window);
 }
 
-static inline typst_status typst_try_node(typst_session *session, const size_t *path, size_t depth, typst_node_info *info)
+static inline typst_status typst_try_node(const typst_session *session, const size_t *path, size_t depth, typst_node_info *info)
 {
     if (!session || (!path && depth) || !info) return TYPST_NULL;
     return typst_node(session, TYPST_OR_NOWHERE(path, const size_t *), depth, info);
 }
 
-static inline typst_status typst_try_children(typst_session *session, const size_t *path, size_t depth, typst_node_info *out,
+static inline typst_status typst_try_children(const typst_session *session, const size_t *path, size_t depth, typst_node_info *out,
                                               size_t room, typst_length *length)
 {
     if (!session || (!path && depth) || (!out && room) || !length) return TYPST_NULL;
@@ -797,7 +797,7 @@ static inline typst_status typst_try_children(typst_session *session, const size
                           length);
 }
 
-static inline typst_status typst_try_preorder(typst_session *session, const size_t *path, size_t depth, typst_node_info *out,
+static inline typst_status typst_try_preorder(const typst_session *session, const size_t *path, size_t depth, typst_node_info *out,
                                               size_t room, typst_length *length)
 {
     if (!session || (!path && depth) || (!out && room) || !length) return TYPST_NULL;
@@ -805,28 +805,28 @@ static inline typst_status typst_try_preorder(typst_session *session, const size
                           length);
 }
 
-static inline typst_status typst_try_leaf_text(typst_session *session, const size_t *path, size_t depth, char *out,
+static inline typst_status typst_try_leaf_text(const typst_session *session, const size_t *path, size_t depth, char *out,
                                                size_t room, typst_length *length)
 {
     if (!session || (!path && depth) || (!out && room) || !length) return TYPST_NULL;
     return typst_leaf_text(session, TYPST_OR_NOWHERE(path, const size_t *), depth, TYPST_OR_NOWHERE(out, char *), room, length);
 }
 
-static inline typst_status typst_try_full_text(typst_session *session, const size_t *path, size_t depth, char *out,
+static inline typst_status typst_try_full_text(const typst_session *session, const size_t *path, size_t depth, char *out,
                                                size_t room, typst_length *length)
 {
     if (!session || (!path && depth) || (!out && room) || !length) return TYPST_NULL;
     return typst_full_text(session, TYPST_OR_NOWHERE(path, const size_t *), depth, TYPST_OR_NOWHERE(out, char *), room, length);
 }
 
-static inline typst_status typst_try_child_of_class(typst_session *session, const size_t *path, size_t depth,
+static inline typst_status typst_try_child_of_class(const typst_session *session, const size_t *path, size_t depth,
                                                     uint32_t node_class, size_t index, uint32_t from_end, size_t *child)
 {
     if (!session || (!path && depth) || !child) return TYPST_NULL;
     return typst_child_of_class(session, TYPST_OR_NOWHERE(path, const size_t *), depth, node_class, index, from_end, child);
 }
 
-static inline typst_status typst_try_view(typst_session *session, const size_t *path, size_t depth, uint32_t accessor,
+static inline typst_status typst_try_view(const typst_session *session, const size_t *path, size_t depth, uint32_t accessor,
                                           size_t index, char *out, size_t room, typst_answer *answer)
 {
     if (!session || (!path && depth) || (!out && room) || !answer) return TYPST_NULL;
@@ -834,7 +834,7 @@ static inline typst_status typst_try_view(typst_session *session, const size_t *
                       answer);
 }
 
-static inline typst_status typst_try_diagnostics(typst_session *session, typst_diagnostic *out, size_t room, char *texts,
+static inline typst_status typst_try_diagnostics(const typst_session *session, typst_diagnostic *out, size_t room, char *texts,
                                                  size_t texts_room, typst_diagnostic_sizes *sizes)
 {
     if (!session || (!out && room) || (!texts && texts_room) || !sizes) return TYPST_NULL;
@@ -842,7 +842,7 @@ static inline typst_status typst_try_diagnostics(typst_session *session, typst_d
                              sizes);
 }
 
-static inline typst_status typst_try_spanless_eq_within(typst_session *session, const size_t *path, size_t depth,
+static inline typst_status typst_try_spanless_eq_within(const typst_session *session, const size_t *path, size_t depth,
                                                         const size_t *other_path, size_t other_depth, uint32_t *equal)
 {
     if (!session || (!path && depth) || (!other_path && other_depth) || !equal) return TYPST_NULL;
@@ -850,7 +850,7 @@ static inline typst_status typst_try_spanless_eq_within(typst_session *session, 
                                     TYPST_OR_NOWHERE(other_path, const size_t *), other_depth, equal);
 }
 
-static inline typst_status typst_try_spanless_eq(typst_session *session, const size_t *path, size_t depth, typst_session *other,
+static inline typst_status typst_try_spanless_eq(const typst_session *session, const size_t *path, size_t depth, const typst_session *other,
                                                  const size_t *other_path, size_t other_depth, uint32_t *equal)
 {
     if (!session || (!path && depth) || !other || (!other_path && other_depth) || !equal) return TYPST_NULL;
@@ -858,27 +858,27 @@ static inline typst_status typst_try_spanless_eq(typst_session *session, const s
                              TYPST_OR_NOWHERE(other_path, const size_t *), other_depth, equal);
 }
 
-static inline typst_status typst_try_find(typst_session *session, uint64_t number, size_t *path, size_t room,
+static inline typst_status typst_try_find(const typst_session *session, uint64_t number, size_t *path, size_t room,
                                           typst_place *place)
 {
     if (!session || (!path && room) || !place) return TYPST_NULL;
     return typst_find(session, number, TYPST_OR_NOWHERE(path, size_t *), room, place);
 }
 
-static inline typst_status typst_try_leaf_at(typst_session *session, size_t cursor, uint32_t side, size_t *path, size_t room,
+static inline typst_status typst_try_leaf_at(const typst_session *session, size_t cursor, uint32_t side, size_t *path, size_t room,
                                              typst_place *place)
 {
     if (!session || (!path && room) || !place) return TYPST_NULL;
     return typst_leaf_at(session, cursor, side, TYPST_OR_NOWHERE(path, size_t *), room, place);
 }
 
-static inline typst_status typst_try_range_of(typst_session *session, const size_t *path, size_t depth, typst_range *range)
+static inline typst_status typst_try_range_of(const typst_session *session, const size_t *path, size_t depth, typst_range *range)
 {
     if (!session || (!path && depth) || !range) return TYPST_NULL;
     return typst_range_of(session, TYPST_OR_NOWHERE(path, const size_t *), depth, range);
 }
 
-static inline typst_status typst_try_neighbor(typst_session *session, const size_t *path, size_t depth, uint32_t which,
+static inline typst_status typst_try_neighbor(const typst_session *session, const size_t *path, size_t depth, uint32_t which,
                                               size_t *found, size_t room, typst_place *place)
 {
     if (!session || (!path && depth) || (!found && room) || !place) return TYPST_NULL;
@@ -899,20 +899,20 @@ static inline typst_status typst_try_edit(typst_session *session, size_t from, s
     return typst_edit(session, from, to, TYPST_OR_NOWHERE(with, const char *), with_len, edited);
 }
 
-static inline typst_status typst_try_len_lines(typst_session *session, size_t *count)
+static inline typst_status typst_try_len_lines(const typst_session *session, size_t *count)
 {
     if (!session || !count) return TYPST_NULL;
     return typst_len_lines(session, count);
 }
 
-static inline typst_status typst_try_byte_to_line_column(typst_session *session, size_t byte, uint32_t unit,
+static inline typst_status typst_try_byte_to_line_column(const typst_session *session, size_t byte, uint32_t unit,
                                                          typst_line_column *place)
 {
     if (!session || !place) return TYPST_NULL;
     return typst_byte_to_line_column(session, byte, unit, place);
 }
 
-static inline typst_status typst_try_line_column_to_byte(typst_session *session, size_t line, size_t column, uint32_t unit,
+static inline typst_status typst_try_line_column_to_byte(const typst_session *session, size_t line, size_t column, uint32_t unit,
                                                          size_t *byte)
 {
     if (!session || !byte) return TYPST_NULL;

@@ -1,9 +1,10 @@
 //! The calls of the library. Only this module is unsafe.
 //!
 //! A [`Handle`] is made by `new`, never copied, and freed once. It isn't `Sync`, and no call of the library calls Rust,
-//! so each call has the handle to itself. The library takes out what the handle points to and puts it back, even if it
-//! only reads it. That is why there is an `UnsafeCell`. Slices and texts are valid for each call that they are passed
-//! to. They aren't null, and they overlap with nothing that is written.
+//! so each call has the handle to itself. A call that takes a `*const` writes nothing to the handle: it is proved that the
+//! handle is the same when the call returns, and bindings/c/tests/read_only.c tests that nothing is written in between.
+//! Slices and texts are valid for each call that they are passed to. They aren't null, and they overlap with nothing that
+//! is written.
 #![allow(unsafe_code)]
 
 use crate::error::Error;
@@ -11,7 +12,6 @@ use crate::raw::{
     self, ByteRange, Diagnostic, DiagnosticSizes, Edited, KindClasses, Length, LineColumn, NodeInfo, Place, ViewAnswer,
     Window,
 };
-use std::cell::UnsafeCell;
 use std::ops::Range;
 use std::ptr;
 
@@ -19,7 +19,7 @@ use std::ptr;
 const SHORT_BUFFER: u32 = 17;
 
 /// A session of the library.
-pub(crate) struct Handle(UnsafeCell<raw::Session>);
+pub(crate) struct Handle(raw::Session);
 
 /// A status as a result.
 fn outcome(status: u32) -> Result<(), Error> {
@@ -59,11 +59,15 @@ impl Handle {
         };
         // SAFETY: the session is all zero.
         outcome(unsafe { raw::typst_new(&mut session) })?;
-        Ok(Handle(UnsafeCell::new(session)))
+        Ok(Handle(session))
     }
 
-    fn at(&self) -> *mut raw::Session {
-        self.0.get()
+    fn at(&mut self) -> *mut raw::Session {
+        &mut self.0
+    }
+
+    fn read(&self) -> *const raw::Session {
+        &self.0
     }
 
     pub(crate) fn push_leaf(&mut self, kind: u8, text: &str) -> Result<(), Error> {
@@ -127,7 +131,7 @@ impl Handle {
     pub(crate) fn node(&self, path: &[usize]) -> Result<NodeInfo, Error> {
         let mut info = NodeInfo::default();
         // SAFETY: what the head of this module says.
-        outcome(unsafe { raw::typst_node(self.at(), path.as_ptr(), path.len(), &mut info) })?;
+        outcome(unsafe { raw::typst_node(self.read(), path.as_ptr(), path.len(), &mut info) })?;
         Ok(info)
     }
 
@@ -136,7 +140,7 @@ impl Handle {
         filled(many, |out: &mut [NodeInfo], length| {
             let (path, depth) = (path.as_ptr(), path.len());
             // SAFETY: what the head of this module says.
-            unsafe { raw::typst_children(self.at(), path, depth, out.as_mut_ptr(), out.len(), length) }
+            unsafe { raw::typst_children(self.read(), path, depth, out.as_mut_ptr(), out.len(), length) }
         })
     }
 
@@ -145,7 +149,7 @@ impl Handle {
         filled(many, |out: &mut [NodeInfo], length| {
             let (path, depth) = (path.as_ptr(), path.len());
             // SAFETY: what the head of this module says.
-            unsafe { raw::typst_preorder(self.at(), path, depth, out.as_mut_ptr(), out.len(), length) }
+            unsafe { raw::typst_preorder(self.read(), path, depth, out.as_mut_ptr(), out.len(), length) }
         })
     }
 
@@ -153,7 +157,7 @@ impl Handle {
         let out = filled(len, |out: &mut [u8], length| {
             let (path, depth) = (path.as_ptr(), path.len());
             // SAFETY: what the head of this module says.
-            unsafe { raw::typst_leaf_text(self.at(), path, depth, out.as_mut_ptr(), out.len(), length) }
+            unsafe { raw::typst_leaf_text(self.read(), path, depth, out.as_mut_ptr(), out.len(), length) }
         })?;
         Ok(text(out))
     }
@@ -162,7 +166,7 @@ impl Handle {
         let out = filled(len, |out: &mut [u8], length| {
             let (path, depth) = (path.as_ptr(), path.len());
             // SAFETY: what the head of this module says.
-            unsafe { raw::typst_full_text(self.at(), path, depth, out.as_mut_ptr(), out.len(), length) }
+            unsafe { raw::typst_full_text(self.read(), path, depth, out.as_mut_ptr(), out.len(), length) }
         })?;
         Ok(text(out))
     }
@@ -178,7 +182,7 @@ impl Handle {
         let (many, from_end, mut child) = (path.len(), from_end.into(), 0);
         // SAFETY: what the head of this module says.
         outcome(unsafe {
-            raw::typst_child_of_class(self.at(), path.as_ptr(), many, class, index, from_end, &mut child)
+            raw::typst_child_of_class(self.read(), path.as_ptr(), many, class, index, from_end, &mut child)
         })?;
         Ok(child)
     }
@@ -190,7 +194,7 @@ impl Handle {
             let (path, depth, to) = (path.as_ptr(), path.len(), out.as_mut_ptr());
             // SAFETY: what the head of this module says.
             let status =
-                unsafe { raw::typst_view(self.at(), path, depth, accessor, index, to, out.len(), &mut answer) };
+                unsafe { raw::typst_view(self.read(), path, depth, accessor, index, to, out.len(), &mut answer) };
             length.len = answer.len;
             status
         })?;
@@ -206,7 +210,7 @@ impl Handle {
             // SAFETY: what the head of this module says.
             let status = unsafe {
                 raw::typst_diagnostics(
-                    self.at(),
+                    self.read(),
                     out.as_mut_ptr(),
                     out.len(),
                     texts.as_mut_ptr(),
@@ -230,9 +234,17 @@ impl Handle {
         // SAFETY: what the head of this module says. No call gets the same handle twice.
         outcome(unsafe {
             if ptr::eq(self, other) {
-                raw::typst_spanless_eq_within(self.at(), path, many, other_path, other_many, &mut equal)
+                raw::typst_spanless_eq_within(self.read(), path, many, other_path, other_many, &mut equal)
             } else {
-                raw::typst_spanless_eq(self.at(), path, many, other.at(), other_path, other_many, &mut equal)
+                raw::typst_spanless_eq(
+                    self.read(),
+                    path,
+                    many,
+                    other.read(),
+                    other_path,
+                    other_many,
+                    &mut equal,
+                )
             }
         })?;
         Ok(equal == 1)
@@ -241,21 +253,21 @@ impl Handle {
     pub(crate) fn find(&self, number: u64) -> Result<Vec<usize>, Error> {
         found(|path, place| {
             // SAFETY: what the head of this module says.
-            unsafe { raw::typst_find(self.at(), number, path.as_mut_ptr(), path.len(), place) }
+            unsafe { raw::typst_find(self.read(), number, path.as_mut_ptr(), path.len(), place) }
         })
     }
 
     pub(crate) fn leaf_at(&self, cursor: usize, side: u32) -> Result<Vec<usize>, Error> {
         found(|path, place| {
             // SAFETY: what the head of this module says.
-            unsafe { raw::typst_leaf_at(self.at(), cursor, side, path.as_mut_ptr(), path.len(), place) }
+            unsafe { raw::typst_leaf_at(self.read(), cursor, side, path.as_mut_ptr(), path.len(), place) }
         })
     }
 
     pub(crate) fn range_of(&self, path: &[usize]) -> Result<Range<usize>, Error> {
         let mut range = ByteRange::default();
         // SAFETY: what the head of this module says.
-        outcome(unsafe { raw::typst_range_of(self.at(), path.as_ptr(), path.len(), &mut range) })?;
+        outcome(unsafe { raw::typst_range_of(self.read(), path.as_ptr(), path.len(), &mut range) })?;
         Ok(range.start..range.end)
     }
 
@@ -264,7 +276,7 @@ impl Handle {
             // SAFETY: what the head of this module says.
             unsafe {
                 raw::typst_neighbor(
-                    self.at(),
+                    self.read(),
                     from.as_ptr(),
                     from.len(),
                     which,
@@ -292,21 +304,21 @@ impl Handle {
     pub(crate) fn len_lines(&self) -> Result<usize, Error> {
         let mut count = 0;
         // SAFETY: what the head of this module says.
-        outcome(unsafe { raw::typst_len_lines(self.at(), &mut count) })?;
+        outcome(unsafe { raw::typst_len_lines(self.read(), &mut count) })?;
         Ok(count)
     }
 
     pub(crate) fn byte_to_line_column(&self, byte: usize, unit: u32) -> Result<LineColumn, Error> {
         let mut place = LineColumn::default();
         // SAFETY: what the head of this module says.
-        outcome(unsafe { raw::typst_byte_to_line_column(self.at(), byte, unit, &mut place) })?;
+        outcome(unsafe { raw::typst_byte_to_line_column(self.read(), byte, unit, &mut place) })?;
         Ok(place)
     }
 
     pub(crate) fn line_column_to_byte(&self, line: usize, column: usize, unit: u32) -> Result<usize, Error> {
         let mut byte = 0;
         // SAFETY: what the head of this module says.
-        outcome(unsafe { raw::typst_line_column_to_byte(self.at(), line, column, unit, &mut byte) })?;
+        outcome(unsafe { raw::typst_line_column_to_byte(self.read(), line, column, unit, &mut byte) })?;
         Ok(byte)
     }
 }

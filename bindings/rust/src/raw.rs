@@ -145,9 +145,9 @@ extern "C" {
         count: usize,
         window: *mut Window,
     ) -> u32;
-    pub fn typst_node(session: *mut Session, path: *const usize, depth: usize, info: *mut NodeInfo) -> u32;
+    pub fn typst_node(session: *const Session, path: *const usize, depth: usize, info: *mut NodeInfo) -> u32;
     pub fn typst_children(
-        session: *mut Session,
+        session: *const Session,
         path: *const usize,
         depth: usize,
         out: *mut NodeInfo,
@@ -155,7 +155,7 @@ extern "C" {
         length: *mut Length,
     ) -> u32;
     pub fn typst_preorder(
-        session: *mut Session,
+        session: *const Session,
         path: *const usize,
         depth: usize,
         out: *mut NodeInfo,
@@ -163,7 +163,7 @@ extern "C" {
         length: *mut Length,
     ) -> u32;
     pub fn typst_leaf_text(
-        session: *mut Session,
+        session: *const Session,
         path: *const usize,
         depth: usize,
         out: *mut u8,
@@ -171,7 +171,7 @@ extern "C" {
         length: *mut Length,
     ) -> u32;
     pub fn typst_full_text(
-        session: *mut Session,
+        session: *const Session,
         path: *const usize,
         depth: usize,
         out: *mut u8,
@@ -179,7 +179,7 @@ extern "C" {
         length: *mut Length,
     ) -> u32;
     pub fn typst_child_of_class(
-        session: *mut Session,
+        session: *const Session,
         path: *const usize,
         depth: usize,
         node_class: u32,
@@ -188,7 +188,7 @@ extern "C" {
         child: *mut usize,
     ) -> u32;
     pub fn typst_view(
-        session: *mut Session,
+        session: *const Session,
         path: *const usize,
         depth: usize,
         accessor: u32,
@@ -198,7 +198,7 @@ extern "C" {
         answer: *mut ViewAnswer,
     ) -> u32;
     pub fn typst_diagnostics(
-        session: *mut Session,
+        session: *const Session,
         out: *mut Diagnostic,
         room: usize,
         texts: *mut u8,
@@ -206,7 +206,7 @@ extern "C" {
         sizes: *mut DiagnosticSizes,
     ) -> u32;
     pub fn typst_spanless_eq_within(
-        session: *mut Session,
+        session: *const Session,
         path: *const usize,
         depth: usize,
         other_path: *const usize,
@@ -214,26 +214,26 @@ extern "C" {
         equal: *mut u32,
     ) -> u32;
     pub fn typst_spanless_eq(
-        session: *mut Session,
+        session: *const Session,
         path: *const usize,
         depth: usize,
-        other: *mut Session,
+        other: *const Session,
         other_path: *const usize,
         other_depth: usize,
         equal: *mut u32,
     ) -> u32;
-    pub fn typst_find(session: *mut Session, number: u64, path: *mut usize, room: usize, place: *mut Place) -> u32;
+    pub fn typst_find(session: *const Session, number: u64, path: *mut usize, room: usize, place: *mut Place) -> u32;
     pub fn typst_leaf_at(
-        session: *mut Session,
+        session: *const Session,
         cursor: usize,
         side: u32,
         path: *mut usize,
         room: usize,
         place: *mut Place,
     ) -> u32;
-    pub fn typst_range_of(session: *mut Session, path: *const usize, depth: usize, range: *mut ByteRange) -> u32;
+    pub fn typst_range_of(session: *const Session, path: *const usize, depth: usize, range: *mut ByteRange) -> u32;
     pub fn typst_neighbor(
-        session: *mut Session,
+        session: *const Session,
         path: *const usize,
         depth: usize,
         which: u32,
@@ -250,10 +250,10 @@ extern "C" {
         with_len: usize,
         edited: *mut Edited,
     ) -> u32;
-    pub fn typst_len_lines(session: *mut Session, count: *mut usize) -> u32;
-    pub fn typst_byte_to_line_column(session: *mut Session, byte: usize, unit: u32, place: *mut LineColumn) -> u32;
+    pub fn typst_len_lines(session: *const Session, count: *mut usize) -> u32;
+    pub fn typst_byte_to_line_column(session: *const Session, byte: usize, unit: u32, place: *mut LineColumn) -> u32;
     pub fn typst_line_column_to_byte(
-        session: *mut Session,
+        session: *const Session,
         line: usize,
         column: usize,
         unit: u32,

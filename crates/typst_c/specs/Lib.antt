@@ -1,3 +1,4 @@
 pub mod Calls
+pub mod Lending
 pub mod Owned
 pub mod Told

@@ -26,6 +26,9 @@ impl Model for At {
 }
 
 impl At {
+    ghost use Rattle.std.specs.Borrow.{sem};
+    ghost use Rattle.typst_c.specs.Lending.{AtLends};
+
     pub(crate) fn none() -> At
         ensures { result.value ≡ None }
     {
@@ -48,5 +51,14 @@ impl At {
             at: at as *mut Session,
             alloc,
         }
+    }
+
+    /// Lends the session.
+    pub(crate) fn lend(&mut self) -> &mut Session
+        requires { IsSome self.old.value }
+        ensures* writes_back { sem 𝓛 (AtLends self.entry result) }
+        ensures value { self.old.value ≡ Some result.now }
+    {
+        unsafe { &mut *(self.at as *mut Session) }
     }
 }

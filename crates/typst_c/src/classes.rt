@@ -1,19 +1,18 @@
 //! The children of a node that are of a class.
 ghost use Rattle.std.specs.Prelude.{ℕ, ◌≡◌, Result};
 ghost use Rattle.typst_c.specs.Calls.{Reads};
+ghost use Rattle.typst_c.specs.Lending.{IsSameHandle};
 ghost use Rattle.typst_c.specs.Told.{TellsNumber, is_from_end};
 ghost use Rattle.typst_session.specs.Classes.{PicksChild};
 ghost use Rattle.typst_session.specs.declared.refusal.Refusal.{Refusal};
 
 use crate::handle::Handle;
 use crate::told::{NOT_MADE, tell_size};
-use std::alloc::Global;
 
 /// The index of a child of a class, counted from the first one (`from_end` is 0) or from the last one (any other
 /// number).
 #[unsafe(no_mangle)]
 pub extern "C" fn typst_child_of_class(
-    alloc: Global,
     handle: &mut Handle,
     path: &[usize],
     node_class: u32,
@@ -21,14 +20,13 @@ pub extern "C" fn typst_child_of_class(
     from_end: u32,
     child: &mut usize,
 ) -> u32
-    ensures kept { handle.new.at.value ≡ handle.old.at.value }
+    ensures kept { IsSameHandle handle.old handle.new }
     ensures read { Reads (λ s. (outcome : Result ℕ Refusal) × TellsNumber child.new result outcome
         × PicksChild path.now node_class index (is_from_end from_end) s outcome) handle.old.at.value result }
 {
-    let Some(session) = handle.take(alloc) else {
+    let Some(session) = handle.read() else {
         return NOT_MADE;
     };
     let outcome = session.child_of_class(path, node_class, index, from_end != 0);
-    handle.put(session);
     tell_size(outcome, child)
 }

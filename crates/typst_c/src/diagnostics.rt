@@ -1,6 +1,7 @@
 //! The errors, warnings and hints of the tree that a handle holds.
 ghost use Rattle.std.specs.Prelude.{◌≡◌, Result};
 ghost use Rattle.typst_c.specs.Calls.{Reads, status_of};
+ghost use Rattle.typst_c.specs.Lending.{IsSameHandle};
 ghost use Rattle.typst_session.specs.Diagnostics.{ReadsDiagnostics};
 ghost use Rattle.typst_session.specs.declared.refusal.Refusal.{Refusal};
 
@@ -18,15 +19,14 @@ pub extern "C" fn typst_diagnostics(
     texts: &mut [u8],
     sizes: &mut DiagnosticSizes,
 ) -> u32
-    ensures kept { handle.new.at.value ≡ handle.old.at.value }
+    ensures kept { IsSameHandle handle.old handle.new }
     ensures read { Reads (λ s. (outcome : Result (Unit {0}) Refusal) × (result ≡ status_of outcome)
         × ReadsDiagnostics s (record { list = out.old; texts = texts.old }) (record { list = out.new; texts = texts.new })
         sizes.new outcome) handle.old.at.value result }
 {
-    let Some(session) = handle.take(alloc) else {
+    let Some(session) = handle.read() else {
         return NOT_MADE;
     };
     let outcome = session.diagnostics(alloc, out, texts, sizes);
-    handle.put(session);
     status(outcome)
 }

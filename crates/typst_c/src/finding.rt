@@ -1,6 +1,7 @@
 //! Finding nodes of the tree that a handle holds.
 ghost use Rattle.std.specs.Prelude.{◌≡◌, Result};
 ghost use Rattle.typst_c.specs.Calls.{Reads};
+ghost use Rattle.typst_c.specs.Lending.{IsSameHandle};
 ghost use Rattle.typst_c.specs.Told.{TellsPlace};
 ghost use Rattle.typst_session.specs.Finding.{Finds, FindsLeaf};
 ghost use Rattle.typst_session.specs.declared.finding.Found.{Found};
@@ -21,15 +22,14 @@ pub extern "C" fn typst_find(
     path: &mut [usize],
     place: &mut Place,
 ) -> u32
-    ensures kept { handle.new.at.value ≡ handle.old.at.value }
+    ensures kept { IsSameHandle handle.old handle.new }
     ensures read { Reads (λ s. (outcome : Result Found Refusal) × TellsPlace path.old path.new place.new result outcome
         × Finds number s outcome) handle.old.at.value result }
 {
-    let Some(session) = handle.take(alloc) else {
+    let Some(session) = handle.read() else {
         return NOT_MADE;
     };
     let outcome = session.find(alloc, number);
-    handle.put(session);
     tell_place(outcome, path, place)
 }
 
@@ -55,14 +55,13 @@ pub extern "C" fn typst_leaf_at(
     path: &mut [usize],
     place: &mut Place,
 ) -> u32
-    ensures kept { handle.new.at.value ≡ handle.old.at.value }
+    ensures kept { IsSameHandle handle.old handle.new }
     ensures read { Reads (λ s. (outcome : Result Found Refusal) × TellsPlace path.old path.new place.new result outcome
         × FindsLeaf (side_of side) cursor s outcome) handle.old.at.value result }
 {
-    let Some(session) = handle.take(alloc) else {
+    let Some(session) = handle.read() else {
         return NOT_MADE;
     };
     let outcome = session.leaf_at(alloc, cursor, side_from(side));
-    handle.put(session);
     tell_place(outcome, path, place)
 }

@@ -20,6 +20,9 @@ pub struct Handle {
 }
 
 impl Handle {
+    ghost use Rattle.std.specs.Borrow.{sem};
+    ghost use Rattle.typst_c.specs.Lending.{HandleKeeps};
+
     fn none() -> Handle
         ensures { result.at.value ≡ None }
     {
@@ -51,5 +54,17 @@ impl Handle {
             made: MADE,
             at: At::of(Loose::of(session)),
         };
+    }
+
+    /// Lends what the handle holds, to read it.
+    pub(crate) fn read(&mut self) -> Option<&Session>
+        ensures* keeps { sem 𝓛 (HandleKeeps self.entry) }
+        ensures lent { MatchOption result (self.old.at.value ≡ None) (λ session. self.old.at.value ≡ Some session.now) }
+    {
+        if self.made == MADE {
+            Some(self.at.lend())
+        } else {
+            None
+        }
     }
 }

@@ -1,6 +1,7 @@
 //! Reading many nodes of the tree that a handle holds.
 ghost use Rattle.std.specs.Prelude.{◌≡◌, Result};
 ghost use Rattle.typst_c.specs.Calls.{Reads, status_of};
+ghost use Rattle.typst_c.specs.Lending.{IsSameHandle};
 ghost use Rattle.typst_node.specs.Preorder.{subtrees};
 ghost use Rattle.typst_node.specs.Tree.{trees};
 ghost use Rattle.typst_session.specs.Infos.{ReadsInfos};
@@ -8,47 +9,42 @@ ghost use Rattle.typst_session.specs.declared.refusal.Refusal.{Refusal};
 
 use crate::handle::Handle;
 use crate::told::{Length, NOT_MADE, status};
-use std::alloc::Global;
 use typst_session::NodeInfo;
 
 /// Reads each child of the node at a path.
 #[unsafe(no_mangle)]
 pub extern "C" fn typst_children(
-    alloc: Global,
     handle: &mut Handle,
     path: &[usize],
     out: &mut [NodeInfo],
     length: &mut Length,
 ) -> u32
-    ensures kept { handle.new.at.value ≡ handle.old.at.value }
+    ensures kept { IsSameHandle handle.old handle.new }
     ensures read { Reads (λ s. (outcome : Result (Unit {0}) Refusal) × (result ≡ status_of outcome)
         × ReadsInfos (λ t. trees t.children) path.now s out.old out.new length.new.len outcome) handle.old.at.value result }
 {
-    let Some(session) = handle.take(alloc) else {
+    let Some(session) = handle.read() else {
         return NOT_MADE;
     };
     let outcome = session.children(path, out, &mut length.len);
-    handle.put(session);
     status(outcome)
 }
 
 /// Reads each node of the subtree at a path, in preorder.
 #[unsafe(no_mangle)]
 pub extern "C" fn typst_preorder(
-    alloc: Global,
     handle: &mut Handle,
     path: &[usize],
     out: &mut [NodeInfo],
     length: &mut Length,
 ) -> u32
-    ensures kept { handle.new.at.value ≡ handle.old.at.value }
+    ensures kept { IsSameHandle handle.old handle.new }
     ensures read { Reads (λ s. (outcome : Result (Unit {0}) Refusal) × (result ≡ status_of outcome)
         × ReadsInfos subtrees path.now s out.old out.new length.new.len outcome) handle.old.at.value result }
 {
-    let Some(session) = handle.take(alloc) else {
+    let Some(session) = handle.read() else {
         return NOT_MADE;
     };
     let outcome = session.preorder(path, out, &mut length.len);
-    handle.put(session);
     status(outcome)
 }

@@ -2,6 +2,7 @@
 ghost use Rattle.std.specs.Prelude.{ℕ, ◌≡◌, Result};
 ghost use Rattle.std.specs.declared.ops.Range.{Range as Interval};
 ghost use Rattle.typst_c.specs.Calls.{Reads};
+ghost use Rattle.typst_c.specs.Lending.{IsSameHandle};
 ghost use Rattle.typst_c.specs.Told.{TellsPlace, TellsRange, neighbor_from};
 ghost use Rattle.typst_session.specs.Neighbors.{FindsNeighbor, ReadsRange};
 ghost use Rattle.typst_session.specs.declared.finding.Found.{Found};
@@ -20,15 +21,14 @@ pub extern "C" fn typst_range_of(
     path: &[usize],
     range: &mut ByteRange,
 ) -> u32
-    ensures kept { handle.new.at.value ≡ handle.old.at.value }
+    ensures kept { IsSameHandle handle.old handle.new }
     ensures read { Reads (λ s. (outcome : Result (Interval ℕ) Refusal) × TellsRange range.new result outcome
         × ReadsRange path.now s outcome) handle.old.at.value result }
 {
-    let Some(session) = handle.take(alloc) else {
+    let Some(session) = handle.read() else {
         return NOT_MADE;
     };
     let outcome = session.range(alloc, path);
-    handle.put(session);
     tell_range(outcome, range)
 }
 
@@ -55,15 +55,14 @@ pub extern "C" fn typst_neighbor(
     found: &mut [usize],
     place: &mut Place,
 ) -> u32
-    ensures kept { handle.new.at.value ≡ handle.old.at.value }
+    ensures kept { IsSameHandle handle.old handle.new }
     ensures read { Reads (λ s. (outcome : Result Found Refusal)
         × TellsPlace found.old found.new place.new result outcome
         × FindsNeighbor (neighbor_from which) path.now s outcome) handle.old.at.value result }
 {
-    let Some(session) = handle.take(alloc) else {
+    let Some(session) = handle.read() else {
         return NOT_MADE;
     };
     let outcome = session.neighbor(alloc, path, neighbor_of(which));
-    handle.put(session);
     tell_place(outcome, found, place)
 }

@@ -1,6 +1,7 @@
 //! Lines and columns of the text of the document that a handle holds.
 ghost use Rattle.std.specs.Prelude.{ℕ, ◌≡◌, Result};
 ghost use Rattle.typst_c.specs.Calls.{Reads};
+ghost use Rattle.typst_c.specs.Lending.{IsSameHandle};
 ghost use Rattle.typst_c.specs.Told.{TellsLineColumn, TellsNumber, unit_of};
 ghost use Rattle.typst_session.specs.Places.{CountsLines, FindsByte, PlacesByte};
 ghost use Rattle.typst_session.specs.declared.places.LineColumn.{LineColumn as Place};
@@ -8,22 +9,20 @@ ghost use Rattle.typst_session.specs.declared.refusal.Refusal.{Refusal};
 
 use crate::handle::Handle;
 use crate::told::{NOT_MADE, tell_line_column, tell_size};
-use std::alloc::Global;
 use typst_lines::ColumnUnit;
 use typst_session::LineColumn;
 
 /// How many lines the document's text has.
 #[unsafe(no_mangle)]
-pub extern "C" fn typst_len_lines(alloc: Global, handle: &mut Handle, count: &mut usize) -> u32
-    ensures kept { handle.new.at.value ≡ handle.old.at.value }
+pub extern "C" fn typst_len_lines(handle: &mut Handle, count: &mut usize) -> u32
+    ensures kept { IsSameHandle handle.old handle.new }
     ensures read { Reads (λ s. (outcome : Result ℕ Refusal) × TellsNumber count.new result outcome
         × CountsLines s outcome) handle.old.at.value result }
 {
-    let Some(session) = handle.take(alloc) else {
+    let Some(session) = handle.read() else {
         return NOT_MADE;
     };
     let outcome = session.len_lines();
-    handle.put(session);
     tell_size(outcome, count)
 }
 
@@ -41,43 +40,39 @@ fn unit_from(number: u32) -> ColumnUnit
 /// The line and the column of a byte of the document's text.
 #[unsafe(no_mangle)]
 pub extern "C" fn typst_byte_to_line_column(
-    alloc: Global,
     handle: &mut Handle,
     byte: usize,
     unit: u32,
     place: &mut LineColumn,
 ) -> u32
-    ensures kept { handle.new.at.value ≡ handle.old.at.value }
+    ensures kept { IsSameHandle handle.old handle.new }
     ensures read { Reads (λ s. (outcome : Result Place Refusal) × TellsLineColumn place.new result outcome
         × PlacesByte (unit_of unit) byte s outcome) handle.old.at.value result }
 {
-    let Some(session) = handle.take(alloc) else {
+    let Some(session) = handle.read() else {
         return NOT_MADE;
     };
     let outcome = session.byte_to_line_column(byte, unit_from(unit));
-    handle.put(session);
     tell_line_column(outcome, place)
 }
 
 /// The byte of the document's text at a line and a column.
 #[unsafe(no_mangle)]
 pub extern "C" fn typst_line_column_to_byte(
-    alloc: Global,
     handle: &mut Handle,
     line: usize,
     column: usize,
     unit: u32,
     byte: &mut usize,
 ) -> u32
-    ensures kept { handle.new.at.value ≡ handle.old.at.value }
+    ensures kept { IsSameHandle handle.old handle.new }
     ensures read { Reads (λ s. (outcome : Result ℕ Refusal) × TellsNumber byte.new result outcome
         × FindsByte (unit_of unit) line column s outcome) handle.old.at.value result }
 {
-    let Some(session) = handle.take(alloc) else {
+    let Some(session) = handle.read() else {
         return NOT_MADE;
     };
     let place = LineColumn { line, column };
     let outcome = session.line_column_to_byte(place, unit_from(unit));
-    handle.put(session);
     tell_size(outcome, byte)
 }

@@ -1,6 +1,7 @@
 //! Reading the tree that a handle holds.
 ghost use Rattle.std.specs.Prelude.{◌≡◌, Result};
 ghost use Rattle.typst_c.specs.Calls.{Reads, status_of};
+ghost use Rattle.typst_c.specs.Lending.{IsSameHandle};
 ghost use Rattle.typst_c.specs.Told.{TellsInfo};
 ghost use Rattle.typst_node.specs.Text.{text, own_text};
 ghost use Rattle.typst_session.specs.Reading.{ReadsInfo};
@@ -15,42 +16,34 @@ use typst_session::NodeInfo;
 
 /// Reads the node at a path.
 #[unsafe(no_mangle)]
-pub extern "C" fn typst_node(
-    alloc: Global,
-    handle: &mut Handle,
-    path: &[usize],
-    info: &mut NodeInfo,
-) -> u32
-    ensures kept { handle.new.at.value ≡ handle.old.at.value }
+pub extern "C" fn typst_node(handle: &mut Handle, path: &[usize], info: &mut NodeInfo) -> u32
+    ensures kept { IsSameHandle handle.old handle.new }
     ensures read { Reads (λ s. (outcome : Result Info Refusal) × TellsInfo info.new result outcome
         × ReadsInfo path.now s outcome) handle.old.at.value result }
 {
-    let Some(session) = handle.take(alloc) else {
+    let Some(session) = handle.read() else {
         return NOT_MADE;
     };
     let outcome = session.node(path);
-    handle.put(session);
     tell_info(outcome, info)
 }
 
 /// Writes the text of the leaf or error at a path.
 #[unsafe(no_mangle)]
 pub extern "C" fn typst_leaf_text(
-    alloc: Global,
     handle: &mut Handle,
     path: &[usize],
     out: &mut [u8],
     length: &mut Length,
 ) -> u32
-    ensures kept { handle.new.at.value ≡ handle.old.at.value }
+    ensures kept { IsSameHandle handle.old handle.new }
     ensures read { Reads (λ s. (outcome : Result (Unit {0}) Refusal) × (result ≡ status_of outcome)
         × WritesOf (λ t. own_text t.label) path.now s out.old out.new length.new.len outcome) handle.old.at.value result }
 {
-    let Some(session) = handle.take(alloc) else {
+    let Some(session) = handle.read() else {
         return NOT_MADE;
     };
     let outcome = session.leaf_text(path, out, &mut length.len);
-    handle.put(session);
     status(outcome)
 }
 
@@ -63,14 +56,13 @@ pub extern "C" fn typst_full_text(
     out: &mut [u8],
     length: &mut Length,
 ) -> u32
-    ensures kept { handle.new.at.value ≡ handle.old.at.value }
+    ensures kept { IsSameHandle handle.old handle.new }
     ensures read { Reads (λ s. (outcome : Result (Unit {0}) Refusal) × (result ≡ status_of outcome)
         × WritesOf text path.now s out.old out.new length.new.len outcome) handle.old.at.value result }
 {
-    let Some(session) = handle.take(alloc) else {
+    let Some(session) = handle.read() else {
         return NOT_MADE;
     };
     let outcome = session.full_text(alloc, path, out, &mut length.len);
-    handle.put(session);
     status(outcome)
 }

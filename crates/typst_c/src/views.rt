@@ -1,6 +1,7 @@
 //! What the accessors of typed views answer of a node.
 ghost use Rattle.std.specs.Prelude.{◌≡◌, Result};
 ghost use Rattle.typst_c.specs.Calls.{Reads, status_of};
+ghost use Rattle.typst_c.specs.Lending.{IsSameHandle};
 ghost use Rattle.typst_session.specs.Views.{ReadsView};
 ghost use Rattle.typst_session.specs.declared.refusal.Refusal.{Refusal};
 
@@ -20,16 +21,15 @@ pub extern "C" fn typst_view(
     out: &mut [u8],
     answer: &mut ViewAnswer,
 ) -> u32
-    ensures kept { handle.new.at.value ≡ handle.old.at.value }
+    ensures kept { IsSameHandle handle.old handle.new }
     ensures read { Reads (λ s. (outcome : Result (Unit {0}) Refusal) × (result ≡ status_of outcome)
         × ReadsView path.now (record { accessor = accessor; index = index }) s
         (record { bytes = out.old; answer = answer.old }) (record { bytes = out.new; answer = answer.new }) outcome)
         handle.old.at.value result }
 {
-    let Some(session) = handle.take(alloc) else {
+    let Some(session) = handle.read() else {
         return NOT_MADE;
     };
     let outcome = session.view(alloc, path, Asked { accessor, index }, out, answer);
-    handle.put(session);
     status(outcome)
 }
