@@ -10,15 +10,17 @@
    bench/accessors.py.
 2. The exports of crates/typst_c, the functions of bindings/c/typst.h and those of bindings/rust/src/raw.rs must be the same, with
    the same names, numbers and widths of arguments. So must the fields of the structs that are passed, and the functions of the
-   archive. Each export needs a function `typst_try_` in the header. A session is `const` in C and in Rust exactly if the contract of
-   the export says that the handle stays the same, and bindings/c/tests/read_only.c must make each such call. The text of a status in
-   C must be that of its refusal in crates/typst_session, and its error in Rust must have the same name. A refusal is no error in Rust
-   only if no call there can get it, or if the crate then calls again.
+   archive, which has no variables, so that sessions share nothing. Each export that takes a pointer needs a function `typst_try_` in
+   the header, and bindings/c/tests/nulls.c must pass null to it in place of each pointer. A session is `const` in C and in Rust
+   exactly if the contract of the export says that the handle stays the same, and bindings/c/tests/read_only.c must make each such
+   call. The version and the severities must be the same everywhere, and no severity may be the number of a status. The text of a
+   status in C must be that of its refusal in crates/typst_session, and its error in Rust must have the same name. A refusal is no
+   error in Rust only if no call there can get it, or if the crate then calls again.
 3. `rt lib` builds the archive, and proves what isn't kept.
 4. gcc compiles the examples and the tests in C with all warnings. They run under the sanitizers of addresses and of undefined
    behavior. One test makes calls that are drawn at random: a million, or as many as --calls says. Another refuses each request for
-   memory in turn. A third makes each call that only reads on sessions in memory that can't be written. Each example must print what
-   the file `.stdout` next to it says. clang, if it is there, reads the comments of the headers.
+   memory in turn. A third makes each call that only reads on sessions in memory that can't be written, and a fourth passes null
+   pointers. Each example must print what the file `.stdout` next to it says. clang, if it is there, reads the comments of the headers.
 5. cargo, offline, runs the tests, the lints and the documentation of the Rust crate. Its examples must print what the files
    `.stdout` next to them say. One of them carries out scripts: the vectors of scripts and the scripts in examples/.
 
@@ -42,14 +44,15 @@ ARCHIVE = "out/libtypst_c.a"
 C, RUST = TOP / "bindings/c", TOP / "bindings/rust"
 SCRIPTS = [TOP / "crates/typst_script_tests/vectors", TOP / "examples"]
 HEADER, RAW = C / "typst.h", RUST / "src/raw.rs"
-READ_ONLY = C / "tests/read_only.c"
+READ_ONLY, NULLS = C / "tests/read_only.c", C / "tests/nulls.c"
 STRICT = ["-std=c11", "-O1", "-g", "-Wall", "-Wextra", "-Werror", "-pedantic", f"-I{C}"]
 SANITIZED = ["-fsanitize=address,undefined", "-fno-sanitize-recover=all", "-fno-omit-frame-pointer"]
 REFUSALS = TOP / "crates/typst_session/src/refusal.rt"
+DIAGNOSTICS = TOP / "crates/typst_session/src/diagnostics.rt"
 # The statuses that are no refusals: the call was done, and the session holds nothing.
 OWN_STATUSES = {"0", "1"}
 # The refusals that no call of the Rust crate can get: its types rule them out.
-RULED_OUT = {"Text", "NoTree", "IsDocument", "NoDocument", "File", "Set", "Accessor"}
+RULED_OUT = {"Text", "NoTree", "IsDocument", "NoDocument", "File", "Set", "Accessor", "NoEdit"}
 # The refusal after which the Rust crate calls again with a longer buffer.
 RETRIED = "Buffer"
 POINTER = "pointer"
@@ -60,7 +63,7 @@ WIDTHS = {"u8": 8, "u16": 16, "u32": 32, "u64": 64, "i64": 64, "usize": 64, "uin
 STRUCTS = {"typst_session": None, "typst_node_info": "NodeInfo", "typst_place": "Place", "typst_length": "Length",
            "typst_range": "ByteRange", "typst_line_column": "LineColumn", "typst_answer": "ViewAnswer",
            "typst_diagnostic": "Diagnostic", "typst_diagnostic_sizes": "DiagnosticSizes",
-           "typst_kind_info": "KindClasses", "typst_window": "Window", "typst_edited": "Edited"}
+           "typst_kind_info": "KindClasses", "typst_window": "Window", "typst_change": "Change", "typst_edited": "Edited"}
 # The rows of speed.c that do the same work as a row of bench/speed.py, with its operation and the number of steps of a round.
 BESIDE = {"all nodes by typst_preorder, a node": speed.over("", "preorder", "document", speed.HUNDRED_THOUSAND, 5),
           "a node by its number": speed.Row("", f"find document {speed.HUNDRED_THOUSAND} 50000"),
@@ -103,10 +106,11 @@ def exports():
 
 def declared(text):
     """The functions that the header declares, without those that it defines."""
-    found = re.findall(r"^(typst_status|void) (\w+)\(([^)]*)\);", text, re.M)
+    found = re.findall(r"^(?:TYPST_NODISCARD )?(typst_status|void|uint32_t) (\w+)\(([^)]*)\);", text, re.M)
 
     def arguments(list_of):
-        arguments = (re.match(r"(?:const )?(\w+) (\*?)(\w+)$", " ".join(one.split())) for one in list_of.split(","))
+        each = [] if list_of == "void" else list_of.split(",")
+        arguments = (re.match(r"(?:const )?(\w+) (\*?)(\w+)$", " ".join(one.split())) for one in each)
         return [(it[3], width(it[1] + it[2])) for it in arguments]
 
     return {name: (arguments(list_of), width({"void": "()"}.get(result, result))) for result, name, list_of in found}
@@ -146,7 +150,7 @@ def struct_differences(header, raw):
     differ = []
     for name, rust_name in STRUCTS.items():
         in_c = fields(header, f"typedef struct {name}", r"(\w+ \*?)(\w+(?:, \w+)*);")
-        in_c = [(one, width(kind.replace("typst_window", "Window").strip())) for kind, names in in_c or [] for one in names.split(", ")]
+        in_c = [(one, width(STRUCTS.get(kind.strip()) or kind)) for kind, names in in_c or [] for one in names.split(", ")]
         for where, text in [("Rattle", rattle), ("Rust", raw)]:
             opening = f"pub struct {rust_name or ('Handle' if where == 'Rattle' else 'Session')}"
             told = [(one, width(kind)) for one, kind in fields(text, opening, r"(\w+): ([^,{]+),") or []]
@@ -171,16 +175,46 @@ def status_differences(header):
     return differ + [f"the refusal {name} must be an error in Rust or in RULED_OUT, and not both" for name in sorted(told_apart)]
 
 
+def version_differences(header):
+    """Whether the library, the header and the Rust crate have one version."""
+    inside = int(re.search(r"pub const VERSION: u32 = (\d+);", (EXPORTS / "src/life.rt").read_text())[1])
+    in_c = int(re.search(r"#define TYPST_TREE_VERSION (\d+)", header)[1])
+    first, second, third = map(int, re.search(r'^version = "(\d+)\.(\d+)\.(\d+)"', (RUST / "Cargo.toml").read_text(), re.M).groups())
+    in_rust = 10_000 * first + 100 * second + third
+    return [] if inside == in_c == in_rust else [f"the version is {inside} in the library, {in_c} in C and {in_rust} in Rust"]
+
+
+def severity_differences(header):
+    """Whether the severities of C are those of the library, and no severity is a status."""
+    inside = dict(re.findall(r"Severity::(\w+) => (\d+),", DIAGNOSTICS.read_text()))
+    in_c = {name.capitalize(): number for name, number in re.findall(r"TYPST_SEVERITY_(\w+) = (\d+)", header)}
+    statuses = set(re.findall(r"\bTYPST_\w+ = (\d+)", header[: header.index("typedef struct typst_node_info")]))
+    differ = [] if inside == in_c else [f"the severities are {inside} in the library and {in_c} in C"]
+    return differ + [f"the severity {name} has the number of a status" for name, number in in_c.items() if number in statuses]
+
+
 def reading_differences(header, raw):
     """What differs between the exports that leave a handle the same, the calls that take a `const` session, and those of read_only.c."""
     texts = re.findall(r'pub extern "C" fn (\w+)\((.*?)\n\{', code(EXPORTS / "src", "*.rt"), re.S)
     reading = {name for name, text in texts if "ensures kept { IsSameHandle handle.old handle.new }" in text}
-    told = {"typst.h": re.findall(r"^typst_status (\w+)\(const typst_session \*session\b", header, re.M),
-            "typst.h, typst_try_": [f"typst_{name}" for name in re.findall(r"typst_try_(\w+)\(const typst_session \*session\b", header)],
+    told = {"typst.h": re.findall(r"^TYPST_NODISCARD typst_status (\w+)\(\s*const typst_session \*session\b", header, re.M),
+            "typst.h, typst_try_": [f"typst_{name}" for name in re.findall(r"typst_try_(\w+)\(\s*const typst_session \*session\b", header)],
             "raw.rs": re.findall(r"pub fn (\w+)\(\s*session: \*const Session\b", raw),
             "read_only.c": re.findall(r'\{"(\w+)", \w+\}', READ_ONLY.read_text())}
     return [f"{where}: these read a session there or in the contracts, and not in both: {sorted(reading ^ set(names))}"
             for where, names in told.items() if reading != set(names)]
+
+
+def null_differences(header):
+    """Whether nulls.c passes a null pointer to each function `typst_try_` in place of each of its pointers."""
+    passed = re.findall(r"IS_NULL\((\w+)\(([^;]*)\)\);", NULLS.read_text())
+    differ = []
+    for name, list_of in re.findall(r"typst_status (typst_try_\w+)\(([^)]*)\)", header):
+        pointers = {at for at, one in enumerate(list_of.split(",")) if "*" in one}
+        null = [[at for at, one in enumerate(given.split(",")) if one.strip() == "NULL"] for called, given in passed if called == name]
+        if sorted(null) != [[at] for at in sorted(pointers)]:
+            differ.append(f"nulls.c passes null to {name} at {null}, and its pointers are at {sorted(pointers)}")
+    return differ
 
 
 def compare_declarations():
@@ -189,9 +223,10 @@ def compare_declarations():
     if not wanted:
         raise Differs("crates/typst_c has no exports")
     differ = compare("typst.h", wanted, declared(text)) + compare("raw.rs", wanted, rust_declared(raw))
-    tries = set(re.findall(r"^static inline \w+ typst_try_(\w+)\(", text, re.M))
-    differ += [f"typst.h lacks typst_try_{name[6:]}" for name in wanted if name[6:] not in tries]
+    tries = set(re.findall(r"^static inline (?:TYPST_NODISCARD )?\w+ typst_try_(\w+)\(", text, re.M))
+    differ += [f"typst.h lacks typst_try_{name[6:]}" for name, (taken, _) in wanted.items() if taken and name[6:] not in tries]
     differ += struct_differences(text, raw) + status_differences(text) + reading_differences(text, raw)
+    differ += version_differences(text) + severity_differences(text) + null_differences(text)
     if differ:
         raise Differs("\n".join(differ))
     return wanted
@@ -202,6 +237,10 @@ def compare_archive(archive, wanted):
     there = set(re.findall(r" T (typst_\w+)$", said, re.M))
     if there != set(wanted):
         raise Differs(f"the archive lacks these, or has them although they are no exports: {sorted(there ^ set(wanted))}")
+    all_symbols = subprocess.run(["nm", archive], capture_output=True, text=True, check=True).stdout
+    variables = re.findall(r" [BbCDdGgSs] (\S+)$", all_symbols, re.M)
+    if variables:
+        raise Differs(f"the archive has variables, which two threads would share: {variables}")
 
 
 def run(command, **more):
@@ -233,7 +272,7 @@ def programs_in_c(folder, archive, calls):
     heap, model = C / "heap.c", C / "tests/model.c"
     examples = [it.stem for it in sorted((C / "examples").glob("*.c"))]
     sources = {**{name: [C / f"examples/{name}.c", heap] for name in examples},
-               "random": [C / "tests/random.c", model, heap], "refuse": [C / "tests/refuse.c"]}
+               "random": [C / "tests/random.c", model, heap], "refuse": [C / "tests/refuse.c"], "nulls": [NULLS, heap]}
     for name, files in sources.items():
         run(["gcc", *STRICT, *SANITIZED, *files, archive, "-o", folder / name])
     # Without sanitizers, which would catch the signals that the test waits for.
@@ -242,6 +281,7 @@ def programs_in_c(folder, archive, calls):
         compare_printed(f"{name}.c", run([folder / name]), C / f"examples/{name}.stdout")
     print(run([folder / "refuse"]), end="")
     print(run([folder / "read_only"]), end="")
+    print(run([folder / "nulls"]), end="")
     print(run([folder / "random", calls]), end="")
     header = folder / "header.cc"
     header.write_text('#include "typst.h"\n')
@@ -292,8 +332,6 @@ def run_scripts(program):
 
 def crate_in_rust(folder, archive):
     shutil.copy(archive, folder)
-    run(["gcc", "-O2", "-c", C / "heap.c", "-o", folder / "heap.o"])
-    run(["ar", "rcs", folder / "libtypst_heap.a", folder / "heap.o"])
     more = {"cwd": RUST, "env": {**os.environ, "TYPST_C_DIR": str(folder), "CARGO_TARGET_DIR": str(folder / "target"),
                                  "RUSTFLAGS": "-D warnings", "RUSTDOCFLAGS": "-D warnings"}}
     run(["cargo", "test", "--offline", "--quiet"], **more)

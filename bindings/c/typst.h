@@ -2,19 +2,32 @@
  * The syntax tree layer under Typst, from C.
  *
  * A session holds a stack of nodes that are being built, and at most one tree. The tree is either a numbered tree that was built on
- * the stack, or the tree of a document. A document is a text of markup that is edited as a text. Each call returns a status. After
- * any status other than TYPST_DONE the session holds what it held before the call, and the call has written nothing. The one
- * exception is TYPST_SHORT_BUFFER: with it a call writes the length that it needs.
+ * the stack, or the tree of a document. A document is a text of markup that is edited as a text.
+ *
+ * Most calls return a status. After any status other than TYPST_DONE the session holds what it held before the call, and the call has
+ * written nothing to the memory that it was passed. There are two exceptions. With TYPST_SHORT_BUFFER a call writes the length that it
+ * needs, and all that it tells beside the buffer. After `typst_new` without memory the session holds nothing.
+ *
+ * If several statuses fit, a call returns the first of them in its list. The two statuses of memory and size have no place in that
+ * order: TYPST_NO_MEMORY comes as soon as memory is refused, and TYPST_TOO_LARGE as soon as a sum doesn't fit.
  *
  * What is proved of each call holds if the caller keeps the following rules. No call can test them:
  *
- * - A session is all zero before the first call of `typst_new` on it. After that only calls change it. It is never copied.
- * - A session is passed to one call at a time, and never from a signal handler.
+ * - A session comes from `typst_session_new`. Or it is a struct of the caller's own, which TYPST_SESSION_INIT makes all zero before
+ *   the first call. After that only calls change it. It is never copied.
+ * - Calls on one session come one at a time. They may come from different threads. Two sessions share nothing, so two threads may use
+ *   two sessions at the same time.
+ * - No call comes from a signal handler, or from the forked child of a process with threads.
  * - A text, a path or a buffer is a pointer to as many elements as the number after it says. No pointer is null, even if the number
  *   is 0. The functions `typst_try_` below test for null pointers, and accept a null pointer with the number 0.
- * - The memory that a call writes to overlaps with nothing else that is passed to the call.
+ * - The memory that a call writes to overlaps with nothing else that is passed to the call, and is aligned as its type asks.
+ * - The stack is large enough: a call on a tree goes as deep as the tree.
+ * - `malloc` and `realloc` align a block to each power of two up to 16 that divides its size.
+ * - The processor has the instructions of x86-64-v2.
  *
- * Places and lengths of texts are in bytes. A path is the child indices from the root down; the path of the root is empty.
+ * Places and lengths of texts are in bytes. A path is the child indices from the root down; the path of the root is empty. A path
+ * leads to the same node until the next call that changes the tree. A number identifies a node while the tree is edited, if it is
+ * followed after each edit (`typst_follow`).
  */
 #ifndef TYPST_H
 #define TYPST_H
@@ -22,9 +35,20 @@
 #include <assert.h>
 #include <stddef.h>
 #include <stdint.h>
+#include <stdlib.h>
 
 #include "typst_accessors.h"
 #include "typst_kinds.h"
+
+/** The version of this header, 0.2.0: 10,000 times the first number, 100 times the second number and the third number. */
+#define TYPST_TREE_VERSION 200
+
+/** Stands before a function whose result must be looked at. */
+#if defined(__GNUC__) || defined(__clang__)
+#define TYPST_NODISCARD __attribute__((warn_unused_result))
+#else
+#define TYPST_NODISCARD
+#endif
 
 #ifdef __cplusplus
 extern "C" {
@@ -35,6 +59,9 @@ typedef struct typst_session {
     uint64_t made;
     void *at;
 } typst_session;
+
+/** What a session of the caller's own is before the first call: `typst_session session = TYPST_SESSION_INIT;`. */
+#define TYPST_SESSION_INIT {0, NULL}
 
 /** The result of a call: one of the constants below. */
 typedef uint32_t typst_status;
@@ -84,6 +111,8 @@ enum {
     TYPST_NO_PLACE = 20,
     /** The number is no accessor of a view. */
     TYPST_BAD_ACCESSOR = 21,
+    /** The tree wasn't edited since it was made or numbered, or its last edit was `typst_replace`, which can't be followed. */
+    TYPST_NO_EDIT = 22,
     /** A pointer was null. Only functions whose names begin with `typst_try_` return this. */
     TYPST_NULL = 255
 };
@@ -95,7 +124,7 @@ enum {
 
 /** What one call reads of a node. */
 typedef struct typst_node_info {
-    /** The number of its span. The number identifies the node while other nodes are edited. It is 1 if the node has none. */
+    /** The number of its span, at least TYPST_FIRST_NUMBER. No two nodes of a tree have the same number. */
     uint64_t number;
     /** Its bound, a number above the numbers of all nodes below it. */
     uint64_t bound;
@@ -170,7 +199,7 @@ typedef struct typst_diagnostic {
     size_t end;
     /** The length of its text. */
     size_t len;
-    /** TYPST_ERROR, TYPST_WARNING or TYPST_HINT. */
+    /** A TYPST_SEVERITY_ constant. */
     uint32_t severity;
     /** 1 if it is about bytes of the text, else 0. */
     uint32_t placed;
@@ -184,7 +213,7 @@ typedef struct typst_diagnostic_sizes {
     size_t len;
 } typst_diagnostic_sizes;
 
-/** The range of children that an edit numbered anew. It is empty if no child was. */
+/** The range of children that an edit numbered anew, with all nodes below them. It is empty if no child was. */
 typedef struct typst_window {
     /** The index of the first child. */
     size_t start;
@@ -194,14 +223,25 @@ typedef struct typst_window {
     size_t tried;
 } typst_window;
 
+/** What an edit changed of the tree: children of one node, or the root itself. */
+typedef struct typst_change {
+    /** The number of child indices in the path to that node. */
+    size_t depth;
+    /** Which of its children were numbered anew. If `tried` is 0, the child `start` was a leaf or an error that changed into another
+     *  one of its kind. It kept its number, and so did all other nodes. */
+    typst_window window;
+    /** 1 if the root itself was changed, else 0. Only `typst_update` changes it. All other fields are then 0. */
+    uint32_t root;
+} typst_change;
+
 /** What an edit of a document did. */
 typedef struct typst_edited {
     /** Where the bytes that were parsed anew begin in the new text. */
     size_t start;
     /** Where they end. */
     size_t end;
-    /** The children of the root that were numbered anew. */
-    typst_window window;
+    /** What changed of the tree. */
+    typst_change change;
 } typst_edited;
 
 /** The classes of a kind: 1 if the kind is in the class, else 0. */
@@ -270,12 +310,14 @@ enum {
     TYPST_ANSWER_NODE = 6
 };
 
-/** How severe a diagnostic is. */
+/** How severe a diagnostic is. No status has one of these numbers. */
 enum {
-    TYPST_ERROR = 0,
-    TYPST_WARNING = 1,
+    /** Something that isn't valid syntax. */
+    TYPST_SEVERITY_ERROR = 301,
+    /** Something that is valid, but may not be what was meant. */
+    TYPST_SEVERITY_WARNING = 302,
     /** How to mend the error or warning before it. */
-    TYPST_HINT = 2
+    TYPST_SEVERITY_HINT = 303
 };
 
 /** What columns count. */
@@ -319,7 +361,8 @@ TYPST_ASSERT(sizeof(typst_diagnostic) == 40, "typst_diagnostic");
 TYPST_ASSERT(sizeof(typst_diagnostic_sizes) == 16, "typst_diagnostic_sizes");
 TYPST_ASSERT(sizeof(typst_kind_info) == 6, "typst_kind_info");
 TYPST_ASSERT(sizeof(typst_window) == 24, "typst_window");
-TYPST_ASSERT(sizeof(typst_edited) == 40, "typst_edited");
+TYPST_ASSERT(sizeof(typst_change) == 40, "typst_change");
+TYPST_ASSERT(sizeof(typst_edited) == 56, "typst_edited");
 #endif
 
 /** @name Life */
@@ -329,10 +372,32 @@ TYPST_ASSERT(sizeof(typst_edited) == 40, "typst_edited");
  * Makes an empty session. It frees what the session held before.
  * @return TYPST_DONE or TYPST_NO_MEMORY. After TYPST_NO_MEMORY the session holds nothing.
  */
-typst_status typst_new(typst_session *session);
+TYPST_NODISCARD typst_status typst_new(typst_session *session);
 
-/** Frees what a session holds. The session then holds nothing, and can be made again. */
+/** Frees what a session holds. The session is then all zero, and can be made again. */
 void typst_free(typst_session *session);
+
+/** The version of the library, which should be TYPST_TREE_VERSION. */
+uint32_t typst_version(void);
+
+/** Makes an empty session in memory of its own. Returns a null pointer if memory is refused. */
+static inline TYPST_NODISCARD typst_session *typst_session_new(void)
+{
+    typst_session *session = (typst_session *)calloc(1, sizeof *session);
+    if (session && typst_new(session) != TYPST_DONE) {
+        free(session);
+        session = NULL;
+    }
+    return session;
+}
+
+/** Frees a session that `typst_session_new` made, with all that it holds. A null pointer is left alone. */
+static inline void typst_session_free(typst_session *session)
+{
+    if (!session) return;
+    typst_free(session);
+    free(session);
+}
 
 /** @} */
 /** @name The stack */
@@ -343,47 +408,53 @@ void typst_free(typst_session *session);
  * @param kind a TYPST_KIND_ constant.
  * @return TYPST_DONE, TYPST_NOT_MADE, TYPST_BAD_KIND, TYPST_BAD_TEXT or TYPST_NO_MEMORY.
  */
-typst_status typst_push_leaf(typst_session *session, uint32_t kind, const char *text, size_t text_len);
+TYPST_NODISCARD typst_status typst_push_leaf(typst_session *session, uint32_t kind, const char *text, size_t text_len);
 
 /**
  * Puts an error on the stack: a text that isn't valid syntax, and a message that says why.
  * @return TYPST_DONE, TYPST_NOT_MADE, TYPST_BAD_TEXT or TYPST_NO_MEMORY.
  */
-typst_status typst_push_error(typst_session *session, const char *message, size_t message_len, const char *text,
-                              size_t text_len);
+TYPST_NODISCARD typst_status typst_push_error(typst_session *session, const char *message, size_t message_len,
+                                              const char *text, size_t text_len);
 
 /**
  * Copies the subtree at a path of the tree, with its numbers, and puts the copy on the stack. The copy serves to move a subtree or
  * to use it again. The tree stays as it is. The call takes time in proportion to the nodes of the subtree.
  * @return TYPST_DONE, TYPST_NOT_MADE, TYPST_NO_TREE, TYPST_NO_NODE or TYPST_NO_MEMORY.
  */
-typst_status typst_push_copy(typst_session *session, const size_t *path, size_t depth);
+TYPST_NODISCARD typst_status typst_push_copy(typst_session *session, const size_t *path, size_t depth);
 
 /**
  * Replaces the last `count` nodes of the stack by an inner node. They become its children, in the same order. The call takes time
  * in proportion to all nodes of their trees.
  * @return TYPST_DONE, TYPST_NOT_MADE, TYPST_BAD_KIND, TYPST_SHORT_STACK, TYPST_TOO_LARGE or TYPST_NO_MEMORY.
  */
-typst_status typst_wrap(typst_session *session, uint32_t kind, size_t count);
+TYPST_NODISCARD typst_status typst_wrap(typst_session *session, uint32_t kind, size_t count);
 
 /**
  * Puts one more warning around the last node of the stack, outside the warnings that the node has.
  * @return TYPST_DONE, TYPST_NOT_MADE, TYPST_BAD_TEXT, TYPST_SHORT_STACK or TYPST_NO_MEMORY.
  */
-typst_status typst_warn(typst_session *session, const char *message, size_t message_len);
+TYPST_NODISCARD typst_status typst_warn(typst_session *session, const char *message, size_t message_len);
 
 /**
  * Adds a hint to the last node of the stack. The hint goes to the node's outermost warning. If the node has no warning but is an
  * error, the hint goes to the error.
  * @return TYPST_DONE, TYPST_NOT_MADE, TYPST_BAD_TEXT, TYPST_SHORT_STACK, TYPST_NO_HINTS or TYPST_NO_MEMORY.
  */
-typst_status typst_hint(typst_session *session, const char *text, size_t text_len);
+TYPST_NODISCARD typst_status typst_hint(typst_session *session, const char *text, size_t text_len);
+
+/**
+ * Moves the last node of the stack to the stack of another session. The two sessions must be different ones: pass no session twice.
+ * @return TYPST_DONE, TYPST_NOT_MADE, also for the other session, TYPST_SHORT_STACK or TYPST_NO_MEMORY.
+ */
+TYPST_NODISCARD typst_status typst_send(typst_session *session, typst_session *other);
 
 /**
  * Drops the last `count` nodes of the stack.
  * @return TYPST_DONE, TYPST_NOT_MADE or TYPST_SHORT_STACK.
  */
-typst_status typst_pop(typst_session *session, size_t count);
+TYPST_NODISCARD typst_status typst_pop(typst_session *session, size_t count);
 
 /** @} */
 /** @name The tree */
@@ -397,30 +468,64 @@ typst_status typst_pop(typst_session *session, size_t count);
  * @param to the number after the highest number, at most TYPST_END_NUMBER.
  * @return TYPST_DONE, TYPST_NOT_MADE, TYPST_BAD_FILE, TYPST_BAD_NUMBERS, TYPST_SHORT_STACK or TYPST_UNNUMBERABLE.
  */
-typst_status typst_number(typst_session *session, uint16_t file, uint64_t from, uint64_t to);
+TYPST_NODISCARD typst_status typst_number(typst_session *session, uint16_t file, uint64_t from, uint64_t to);
 
 /**
  * Numbers the tree anew, for a file within `from .. to`, as typst_number numbers a node.
  * @return TYPST_DONE, TYPST_NOT_MADE, TYPST_NO_TREE, TYPST_IS_DOCUMENT, TYPST_BAD_FILE, TYPST_BAD_NUMBERS or TYPST_UNNUMBERABLE.
  */
-typst_status typst_renumber(typst_session *session, uint16_t file, uint64_t from, uint64_t to);
+TYPST_NODISCARD typst_status typst_renumber(typst_session *session, uint16_t file, uint64_t from, uint64_t to);
 
 /**
  * Puts the tree back on the stack, with its numbers, so that it can be wrapped or numbered again. The session then holds no tree.
  * @return TYPST_DONE, TYPST_NOT_MADE, TYPST_NO_TREE, TYPST_IS_DOCUMENT or TYPST_NO_MEMORY.
  */
-typst_status typst_take_tree(typst_session *session);
+TYPST_NODISCARD typst_status typst_take_tree(typst_session *session);
 
 /**
- * Replaces the children `from .. to` of the inner node at a path by the last `count` nodes of the stack, and numbers as few nodes
- * anew as the free numbers allow. All other nodes keep their numbers. If `count` is 0, the call removes children. If `from` equals
- * `to`, it inserts nodes.
+ * Replaces the children `from .. to` of the inner node at a path by the last `count` nodes of the stack. Nodes at the front and at the
+ * back that equal the old children there count as the old ones. The others are numbered anew, with the first of 0, 1, 2, 4, .. of
+ * their neighbors on either side for which there is room between the numbers around them. All other nodes keep their numbers. If
+ * `count` is 0, the call removes children. If `from` equals `to`, it inserts nodes. No number can be followed over this edit; after
+ * `typst_reconcile`, which makes the same edit, it can.
  * @param window receives the range of children that were numbered anew.
  * @return TYPST_DONE, TYPST_NOT_MADE, TYPST_NO_TREE, TYPST_IS_DOCUMENT, TYPST_SHORT_STACK, TYPST_NO_NODE, TYPST_IS_LEAF,
  *     TYPST_BAD_RANGE, TYPST_TOO_LARGE, TYPST_UNNUMBERABLE or TYPST_NO_MEMORY.
  */
-typst_status typst_replace(typst_session *session, const size_t *path, size_t depth, size_t from, size_t to, size_t count,
-                           typst_window *window);
+TYPST_NODISCARD typst_status typst_replace(typst_session *session, const size_t *path, size_t depth, size_t from, size_t to,
+                                           size_t count, typst_window *window);
+
+/**
+ * Makes the same edit as `typst_replace`, as far down in the tree as it can, so that the nodes that go on keep their numbers. While all
+ * that changes is below one child, and that child and its new node are inner nodes of one kind with the same warnings, the child stays,
+ * and its children are replaced instead. If a single leaf or error then changes into another one of its kind, it keeps its number.
+ * `typst_follow` then answers what became of each number.
+ * @param change receives where children were replaced, and which were numbered anew.
+ * @return TYPST_DONE, TYPST_NOT_MADE, TYPST_NO_TREE, TYPST_IS_DOCUMENT, TYPST_SHORT_STACK, TYPST_NO_NODE, TYPST_IS_LEAF,
+ *     TYPST_BAD_RANGE, TYPST_TOO_LARGE, TYPST_UNNUMBERABLE or TYPST_NO_MEMORY.
+ */
+TYPST_NODISCARD typst_status typst_reconcile(typst_session *session, const size_t *path, size_t depth, size_t from,
+                                             size_t to, size_t count, typst_change *change);
+
+/**
+ * Takes the last node of the stack, and puts it in place of the whole tree. The nodes that go on keep their numbers, as after
+ * `typst_reconcile` of all children of the root. So a parser that makes the whole tree anew after each edit of its text gets numbers
+ * that can be kept. If the two roots differ in their kinds or warnings, or the old root has too few numbers for all nodes, then no
+ * node goes on, and the new tree is numbered in TYPST_FIRST_NUMBER .. TYPST_END_NUMBER.
+ * @param change receives where children were replaced, and which were numbered anew, or that the root itself was changed.
+ * @return TYPST_DONE, TYPST_NOT_MADE, TYPST_NO_TREE, TYPST_IS_DOCUMENT, TYPST_SHORT_STACK, TYPST_UNNUMBERABLE or TYPST_NO_MEMORY.
+ */
+TYPST_NODISCARD typst_status typst_update(typst_session *session, typst_change *change);
+
+/**
+ * Tells which number a node has after the last edit by `typst_edit`, `typst_reconcile` or `typst_update`, by its number before that
+ * edit. Ask this once for each number that is kept, after each edit that was done. A number that isn't followed may belong to another
+ * node after the edit. The call takes no memory, and hardly any time.
+ * @param number the number of a node of the tree as it was before the edit. Any other number is answered as if a node had it.
+ * @param now receives the number that the node has now.
+ * @return TYPST_DONE, TYPST_NOT_MADE, TYPST_NO_EDIT, or TYPST_NOT_FOUND if the node is gone.
+ */
+TYPST_NODISCARD typst_status typst_follow(const typst_session *session, uint64_t number, uint64_t *now);
 
 /** @} */
 /** @name Reading */
@@ -430,7 +535,8 @@ typst_status typst_replace(typst_session *session, const size_t *path, size_t de
  * Reads the node at a path.
  * @return TYPST_DONE, TYPST_NOT_MADE, TYPST_NO_TREE or TYPST_NO_NODE.
  */
-typst_status typst_node(const typst_session *session, const size_t *path, size_t depth, typst_node_info *info);
+TYPST_NODISCARD typst_status typst_node(const typst_session *session, const size_t *path, size_t depth,
+                                        typst_node_info *info);
 
 /**
  * Reads all children of the node at a path, in order.
@@ -439,8 +545,8 @@ typst_status typst_node(const typst_session *session, const size_t *path, size_t
  * @param length receives the number of children, even if the buffer is too short.
  * @return TYPST_DONE, TYPST_NOT_MADE, TYPST_NO_TREE, TYPST_NO_NODE or TYPST_SHORT_BUFFER.
  */
-typst_status typst_children(const typst_session *session, const size_t *path, size_t depth, typst_node_info *out, size_t room,
-                            typst_length *length);
+TYPST_NODISCARD typst_status typst_children(const typst_session *session, const size_t *path, size_t depth,
+                                            typst_node_info *out, size_t room, typst_length *length);
 
 /**
  * Reads all nodes of the subtree at a path in preorder: each node before its children, and the children in order. After a node come
@@ -451,16 +557,16 @@ typst_status typst_children(const typst_session *session, const size_t *path, si
  * @param length receives the number of nodes, even if the buffer is too short.
  * @return TYPST_DONE, TYPST_NOT_MADE, TYPST_NO_TREE, TYPST_NO_NODE or TYPST_SHORT_BUFFER.
  */
-typst_status typst_preorder(const typst_session *session, const size_t *path, size_t depth, typst_node_info *out, size_t room,
-                            typst_length *length);
+TYPST_NODISCARD typst_status typst_preorder(const typst_session *session, const size_t *path, size_t depth,
+                                            typst_node_info *out, size_t room, typst_length *length);
 
 /**
  * Writes the text of the leaf or error at a path. For an inner node the text is empty. No zero byte follows the text.
  * @param length receives the length of the text, even if the buffer is too short.
  * @return TYPST_DONE, TYPST_NOT_MADE, TYPST_NO_TREE, TYPST_NO_NODE or TYPST_SHORT_BUFFER.
  */
-typst_status typst_leaf_text(const typst_session *session, const size_t *path, size_t depth, char *out, size_t room,
-                             typst_length *length);
+TYPST_NODISCARD typst_status typst_leaf_text(const typst_session *session, const size_t *path, size_t depth, char *out,
+                                             size_t room, typst_length *length);
 
 /**
  * Writes the text of all leaves and errors of the subtree at a path. No zero byte follows the text. The empty path gives the whole
@@ -468,8 +574,8 @@ typst_status typst_leaf_text(const typst_session *session, const size_t *path, s
  * @param length receives the length of the text, even if the buffer is too short.
  * @return TYPST_DONE, TYPST_NOT_MADE, TYPST_NO_TREE, TYPST_NO_NODE, TYPST_SHORT_BUFFER or TYPST_NO_MEMORY.
  */
-typst_status typst_full_text(const typst_session *session, const size_t *path, size_t depth, char *out, size_t room,
-                             typst_length *length);
+TYPST_NODISCARD typst_status typst_full_text(const typst_session *session, const size_t *path, size_t depth, char *out,
+                                             size_t room, typst_length *length);
 
 /**
  * Finds a child of a class among the children of the node at a path. It is the child of the class that has `index` others of the
@@ -481,8 +587,8 @@ typst_status typst_full_text(const typst_session *session, const size_t *path, s
  * @param child receives the child's index.
  * @return TYPST_DONE, TYPST_NOT_MADE, TYPST_BAD_KIND, TYPST_NO_TREE, TYPST_NO_NODE or TYPST_NOT_FOUND.
  */
-typst_status typst_child_of_class(const typst_session *session, const size_t *path, size_t depth, uint32_t node_class, size_t index,
-                                  uint32_t from_end, size_t *child);
+TYPST_NODISCARD typst_status typst_child_of_class(const typst_session *session, const size_t *path, size_t depth,
+                                                  uint32_t node_class, size_t index, uint32_t from_end, size_t *child);
 
 /**
  * Asks what an accessor of a typed view answers of the node at a path, such as the depth of a heading, the value of a string or the
@@ -497,8 +603,8 @@ typst_status typst_child_of_class(const typst_session *session, const size_t *pa
  * @param answer receives the answer, even if the buffer is too short for its text.
  * @return TYPST_DONE, TYPST_NOT_MADE, TYPST_BAD_ACCESSOR, TYPST_NO_TREE, TYPST_NO_NODE, TYPST_NO_MEMORY or TYPST_SHORT_BUFFER.
  */
-typst_status typst_view(const typst_session *session, const size_t *path, size_t depth, uint32_t accessor, size_t index, char *out,
-                        size_t room, typst_answer *answer);
+TYPST_NODISCARD typst_status typst_view(const typst_session *session, const size_t *path, size_t depth, uint32_t accessor,
+                                        size_t index, char *out, size_t room, typst_answer *answer);
 
 /**
  * Lists the errors of the tree in preorder, and then the warnings in preorder. The warnings of one node go from the outermost to
@@ -512,8 +618,8 @@ typst_status typst_view(const typst_session *session, const size_t *path, size_t
  *     they were.
  * @return TYPST_DONE, TYPST_NOT_MADE, TYPST_NO_TREE, TYPST_SHORT_BUFFER or TYPST_NO_MEMORY.
  */
-typst_status typst_diagnostics(const typst_session *session, typst_diagnostic *out, size_t room, char *texts, size_t texts_room,
-                               typst_diagnostic_sizes *sizes);
+TYPST_NODISCARD typst_status typst_diagnostics(const typst_session *session, typst_diagnostic *out, size_t room,
+                                               char *texts, size_t texts_room, typst_diagnostic_sizes *sizes);
 
 /**
  * Tells whether the subtrees at two paths of the tree are equal apart from numbers: they have the same kinds, texts, messages,
@@ -521,29 +627,41 @@ typst_status typst_diagnostics(const typst_session *session, typst_diagnostic *o
  * @param equal receives 1 if they are equal, else 0.
  * @return TYPST_DONE, TYPST_NOT_MADE, TYPST_NO_TREE or TYPST_NO_NODE.
  */
-typst_status typst_spanless_eq_within(const typst_session *session, const size_t *path, size_t depth, const size_t *other_path,
-                                      size_t other_depth, uint32_t *equal);
+TYPST_NODISCARD typst_status typst_spanless_eq_within(const typst_session *session, const size_t *path, size_t depth,
+                                                      const size_t *other_path, size_t other_depth, uint32_t *equal);
 
 /**
  * Tells whether the subtree at a path and a subtree of another session are equal apart from numbers. The two sessions must be
  * different ones: pass no session twice.
  * @return TYPST_DONE, TYPST_NOT_MADE, TYPST_NO_TREE or TYPST_NO_NODE, each also for the other session.
  */
-typst_status typst_spanless_eq(const typst_session *session, const size_t *path, size_t depth, const typst_session *other,
-                               const size_t *other_path, size_t other_depth, uint32_t *equal);
+TYPST_NODISCARD typst_status typst_spanless_eq(const typst_session *session, const size_t *path, size_t depth,
+                                               const typst_session *other, const size_t *other_path, size_t other_depth,
+                                               uint32_t *equal);
 
 /** @} */
 /** @name Finding */
 /** @{ */
 
 /**
- * Finds the node with a number. It reads few other nodes. After an edit of a document, the number of a node may belong to another node,
- * or to none, if the node was parsed anew or is in the window of the edit. Each other node keeps its number.
+ * Finds the node with a number. It reads few other nodes. After an edit, `typst_follow` tells which number a node has now.
  * @param path receives the path, if it has room. A path of a document has at most TYPST_DOCUMENT_DEPTH indices.
  * @param place receives the length of the path and where the node's text begins, even if the buffer is too short.
  * @return TYPST_DONE, TYPST_NOT_MADE, TYPST_NO_TREE, TYPST_NOT_FOUND, TYPST_SHORT_BUFFER or TYPST_NO_MEMORY.
  */
-typst_status typst_find(const typst_session *session, uint64_t number, size_t *path, size_t room, typst_place *place);
+TYPST_NODISCARD typst_status typst_find(const typst_session *session, uint64_t number, size_t *path, size_t room,
+                                        typst_place *place);
+
+/**
+ * Finds the node whose text is exactly the bytes `from .. to` of the tree's text. If several nodes have these bytes, it is the outermost
+ * of them. The search goes down from the root, at each node to the first child whose text covers the range. So it misses a node
+ * without text that comes after a node with text.
+ * @param path receives the path, if it has room.
+ * @param place receives the length of the path and where the node's text begins, even if the buffer is too short.
+ * @return TYPST_DONE, TYPST_NOT_MADE, TYPST_NO_TREE, TYPST_NOT_FOUND, TYPST_SHORT_BUFFER or TYPST_NO_MEMORY.
+ */
+TYPST_NODISCARD typst_status typst_find_range(const typst_session *session, size_t from, size_t to, size_t *path,
+                                              size_t room, typst_place *place);
 
 /**
  * Finds the node without children that holds the byte before a cursor (TYPST_BEFORE) or the byte after it (TYPST_AFTER). There is one
@@ -553,24 +671,26 @@ typst_status typst_find(const typst_session *session, uint64_t number, size_t *p
  * @param place receives the length of the path and where the node's text begins, even if the buffer is too short.
  * @return TYPST_DONE, TYPST_NOT_MADE, TYPST_NO_TREE, TYPST_NOT_FOUND, TYPST_SHORT_BUFFER or TYPST_NO_MEMORY.
  */
-typst_status typst_leaf_at(const typst_session *session, size_t cursor, uint32_t side, size_t *path, size_t room,
-                           typst_place *place);
+TYPST_NODISCARD typst_status typst_leaf_at(const typst_session *session, size_t cursor, uint32_t side, size_t *path,
+                                           size_t room, typst_place *place);
 
 /**
  * Tells which bytes of the text belong to the node at a path. The call takes memory for the node's parents.
  * @return TYPST_DONE, TYPST_NOT_MADE, TYPST_NO_TREE, TYPST_NO_NODE or TYPST_NO_MEMORY.
  */
-typst_status typst_range_of(const typst_session *session, const size_t *path, size_t depth, typst_range *range);
+TYPST_NODISCARD typst_status typst_range_of(const typst_session *session, const size_t *path, size_t depth,
+                                            typst_range *range);
 
 /**
- * Finds the node next to the one at a path.
+ * Finds the node next to the one at a path. A sibling of a trivial kind is passed over with all that is below it, also among the
+ * siblings of the nodes above. Below a sibling that isn't trivial, a leaf is passed over only if its own kind is trivial.
  * @param which TYPST_NEXT_LEAF, TYPST_PREV_LEAF or TYPST_NEXT_SIBLING; any other number is TYPST_PREV_SIBLING.
  * @param found receives the path of the node that is found, if it has room.
  * @param place receives the length of that path and where the node's text begins, even if the buffer is too short.
  * @return TYPST_DONE, TYPST_NOT_MADE, TYPST_NO_TREE, TYPST_NO_NODE, TYPST_NOT_FOUND, TYPST_SHORT_BUFFER or TYPST_NO_MEMORY.
  */
-typst_status typst_neighbor(const typst_session *session, const size_t *path, size_t depth, uint32_t which, size_t *found, size_t room,
-                            typst_place *place);
+TYPST_NODISCARD typst_status typst_neighbor(const typst_session *session, const size_t *path, size_t depth, uint32_t which,
+                                            size_t *found, size_t room, typst_place *place);
 
 /** @} */
 /** @name Documents */
@@ -582,25 +702,40 @@ typst_status typst_neighbor(const typst_session *session, const size_t *path, si
  * @param file the number of a file: any but 0. No call tells it.
  * @return TYPST_DONE, TYPST_NOT_MADE, TYPST_BAD_FILE, TYPST_BAD_TEXT, TYPST_TOO_LARGE, TYPST_UNNUMBERABLE or TYPST_NO_MEMORY.
  */
-typst_status typst_open(typst_session *session, uint16_t file, const char *text, size_t text_len);
+TYPST_NODISCARD typst_status typst_open(typst_session *session, uint16_t file, const char *text, size_t text_len);
 
 /**
  * Replaces the bytes `from .. to` of the document's text by a text, and parses anew only the blocks that this can touch. The block before
  * them is one of these if the parser had looked at the bytes that go or at the place where others come.
- * @param edited receives which bytes were parsed and which children of the root were numbered anew, with all nodes below them. A node
- *     outside both keeps its number. Nodes that were parsed anew and come out as before, counted from either end, take the old numbers.
+ * The nodes that go on keep their numbers, as after `typst_reconcile`, and `typst_follow` answers what became of each number.
+ * @param edited receives which bytes were parsed, and which nodes were numbered anew.
  * @return TYPST_DONE, TYPST_NOT_MADE, TYPST_NO_DOCUMENT, TYPST_BAD_TEXT, TYPST_BAD_RANGE, TYPST_TOO_LARGE, TYPST_UNNUMBERABLE or
  *     TYPST_NO_MEMORY.
  */
-typst_status typst_edit(typst_session *session, size_t from, size_t to, const char *with, size_t with_len,
-                        typst_edited *edited);
+TYPST_NODISCARD typst_status typst_edit(typst_session *session, size_t from, size_t to, const char *with, size_t with_len,
+                                        typst_edited *edited);
 
 /**
  * Counts the lines of the document's text. There is one more line than there are line ends. A line end is a line feed, a vertical
  * tab, a form feed, a carriage return alone or with a line feed after it, U+0085, U+2028 or U+2029.
  * @return TYPST_DONE, TYPST_NOT_MADE or TYPST_NO_DOCUMENT.
  */
-typst_status typst_len_lines(const typst_session *session, size_t *count);
+TYPST_NODISCARD typst_status typst_len_lines(const typst_session *session, size_t *count);
+
+/**
+ * Tells which bytes of the document's text a line has, with its line end. Lines count from 0. The last line has no line end.
+ * @return TYPST_DONE, TYPST_NOT_MADE, TYPST_NO_DOCUMENT, or TYPST_NO_PLACE if there is no such line.
+ */
+TYPST_NODISCARD typst_status typst_line_to_range(const typst_session *session, size_t line, typst_range *range);
+
+/**
+ * Writes the bytes `from .. to` of the document's text. Both ends must lie between characters. No zero byte follows the text. The call
+ * takes no memory, and time in proportion to these bytes.
+ * @param length receives the length of the text, even if the buffer is too short.
+ * @return TYPST_DONE, TYPST_NOT_MADE, TYPST_NO_DOCUMENT, TYPST_BAD_RANGE or TYPST_SHORT_BUFFER.
+ */
+TYPST_NODISCARD typst_status typst_text(const typst_session *session, size_t from, size_t to, char *out, size_t room,
+                                        typst_length *length);
 
 /**
  * Tells the line and the column of a byte of the document's text. The call takes time in proportion to the line up to the byte.
@@ -608,7 +743,8 @@ typst_status typst_len_lines(const typst_session *session, size_t *count);
  * @param unit what columns count: TYPST_BYTES or TYPST_CHARACTERS; any other number is TYPST_UTF16.
  * @return TYPST_DONE, TYPST_NOT_MADE, TYPST_NO_DOCUMENT or TYPST_NO_PLACE.
  */
-typst_status typst_byte_to_line_column(const typst_session *session, size_t byte, uint32_t unit, typst_line_column *place);
+TYPST_NODISCARD typst_status typst_byte_to_line_column(const typst_session *session, size_t byte, uint32_t unit,
+                                                       typst_line_column *place);
 
 /**
  * Tells which byte of the document's text is at a line and a column, which both count from 0. The call takes time in proportion to
@@ -616,7 +752,8 @@ typst_status typst_byte_to_line_column(const typst_session *session, size_t byte
  * @param unit what columns count: TYPST_BYTES or TYPST_CHARACTERS; any other number is TYPST_UTF16.
  * @return TYPST_DONE, TYPST_NOT_MADE, TYPST_NO_DOCUMENT or TYPST_NO_PLACE.
  */
-typst_status typst_line_column_to_byte(const typst_session *session, size_t line, size_t column, uint32_t unit, size_t *byte);
+TYPST_NODISCARD typst_status typst_line_column_to_byte(const typst_session *session, size_t line, size_t column,
+                                                       uint32_t unit, size_t *byte);
 
 /** @} */
 
@@ -631,19 +768,19 @@ typst_status typst_line_column_to_byte(const typst_session *session, size_t line
  * @param length receives the length of the name, even if the buffer is too short.
  * @return TYPST_DONE, TYPST_BAD_KIND or TYPST_SHORT_BUFFER.
  */
-typst_status typst_kind_name(uint32_t kind, char *out, size_t room, typst_length *length);
+TYPST_NODISCARD typst_status typst_kind_name(uint32_t kind, char *out, size_t room, typst_length *length);
 
 /**
  * Tells which kind has a name. No two kinds have the same name.
  * @return TYPST_DONE or TYPST_NOT_FOUND.
  */
-typst_status typst_kind_of_name(const char *name, size_t name_len, uint32_t *kind);
+TYPST_NODISCARD typst_status typst_kind_of_name(const char *name, size_t name_len, uint32_t *kind);
 
 /**
  * Tells the classes of a kind.
  * @return TYPST_DONE or TYPST_BAD_KIND.
  */
-typst_status typst_kind_classes(uint32_t kind, typst_kind_info *classes);
+TYPST_NODISCARD typst_status typst_kind_classes(uint32_t kind, typst_kind_info *classes);
 
 /**
  * Tells whether a set holds a kind.
@@ -651,7 +788,7 @@ typst_status typst_kind_classes(uint32_t kind, typst_kind_info *classes);
  * @param held receives 1 if it does, else 0.
  * @return TYPST_DONE, TYPST_BAD_SET or TYPST_BAD_KIND.
  */
-typst_status typst_kind_in_set(uint32_t kind, uint32_t set, uint32_t *held);
+TYPST_NODISCARD typst_status typst_kind_in_set(uint32_t kind, uint32_t set, uint32_t *held);
 
 /** @} */
 
@@ -681,6 +818,7 @@ static inline const char *typst_status_text(typst_status status)
     case TYPST_BAD_SET: return "no set of kinds has this number";
     case TYPST_NO_PLACE: return "the text has no such place";
     case TYPST_BAD_ACCESSOR: return "the number is no accessor";
+    case TYPST_NO_EDIT: return "there is no edit to follow";
     case TYPST_NULL: return "a pointer is null";
     default: return "no status of this library";
     }
@@ -703,7 +841,7 @@ static inline size_t *typst_nowhere(void)
 
 #define TYPST_OR_NOWHERE(pointer, type) ((pointer) ? (pointer) : (type)typst_nowhere())
 
-static inline typst_status typst_try_new(typst_session *session)
+static inline TYPST_NODISCARD typst_status typst_try_new(typst_session *session)
 {
     if (!session) return TYPST_NULL;
     return typst_new(session);
@@ -714,230 +852,283 @@ static inline void typst_try_free(typst_session *session)
     if (session) typst_free(session);
 }
 
-static inline typst_status typst_try_push_leaf(typst_session *session, uint32_t kind, const char *text, size_t text_len)
+static inline TYPST_NODISCARD typst_status typst_try_push_leaf(typst_session *session, uint32_t kind, const char *text,
+        size_t text_len)
 {
     if (!session || (!text && text_len)) return TYPST_NULL;
     return typst_push_leaf(session, kind, TYPST_OR_NOWHERE(text, const char *), text_len);
 }
 
-static inline typst_status typst_try_push_error(typst_session *session, const char *message, size_t message_len,
-                                                const char *text, size_t text_len)
+static inline TYPST_NODISCARD typst_status typst_try_push_error(typst_session *session, const char *message,
+        size_t message_len, const char *text, size_t text_len)
 {
     if (!session || (!message && message_len) || (!text && text_len)) return TYPST_NULL;
     return typst_push_error(session, TYPST_OR_NOWHERE(message, const char *), message_len,
                             TYPST_OR_NOWHERE(text, const char *), text_len);
 }
 
-static inline typst_status typst_try_push_copy(typst_session *session, const size_t *path, size_t depth)
+static inline TYPST_NODISCARD typst_status typst_try_push_copy(typst_session *session, const size_t *path, size_t depth)
 {
     if (!session || (!path && depth)) return TYPST_NULL;
     return typst_push_copy(session, TYPST_OR_NOWHERE(path, const size_t *), depth);
 }
 
-static inline typst_status typst_try_wrap(typst_session *session, uint32_t kind, size_t count)
+static inline TYPST_NODISCARD typst_status typst_try_wrap(typst_session *session, uint32_t kind, size_t count)
 {
     if (!session) return TYPST_NULL;
     return typst_wrap(session, kind, count);
 }
 
-static inline typst_status typst_try_warn(typst_session *session, const char *message, size_t message_len)
+static inline TYPST_NODISCARD typst_status typst_try_warn(typst_session *session, const char *message, size_t message_len)
 {
     if (!session || (!message && message_len)) return TYPST_NULL;
     return typst_warn(session, TYPST_OR_NOWHERE(message, const char *), message_len);
 }
 
-static inline typst_status typst_try_hint(typst_session *session, const char *text, size_t text_len)
+static inline TYPST_NODISCARD typst_status typst_try_hint(typst_session *session, const char *text, size_t text_len)
 {
     if (!session || (!text && text_len)) return TYPST_NULL;
     return typst_hint(session, TYPST_OR_NOWHERE(text, const char *), text_len);
 }
 
-static inline typst_status typst_try_pop(typst_session *session, size_t count)
+static inline TYPST_NODISCARD typst_status typst_try_pop(typst_session *session, size_t count)
 {
     if (!session) return TYPST_NULL;
     return typst_pop(session, count);
 }
 
-static inline typst_status typst_try_number(typst_session *session, uint16_t file, uint64_t from, uint64_t to)
+static inline TYPST_NODISCARD typst_status typst_try_number(typst_session *session, uint16_t file, uint64_t from,
+                                                            uint64_t to)
 {
     if (!session) return TYPST_NULL;
     return typst_number(session, file, from, to);
 }
 
-static inline typst_status typst_try_renumber(typst_session *session, uint16_t file, uint64_t from, uint64_t to)
+static inline TYPST_NODISCARD typst_status typst_try_renumber(typst_session *session, uint16_t file, uint64_t from,
+        uint64_t to)
 {
     if (!session) return TYPST_NULL;
     return typst_renumber(session, file, from, to);
 }
 
-static inline typst_status typst_try_take_tree(typst_session *session)
+static inline TYPST_NODISCARD typst_status typst_try_take_tree(typst_session *session)
 {
     if (!session) return TYPST_NULL;
     return typst_take_tree(session);
 }
 
-static inline typst_status typst_try_replace(typst_session *session, const size_t *path, size_t depth, size_t from, size_t to,
-                                             size_t count, typst_window *window)
+static inline TYPST_NODISCARD typst_status typst_try_replace(typst_session *session, const size_t *path, size_t depth,
+        size_t from, size_t to, size_t count, typst_window *window)
 {
     if (!session || (!path && depth) || !window) return TYPST_NULL;
     return typst_replace(session, TYPST_OR_NOWHERE(path, const size_t *), depth, from, to, count, window);
 }
 
-static inline typst_status typst_try_node(const typst_session *session, const size_t *path, size_t depth, typst_node_info *info)
+static inline TYPST_NODISCARD typst_status typst_try_reconcile(typst_session *session, const size_t *path, size_t depth,
+        size_t from, size_t to, size_t count, typst_change *change)
+{
+    if (!session || (!path && depth) || !change) return TYPST_NULL;
+    return typst_reconcile(session, TYPST_OR_NOWHERE(path, const size_t *), depth, from, to, count, change);
+}
+
+static inline TYPST_NODISCARD typst_status typst_try_update(typst_session *session, typst_change *change)
+{
+    if (!session || !change) return TYPST_NULL;
+    return typst_update(session, change);
+}
+
+static inline TYPST_NODISCARD typst_status typst_try_follow(const typst_session *session, uint64_t number, uint64_t *now)
+{
+    if (!session || !now) return TYPST_NULL;
+    return typst_follow(session, number, now);
+}
+
+static inline TYPST_NODISCARD typst_status typst_try_send(typst_session *session, typst_session *other)
+{
+    if (!session || !other) return TYPST_NULL;
+    return typst_send(session, other);
+}
+
+static inline TYPST_NODISCARD typst_status typst_try_node(const typst_session *session, const size_t *path, size_t depth,
+                                                          typst_node_info *info)
 {
     if (!session || (!path && depth) || !info) return TYPST_NULL;
     return typst_node(session, TYPST_OR_NOWHERE(path, const size_t *), depth, info);
 }
 
-static inline typst_status typst_try_children(const typst_session *session, const size_t *path, size_t depth, typst_node_info *out,
-                                              size_t room, typst_length *length)
+static inline TYPST_NODISCARD typst_status typst_try_children(const typst_session *session, const size_t *path,
+        size_t depth, typst_node_info *out, size_t room, typst_length *length)
 {
     if (!session || (!path && depth) || (!out && room) || !length) return TYPST_NULL;
     return typst_children(session, TYPST_OR_NOWHERE(path, const size_t *), depth, TYPST_OR_NOWHERE(out, typst_node_info *), room,
                           length);
 }
 
-static inline typst_status typst_try_preorder(const typst_session *session, const size_t *path, size_t depth, typst_node_info *out,
-                                              size_t room, typst_length *length)
+static inline TYPST_NODISCARD typst_status typst_try_preorder(const typst_session *session, const size_t *path,
+        size_t depth, typst_node_info *out, size_t room, typst_length *length)
 {
     if (!session || (!path && depth) || (!out && room) || !length) return TYPST_NULL;
     return typst_preorder(session, TYPST_OR_NOWHERE(path, const size_t *), depth, TYPST_OR_NOWHERE(out, typst_node_info *), room,
                           length);
 }
 
-static inline typst_status typst_try_leaf_text(const typst_session *session, const size_t *path, size_t depth, char *out,
-                                               size_t room, typst_length *length)
+static inline TYPST_NODISCARD typst_status typst_try_leaf_text(const typst_session *session, const size_t *path,
+        size_t depth, char *out, size_t room, typst_length *length)
 {
     if (!session || (!path && depth) || (!out && room) || !length) return TYPST_NULL;
     return typst_leaf_text(session, TYPST_OR_NOWHERE(path, const size_t *), depth, TYPST_OR_NOWHERE(out, char *), room, length);
 }
 
-static inline typst_status typst_try_full_text(const typst_session *session, const size_t *path, size_t depth, char *out,
-                                               size_t room, typst_length *length)
+static inline TYPST_NODISCARD typst_status typst_try_full_text(const typst_session *session, const size_t *path,
+        size_t depth, char *out, size_t room, typst_length *length)
 {
     if (!session || (!path && depth) || (!out && room) || !length) return TYPST_NULL;
     return typst_full_text(session, TYPST_OR_NOWHERE(path, const size_t *), depth, TYPST_OR_NOWHERE(out, char *), room, length);
 }
 
-static inline typst_status typst_try_child_of_class(const typst_session *session, const size_t *path, size_t depth,
-                                                    uint32_t node_class, size_t index, uint32_t from_end, size_t *child)
+static inline TYPST_NODISCARD typst_status typst_try_child_of_class(const typst_session *session, const size_t *path,
+        size_t depth, uint32_t node_class, size_t index, uint32_t from_end, size_t *child)
 {
     if (!session || (!path && depth) || !child) return TYPST_NULL;
     return typst_child_of_class(session, TYPST_OR_NOWHERE(path, const size_t *), depth, node_class, index, from_end, child);
 }
 
-static inline typst_status typst_try_view(const typst_session *session, const size_t *path, size_t depth, uint32_t accessor,
-                                          size_t index, char *out, size_t room, typst_answer *answer)
+static inline TYPST_NODISCARD typst_status typst_try_view(const typst_session *session, const size_t *path, size_t depth,
+                                                          uint32_t accessor, size_t index, char *out, size_t room,
+                                                          typst_answer *answer)
 {
     if (!session || (!path && depth) || (!out && room) || !answer) return TYPST_NULL;
     return typst_view(session, TYPST_OR_NOWHERE(path, const size_t *), depth, accessor, index, TYPST_OR_NOWHERE(out, char *), room,
                       answer);
 }
 
-static inline typst_status typst_try_diagnostics(const typst_session *session, typst_diagnostic *out, size_t room, char *texts,
-                                                 size_t texts_room, typst_diagnostic_sizes *sizes)
+static inline TYPST_NODISCARD typst_status typst_try_diagnostics(const typst_session *session, typst_diagnostic *out,
+        size_t room, char *texts, size_t texts_room, typst_diagnostic_sizes *sizes)
 {
     if (!session || (!out && room) || (!texts && texts_room) || !sizes) return TYPST_NULL;
     return typst_diagnostics(session, TYPST_OR_NOWHERE(out, typst_diagnostic *), room, TYPST_OR_NOWHERE(texts, char *), texts_room,
                              sizes);
 }
 
-static inline typst_status typst_try_spanless_eq_within(const typst_session *session, const size_t *path, size_t depth,
-                                                        const size_t *other_path, size_t other_depth, uint32_t *equal)
+static inline TYPST_NODISCARD typst_status typst_try_spanless_eq_within(const typst_session *session, const size_t *path,
+        size_t depth, const size_t *other_path, size_t other_depth, uint32_t *equal)
 {
     if (!session || (!path && depth) || (!other_path && other_depth) || !equal) return TYPST_NULL;
     return typst_spanless_eq_within(session, TYPST_OR_NOWHERE(path, const size_t *), depth,
                                     TYPST_OR_NOWHERE(other_path, const size_t *), other_depth, equal);
 }
 
-static inline typst_status typst_try_spanless_eq(const typst_session *session, const size_t *path, size_t depth, const typst_session *other,
-                                                 const size_t *other_path, size_t other_depth, uint32_t *equal)
+static inline TYPST_NODISCARD typst_status typst_try_spanless_eq(const typst_session *session, const size_t *path,
+        size_t depth, const typst_session *other, const size_t *other_path, size_t other_depth, uint32_t *equal)
 {
     if (!session || (!path && depth) || !other || (!other_path && other_depth) || !equal) return TYPST_NULL;
     return typst_spanless_eq(session, TYPST_OR_NOWHERE(path, const size_t *), depth, other,
                              TYPST_OR_NOWHERE(other_path, const size_t *), other_depth, equal);
 }
 
-static inline typst_status typst_try_find(const typst_session *session, uint64_t number, size_t *path, size_t room,
-                                          typst_place *place)
+static inline TYPST_NODISCARD typst_status typst_try_find(const typst_session *session, uint64_t number, size_t *path,
+                                                          size_t room, typst_place *place)
 {
     if (!session || (!path && room) || !place) return TYPST_NULL;
     return typst_find(session, number, TYPST_OR_NOWHERE(path, size_t *), room, place);
 }
 
-static inline typst_status typst_try_leaf_at(const typst_session *session, size_t cursor, uint32_t side, size_t *path, size_t room,
-                                             typst_place *place)
+static inline TYPST_NODISCARD typst_status typst_try_find_range(const typst_session *session, size_t from, size_t to,
+        size_t *path, size_t room, typst_place *place)
+{
+    if (!session || (!path && room) || !place) return TYPST_NULL;
+    return typst_find_range(session, from, to, TYPST_OR_NOWHERE(path, size_t *), room, place);
+}
+
+static inline TYPST_NODISCARD typst_status typst_try_leaf_at(const typst_session *session, size_t cursor, uint32_t side,
+        size_t *path, size_t room, typst_place *place)
 {
     if (!session || (!path && room) || !place) return TYPST_NULL;
     return typst_leaf_at(session, cursor, side, TYPST_OR_NOWHERE(path, size_t *), room, place);
 }
 
-static inline typst_status typst_try_range_of(const typst_session *session, const size_t *path, size_t depth, typst_range *range)
+static inline TYPST_NODISCARD typst_status typst_try_range_of(const typst_session *session, const size_t *path,
+        size_t depth, typst_range *range)
 {
     if (!session || (!path && depth) || !range) return TYPST_NULL;
     return typst_range_of(session, TYPST_OR_NOWHERE(path, const size_t *), depth, range);
 }
 
-static inline typst_status typst_try_neighbor(const typst_session *session, const size_t *path, size_t depth, uint32_t which,
-                                              size_t *found, size_t room, typst_place *place)
+static inline TYPST_NODISCARD typst_status typst_try_neighbor(const typst_session *session, const size_t *path,
+        size_t depth, uint32_t which, size_t *found, size_t room, typst_place *place)
 {
     if (!session || (!path && depth) || (!found && room) || !place) return TYPST_NULL;
     return typst_neighbor(session, TYPST_OR_NOWHERE(path, const size_t *), depth, which, TYPST_OR_NOWHERE(found, size_t *), room,
                           place);
 }
 
-static inline typst_status typst_try_open(typst_session *session, uint16_t file, const char *text, size_t text_len)
+static inline TYPST_NODISCARD typst_status typst_try_open(typst_session *session, uint16_t file, const char *text,
+                                                          size_t text_len)
 {
     if (!session || (!text && text_len)) return TYPST_NULL;
     return typst_open(session, file, TYPST_OR_NOWHERE(text, const char *), text_len);
 }
 
-static inline typst_status typst_try_edit(typst_session *session, size_t from, size_t to, const char *with, size_t with_len,
-                                          typst_edited *edited)
+static inline TYPST_NODISCARD typst_status typst_try_edit(typst_session *session, size_t from, size_t to, const char *with,
+                                                          size_t with_len, typst_edited *edited)
 {
     if (!session || (!with && with_len) || !edited) return TYPST_NULL;
     return typst_edit(session, from, to, TYPST_OR_NOWHERE(with, const char *), with_len, edited);
 }
 
-static inline typst_status typst_try_len_lines(const typst_session *session, size_t *count)
+static inline TYPST_NODISCARD typst_status typst_try_len_lines(const typst_session *session, size_t *count)
 {
     if (!session || !count) return TYPST_NULL;
     return typst_len_lines(session, count);
 }
 
-static inline typst_status typst_try_byte_to_line_column(const typst_session *session, size_t byte, uint32_t unit,
-                                                         typst_line_column *place)
+static inline TYPST_NODISCARD typst_status typst_try_line_to_range(const typst_session *session, size_t line,
+        typst_range *range)
+{
+    if (!session || !range) return TYPST_NULL;
+    return typst_line_to_range(session, line, range);
+}
+
+static inline TYPST_NODISCARD typst_status typst_try_text(const typst_session *session, size_t from, size_t to, char *out,
+                                                          size_t room, typst_length *length)
+{
+    if (!session || (!out && room) || !length) return TYPST_NULL;
+    return typst_text(session, from, to, TYPST_OR_NOWHERE(out, char *), room, length);
+}
+
+static inline TYPST_NODISCARD typst_status typst_try_byte_to_line_column(const typst_session *session, size_t byte,
+        uint32_t unit, typst_line_column *place)
 {
     if (!session || !place) return TYPST_NULL;
     return typst_byte_to_line_column(session, byte, unit, place);
 }
 
-static inline typst_status typst_try_line_column_to_byte(const typst_session *session, size_t line, size_t column, uint32_t unit,
-                                                         size_t *byte)
+static inline TYPST_NODISCARD typst_status typst_try_line_column_to_byte(const typst_session *session, size_t line,
+        size_t column, uint32_t unit, size_t *byte)
 {
     if (!session || !byte) return TYPST_NULL;
     return typst_line_column_to_byte(session, line, column, unit, byte);
 }
 
-static inline typst_status typst_try_kind_name(uint32_t kind, char *out, size_t room, typst_length *length)
+static inline TYPST_NODISCARD typst_status typst_try_kind_name(uint32_t kind, char *out, size_t room, typst_length *length)
 {
     if ((!out && room) || !length) return TYPST_NULL;
     return typst_kind_name(kind, TYPST_OR_NOWHERE(out, char *), room, length);
 }
 
-static inline typst_status typst_try_kind_of_name(const char *name, size_t name_len, uint32_t *kind)
+static inline TYPST_NODISCARD typst_status typst_try_kind_of_name(const char *name, size_t name_len, uint32_t *kind)
 {
     if ((!name && name_len) || !kind) return TYPST_NULL;
     return typst_kind_of_name(TYPST_OR_NOWHERE(name, const char *), name_len, kind);
 }
 
-static inline typst_status typst_try_kind_classes(uint32_t kind, typst_kind_info *classes)
+static inline TYPST_NODISCARD typst_status typst_try_kind_classes(uint32_t kind, typst_kind_info *classes)
 {
     if (!classes) return TYPST_NULL;
     return typst_kind_classes(kind, classes);
 }
 
-static inline typst_status typst_try_kind_in_set(uint32_t kind, uint32_t set, uint32_t *held)
+static inline TYPST_NODISCARD typst_status typst_try_kind_in_set(uint32_t kind, uint32_t set, uint32_t *held)
 {
     if (!held) return TYPST_NULL;
     return typst_kind_in_set(kind, set, held);

@@ -48,7 +48,7 @@ static void show_errors(typst_session *session)
     need("diagnostics", typst_try_diagnostics(session, told, sizes.count, texts, sizes.len, &sizes));
     const char *text = texts;
     for (size_t i = 0; i < sizes.count; text += told[i++].len) {
-        if (told[i].severity == TYPST_HINT) {
+        if (told[i].severity == TYPST_SEVERITY_HINT) {
             printf("  hint: %.*s\n", (int)told[i].len, text);
             continue;
         }
@@ -75,7 +75,7 @@ static void type(typst_session *session, size_t at, const char *text)
 int main(void)
 {
     static const char text[] = "= Notes\n\nSome text.\n\nThe last paragraph.\n";
-    typst_session session = {0, NULL};
+    typst_session session = TYPST_SESSION_INIT;
 
     need("a session", typst_try_new(&session));
     need("a document", typst_try_open(&session, 1, text, sizeof text - 1));

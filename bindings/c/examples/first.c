@@ -16,7 +16,7 @@ static void need(const char *what, typst_status status)
 int main(void)
 {
     static const char text[] = "First words.\n\n= Trees\n\nLast words.\n", added[] = "A word before.\n\n";
-    typst_session session = {0, NULL};
+    typst_session session = TYPST_SESSION_INIT;
     size_t child, path[TYPST_DOCUMENT_DEPTH];
     typst_node_info heading;
     typst_edited done;
@@ -32,7 +32,8 @@ int main(void)
     need("an edit", typst_try_edit(&session, 0, 0, added, strlen(added), &done));
     printf("bytes %zu..%zu were parsed anew\n", done.start, done.end);
 
-    /* The number leads to the heading, wherever it is now. */
+    /* The number is followed over the edit, and leads to the heading, wherever it is now. */
+    need("the heading", typst_try_follow(&session, heading.number, &heading.number));
     need("the heading", typst_try_find(&session, heading.number, path, TYPST_DOCUMENT_DEPTH, &place));
     need("its line", typst_try_byte_to_line_column(&session, place.offset, TYPST_CHARACTERS, &at));
     printf("the heading is in line %zu, bytes %zu..%zu\n", at.line + 1, place.offset, place.offset + heading.len);

@@ -12,7 +12,7 @@
 #include <stdlib.h>
 #include <string.h>
 
-enum { STACK = 12, LARGEST = 120, DEPTH = 64, TEXT = 4096, REMARKS = 2000, CALLS = 30, STATUSES = 22 };
+enum { STACK = 12, LARGEST = 120, DEPTH = 64, TEXT = 4096, REMARKS = 2000, NODES = 4000, CALLS = 35, STATUSES = 23 };
 
 static uint64_t seed = 88172645463325252u;
 
@@ -38,13 +38,15 @@ static struct {
     size_t depth;
     struct node *tree;
     bool is_document;
+    /* Whether numbers can be followed over the last edit. */
+    bool is_followed;
     char text[TEXT];
     size_t len;
 } model;
 
-static typst_session session;
+static typst_session session = TYPST_SESSION_INIT;
 /* A second session, in which texts are parsed as a whole. */
-static typst_session other;
+static typst_session other = TYPST_SESSION_INIT;
 static const char *made = "";
 static unsigned long call_count;
 
@@ -67,6 +69,44 @@ static void drop_tree(void)
     node_free(model.tree);
     model.tree = NULL;
     model.is_document = false;
+    model.is_followed = false;
+}
+
+/* The nodes of the tree before an edit. */
+static struct {
+    typst_node_info all[NODES];
+    size_t count;
+} before;
+
+static void read_before(void)
+{
+    size_t path[1] = {0};
+    typst_length length = {0};
+    before.count = typst_preorder(&session, path, 0, before.all, NODES, &length) == TYPST_DONE ? length.len : 0;
+}
+
+/* Follows the number of each node over an edit that was done. The nodes that go on have their kinds and their order. An edit that
+ * changes nothing also leaves each number. */
+static void follow_all(bool changes)
+{
+    static typst_node_info after[NODES];
+    size_t path[1] = {0}, at = 0;
+    typst_length length = {0};
+    WANT(typst_preorder(&session, path, 0, after, NODES, &length), TYPST_DONE);
+    for (size_t i = 0; i < before.count; i++) {
+        uint64_t now = 77;
+        typst_status status = typst_follow(&session, before.all[i].number, &now);
+        if (!changes) WANT(now, before.all[i].number);
+        if (status == TYPST_NOT_FOUND) {
+            WANT(now, 77);
+            continue;
+        }
+        WANT(status, TYPST_DONE);
+        while (at < length.len && after[at].number != now) at++;
+        WANT(at < length.len, true);
+        WANT(after[at++].kind, before.all[i].kind);
+    }
+    model.is_followed = true;
 }
 
 /* Draws a path, mostly of a node of the tree. */
@@ -279,6 +319,7 @@ static typst_status number(void)
     if (status == TYPST_DONE) {
         drop_tree();
         model.tree = model.stack[--model.depth];
+        model.is_followed = false;
     }
     return status;
 }
@@ -296,6 +337,7 @@ static typst_status renumber(void)
                  : from < 2 || TYPST_END_NUMBER < to             ? TYPST_BAD_NUMBERS
                  : to <= from || to - from < size                ? TYPST_UNNUMBERABLE
                                                                  : TYPST_DONE);
+    if (status == TYPST_DONE) model.is_followed = false;
     return status;
 }
 
@@ -309,18 +351,28 @@ static typst_status take_tree(void)
     if (status == TYPST_DONE) {
         model.stack[model.depth++] = model.tree;
         model.tree = NULL;
+        model.is_followed = false;
     }
     return status;
 }
 
-static typst_status replace(void)
+/* Whether a change is as it was before the call. */
+static bool is_untouched(const typst_change *change)
+{
+    return change->depth == 77 && change->window.start == 77 && change->window.end == 77 && change->window.tried == 77 && change->root == 77;
+}
+
+static typst_status replace_by(bool reconciles)
 {
     size_t path[8];
     size_t depth = draw_path(path), from = draw(4), to = once_in(20) ? SIZE_MAX - draw(2) : from + draw(3);
     size_t count = once_in(30) ? SIZE_MAX - draw(3) : draw(4);
     if (once_in(20)) to = draw(from + 1);
     typst_window window = {77, 77, 77};
-    typst_status status = typst_replace(&session, path, depth, from, to, count, &window);
+    typst_change change = {77, {77, 77, 77}, 77};
+    read_before();
+    typst_status status = reconciles ? typst_reconcile(&session, path, depth, from, to, count, &change)
+                                     : typst_replace(&session, path, depth, from, to, count, &window);
     struct node *node = model.tree && !model.is_document ? node_at(model.tree, path, depth) : NULL;
     typst_status wanted = !model.made                            ? TYPST_NOT_MADE
                           : !model.tree && !model.is_document    ? TYPST_NO_TREE
@@ -333,11 +385,9 @@ static typst_status replace(void)
     /* A tree that was numbered in a narrow range can run out of numbers. */
     if (status == TYPST_UNNUMBERABLE) WANT(wanted, TYPST_DONE);
     else WANT(status, wanted);
-    if (status != TYPST_DONE) {
-        WANT(window.start, 77);
-        WANT(window.tried, 77);
-        return status;
-    }
+    if (status != TYPST_DONE || reconciles) WANT(window.start == 77 && window.end == 77 && window.tried == 77, true);
+    if (status != TYPST_DONE || !reconciles) WANT(is_untouched(&change), true);
+    if (status != TYPST_DONE) return status;
     size_t left = node->count - (to - from);
     struct node **children = malloc((left + count + 1) * sizeof *children);
     if (!children) abort();
@@ -349,9 +399,76 @@ static typst_status replace(void)
     free(node->children);
     node->children = children;
     node->count = left + count;
-    WANT(window.start <= window.end && window.end <= node->count, true);
+    if (reconciles) {
+        WANT(change.root, 0);
+        WANT(depth <= change.depth, true);
+        follow_all(count > 0 || from < to);
+    } else {
+        WANT(window.start <= window.end && window.end <= node->count, true);
+        model.is_followed = false;
+    }
     return status;
 }
+
+static typst_status replace(void)
+{
+    return replace_by(false);
+}
+
+static typst_status reconcile(void)
+{
+    return replace_by(true);
+}
+
+/* Puts the last node of the stack in place of the tree. */
+static typst_status update(void)
+{
+    typst_change change = {77, {77, 77, 77}, 77};
+    read_before();
+    typst_status status = typst_update(&session, &change);
+    WANT(status, !model.made             ? TYPST_NOT_MADE
+                 : model.is_document     ? TYPST_IS_DOCUMENT
+                 : !model.tree           ? TYPST_NO_TREE
+                 : model.depth == 0      ? TYPST_SHORT_STACK
+                                         : TYPST_DONE);
+    if (status != TYPST_DONE) {
+        WANT(is_untouched(&change), true);
+        return status;
+    }
+    struct node *node = model.stack[--model.depth];
+    bool changes = !node_same(node, model.tree);
+    drop_tree();
+    model.tree = node;
+    WANT(change.root <= 1, true);
+    if (change.root) WANT(change.depth == 0 && change.window.start == 0 && change.window.end == 0 && change.window.tried == 0, true);
+    follow_all(changes);
+    return status;
+}
+
+/* Follows a number, which mostly no node had. */
+static typst_status follow(void)
+{
+    uint64_t now = 77;
+    typst_status status = typst_follow(&session, once_in(3) ? UINT64_MAX - draw(3) : draw(300), &now);
+    if (!model.made) WANT(status, TYPST_NOT_MADE);
+    else if (!model.is_followed) WANT(status, TYPST_NO_EDIT);
+    else WANT(status == TYPST_DONE || status == TYPST_NOT_FOUND, true);
+    if (status != TYPST_DONE) WANT(now, 77);
+    return status;
+}
+
+/* Sends the last node of the stack to the other session, and takes it back. */
+static typst_status send(void)
+{
+    typst_status status = typst_send(&session, &other);
+    WANT(status, !model.made ? TYPST_NOT_MADE : model.depth == 0 ? TYPST_SHORT_STACK : TYPST_DONE);
+    if (status != TYPST_DONE) return status;
+    WANT(typst_pop(&session, model.depth), TYPST_SHORT_STACK);
+    WANT(typst_send(&other, &session), TYPST_DONE);
+    WANT(typst_send(&other, &session), TYPST_SHORT_STACK);
+    return status;
+}
+
 
 /* Reads a node, and finds it by its number. */
 static typst_status read_node(void)
@@ -492,7 +609,7 @@ static typst_status text_of(bool whole)
                  : !node          ? TYPST_NO_NODE
                  : room < len     ? TYPST_SHORT_BUFFER
                                   : TYPST_DONE);
-    if (node) WANT(length.len, len);
+    WANT(length.len, node ? len : 77);
     if (status == TYPST_DONE) {
         if (len) node_write(node, wanted_text);
         WANT(memcmp(out, wanted_text, len), 0);
@@ -547,15 +664,15 @@ static void remark(uint32_t severity, const struct text *text, size_t start, siz
 static void remark_report(const struct report *report, uint32_t severity, size_t start, size_t end, const size_t *path, size_t depth)
 {
     remark(severity, report->texts, start, end, path, depth);
-    for (size_t i = 1; i < report->count; i++) remark(TYPST_HINT, report->texts + i, 0, 0, NULL, 0);
+    for (size_t i = 1; i < report->count; i++) remark(TYPST_SEVERITY_HINT, report->texts + i, 0, 0, NULL, 0);
 }
 
 /* The same for the subtree at a path, whose text begins at a place. */
 static void remark_all(const struct node *node, uint32_t severity, size_t start, size_t *path, size_t depth)
 {
     size_t own = node->kind == TYPST_KIND_ERROR, end = start + node_len(node);
-    if (severity == TYPST_ERROR && own) remark_report(node->reports, severity, start, end, path, depth);
-    for (size_t i = node->report_count; severity == TYPST_WARNING && own < i; i--)
+    if (severity == TYPST_SEVERITY_ERROR && own) remark_report(node->reports, severity, start, end, path, depth);
+    for (size_t i = node->report_count; severity == TYPST_SEVERITY_WARNING && own < i; i--)
         remark_report(node->reports + i - 1, severity, start, end, path, depth);
     for (path[depth] = 0; path[depth] < node->count; path[depth]++) {
         remark_all(node->children[path[depth]], severity, start, path, depth + 1);
@@ -573,7 +690,7 @@ static void compare_node(const typst_diagnostic *told, size_t *path, size_t *dep
     WANT(told->placed, 1);
     WANT(told->start, place.offset);
     WANT(told->end, place.offset + info.len);
-    if (told->severity == TYPST_ERROR) WANT(info.kind, TYPST_KIND_ERROR);
+    if (told->severity == TYPST_SEVERITY_ERROR) WANT(info.kind, TYPST_KIND_ERROR);
     *depth = place.depth;
 }
 
@@ -721,7 +838,7 @@ static typst_status diagnostics(void)
     size_t path[DEPTH], depth, room = once_in(4) ? draw(8) : REMARKS, texts_room = once_in(4) ? draw(60) : sizeof texts;
     typst_diagnostic_sizes sizes = {77, 77};
     remarks.count = remarks.len = 0;
-    for (uint32_t severity = TYPST_ERROR; severity <= TYPST_WARNING && model.tree; severity++)
+    for (uint32_t severity = TYPST_SEVERITY_ERROR; severity <= TYPST_SEVERITY_WARNING && model.tree; severity++)
         remark_all(model.tree, severity, 0, path, 0);
     memset(out, '#', sizeof out);
     memset(texts, '#', sizeof texts);
@@ -736,15 +853,15 @@ static typst_status diagnostics(void)
     size_t count = status == TYPST_DONE ? sizes.count : 0;
     for (size_t i = 0; i < count; text += out[i++].len) {
         const struct remark *wanted = remarks.all + i;
-        if (out[i].severity != TYPST_HINT) compare_node(out + i, path, &depth);
+        if (out[i].severity != TYPST_SEVERITY_HINT) compare_node(out + i, path, &depth);
         if (model.is_document) continue;
         WANT(out[i].severity, wanted->severity);
         WANT(out[i].len, wanted->text->len);
         WANT(memcmp(text, wanted->text->at, wanted->text->len), 0);
         WANT(out[i].start, wanted->start);
         WANT(out[i].end, wanted->end);
-        WANT(out[i].placed, wanted->severity != TYPST_HINT);
-        if (wanted->severity == TYPST_HINT) WANT(out[i].number, 1);
+        WANT(out[i].placed, wanted->severity != TYPST_SEVERITY_HINT);
+        if (wanted->severity == TYPST_SEVERITY_HINT) WANT(out[i].number, 1);
         else WANT(depth == wanted->depth && memcmp(path, wanted->path, depth * sizeof *path) == 0, true);
     }
     for (; text < texts + sizeof texts; text++) WANT(*text, '#');
@@ -826,7 +943,8 @@ static typst_status edit(void)
     if (once_in(30)) to = SIZE_MAX - draw(2);
     if (once_in(30)) to = draw(from + 1);
     if (TEXT / 2 < model.len) to = model.len;
-    typst_edited edited = {77, 77, {77, 77, 77}};
+    typst_edited edited = {77, 77, {77, {77, 77, 77}, 77}};
+    read_before();
     typst_status status = typst_edit(&session, from, to, with, len, &edited);
     bool fits = from <= to && is_boundary(model.text, model.len, from) && is_boundary(model.text, model.len, to);
     WANT(status, !model.made           ? TYPST_NOT_MADE
@@ -839,11 +957,74 @@ static typst_status edit(void)
         memcpy(model.text + from, with, len);
         model.len += len - (to - from);
         WANT(edited.start <= from && from + len <= edited.end && edited.end <= model.len, true);
+        WANT(edited.change.root, 0);
+        follow_all(from < to || len > 0);
         compare_document();
     } else {
-        WANT(edited.start, 77);
+        WANT(edited.start == 77 && edited.end == 77 && is_untouched(&edited.change), true);
     }
     return status;
+}
+
+/* Finds the node whose text is exactly these bytes, from the node at a path down, whose text begins at `*offset`. */
+static bool range_at(const struct node *node, size_t from, size_t to, size_t *path, size_t *depth, size_t *offset)
+{
+    if (*offset == from && *offset + node_len(node) == to) return true;
+    for (size_t i = 0, begin = *offset; i < node->count; begin += node_len(node->children[i++])) {
+        if (from < begin || begin + node_len(node->children[i]) < to) continue;
+        path[(*depth)++] = i;
+        *offset = begin;
+        return range_at(node->children[i], from, to, path, depth, offset);
+    }
+    return false;
+}
+
+/* Finds a node by its bytes. */
+static typst_status find_range(void)
+{
+    size_t path[DEPTH], wanted[DEPTH], depth = 0, offset = 0, held[8], held_depth = draw_path(held);
+    typst_place place = {77, 77};
+    typst_range range = {draw(20), draw(20)};
+    if (typst_range_of(&session, held, held_depth, &range) == TYPST_DONE && once_in(8)) range.end += draw(3);
+    typst_status status = typst_find_range(&session, range.start, range.end, path, DEPTH, &place);
+    if (model.is_document) {
+        typst_range found = {77, 77};
+        if (status == TYPST_DONE) WANT(typst_range_of(&session, path, place.depth, &found), TYPST_DONE);
+        if (status == TYPST_DONE) WANT(found.start == range.start && found.end == range.end, true);
+        return status;
+    }
+    bool there = model.tree && range_at(model.tree, range.start, range.end, wanted, &depth, &offset);
+    WANT(status, !model.made ? TYPST_NOT_MADE : !model.tree ? TYPST_NO_TREE : there ? TYPST_DONE : TYPST_NOT_FOUND);
+    WANT(place.depth, there ? depth : 77);
+    WANT(place.offset, there ? offset : 77);
+    if (there) WANT(memcmp(path, wanted, depth * sizeof *path), 0);
+    return status;
+}
+
+/* Reads a part of the document's text, and the bytes of a line. */
+static void parts(typst_status held)
+{
+    char out[24];
+    size_t from = draw(model.len + 2), to = once_in(9) ? draw(from + 1) : from + draw(9), room = draw(sizeof out + 1), line = draw(6);
+    typst_length length = {77};
+    typst_range range = {77, 77};
+    memset(out, '#', sizeof out);
+    bool is_held = held == TYPST_DONE;
+    bool fits = from <= to && is_boundary(model.text, model.len, from) && is_boundary(model.text, model.len, to);
+    bool is_written = is_held && fits && to - from <= room;
+    WANT(typst_text(&session, from, to, out, room, &length), !is_held     ? held
+                                                             : !fits      ? TYPST_BAD_RANGE
+                                                             : is_written ? TYPST_DONE
+                                                                          : TYPST_SHORT_BUFFER);
+    WANT(length.len, is_held && fits ? to - from : 77);
+    if (is_written) WANT(memcmp(out, model.text + from, to - from), 0);
+    for (size_t i = is_written ? to - from : 0; i < sizeof out; i++) WANT(out[i], '#');
+    struct spot begin = {0, line, 0}, next = {0, line + 1, 0};
+    bool there = is_held && spot_at(model.text, model.len, TYPST_BYTES, false, &begin);
+    bool is_last = there && !spot_at(model.text, model.len, TYPST_BYTES, false, &next);
+    WANT(typst_line_to_range(&session, line, &range), !is_held ? held : there ? TYPST_DONE : TYPST_NO_PLACE);
+    WANT(range.start, there ? begin.byte : 77);
+    WANT(range.end, !there ? 77 : is_last ? model.len : next.byte);
 }
 
 /* Reads how many lines the document has, and looks up places in it by their bytes and by their lines and columns. */
@@ -857,6 +1038,7 @@ static typst_status places(void)
     bool is_held = held == TYPST_DONE;
     if (is_held) spot_at(model.text, model.len, unit, true, &end);
     WANT(typst_len_lines(&session, &count), held);
+    parts(held);
     WANT(count, is_held ? end.line + 1 : 77);
     bool there = is_held && spot_at(model.text, model.len, unit, true, &spot);
     WANT(typst_byte_to_line_column(&session, spot.byte, unit, &place), there ? TYPST_DONE : is_held ? TYPST_NO_PLACE : held);
@@ -954,7 +1136,10 @@ int main(int argc, char **argv)
                       {"preorder", preorder, 60},    {"range_of", range_of, 60},     {"neighbor", neighbor, 120},
                       {"kind", kind, 20},            {"places", places, 100},
                       {"diagnostics", diagnostics, 15}, {"compare", compare, 60},
-                      {"pick", pick, 60},            {"view", view, 100}};
+                      {"pick", pick, 60},            {"view", view, 100},
+                      {"reconcile", reconcile, 200}, {"update", update, 60},
+                      {"follow", follow, 30},        {"send", send, 30},
+                      {"find_range", find_range, 60}};
     static unsigned long seen[CALLS][STATUSES];
     unsigned long many = argc > 1 ? strtoul(argv[1], NULL, 10) : 1000000;
     size_t weights = 0;

@@ -87,6 +87,22 @@ static typst_status place_byte(void)
 }
 
 static typst_status find_byte(void) { return typst_line_column_to_byte(session, 0, 1, TYPST_UTF16, &size); }
+static typst_status follow(void)
+{
+    uint64_t now;
+    if (read_node() != TYPST_DONE) exit(99);
+    return typst_follow(session, infos[0].number, &now);
+}
+
+static typst_status find_range(void) { return typst_find_range(session, 0, 17, path, DEPTH, &place); }
+static typst_status read_text(void) { return typst_text(session, 1, 4, bytes, BYTES, &length); }
+
+static typst_status read_line(void)
+{
+    typst_range range;
+    return typst_line_to_range(session, 1, &range);
+}
+
 static typst_status change(void) { return typst_push_leaf(session, TYPST_KIND_TEXT, "a", 1); }
 
 static const struct {
@@ -106,6 +122,10 @@ static const struct {
              {"typst_leaf_at", find_leaf},
              {"typst_range_of", read_range},
              {"typst_neighbor", find_neighbor},
+             {"typst_find_range", find_range},
+             {"typst_follow", follow},
+             {"typst_text", read_text},
+             {"typst_line_to_range", read_line},
              {"typst_len_lines", count_lines},
              {"typst_byte_to_line_column", place_byte},
              {"typst_line_column_to_byte", find_byte}};
@@ -123,6 +143,7 @@ static int outcome(typst_status (*call)(void))
 int main(void)
 {
     static const char text[] = "= a *b*\n\nc _d_ e";
+    typst_edited edited;
     size_t page = (size_t)sysconf(_SC_PAGESIZE), count = sizeof reads / sizeof *reads, wrong = 0;
     void *memory = mmap(NULL, page, PROT_READ | PROT_WRITE, MAP_PRIVATE | MAP_ANONYMOUS, -1, 0);
     if (memory == MAP_FAILED) abort();
@@ -130,6 +151,7 @@ int main(void)
     other = session + 1;
     if (typst_new(session) || typst_new(other)) abort();
     if (typst_open(session, 1, text, sizeof text - 1) || typst_open(other, 1, text, sizeof text - 1)) abort();
+    if (typst_edit(session, sizeof text - 1, sizeof text - 1, "f", 1, &edited)) abort();
     if (mprotect(memory, page, PROT_READ)) abort();
     for (size_t i = 0; i < count; i++) {
         int status = outcome(reads[i].call);

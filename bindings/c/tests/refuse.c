@@ -73,6 +73,32 @@ static void check(bool holds, const char *what, long refused)
 
 static const char long_text[] = "a text that is longer than those that take no memory";
 
+/* Edits the tree of `tree`, whose children are a copied leaf and a tree of 14 nodes, so that numbers can be followed. */
+static void follow(typst_session *session, long refused)
+{
+    size_t path[2] = {1, 0};
+    uint64_t now = 0;
+    typst_node_info last, info;
+    typst_change change;
+    typst_place place;
+
+    DO(typst_node(session, path, 1, &last));
+    /* A long text comes before the first leaf below child 1, and leaves that node and the node's last child. */
+    DO(typst_push_leaf(session, TYPST_KIND_TEXT, long_text, sizeof long_text - 1));
+    DO(typst_reconcile(session, path, 1, 0, 0, 1, &change));
+    check(change.depth == 1 && change.root == 0, "another node was edited", refused);
+    DO(typst_follow(session, last.number, &now));
+    check(now == last.number, "a node above the edit has another number", refused);
+    /* A copy of the whole tree comes in its place, so that all nodes go on. */
+    DO(typst_push_copy(session, path, 0));
+    DO(typst_update(session, &change));
+    DO(typst_follow(session, last.number, &now));
+    DO(typst_node(session, path, 1, &info));
+    check(now == info.number && now == last.number, "a node of the same tree has another number", refused);
+    DO(typst_find_range(session, 0, 5, path, 2, &place));
+    check(place.depth == 1 && path[0] == 0 && place.offset == 0, "the first leaf has other bytes", refused);
+}
+
 /* Builds a tree, edits it and reads it. */
 static void tree(typst_session *session, long refused)
 {
@@ -101,7 +127,7 @@ static void tree(typst_session *session, long refused)
     check(length.len == info.len && memcmp(text + sizeof long_text - 1, " wrong", 6) == 0, "the tree has another text", refused);
     DO(typst_diagnostics(session, told, 4, text, sizeof text, &sizes));
     check(sizes.count == 3 && sizes.len == 9 + 2 * (sizeof long_text - 1), "other errors and warnings are told", refused);
-    check(told[1].severity == TYPST_WARNING && told[2].severity == TYPST_HINT, "the warning is another one", refused);
+    check(told[1].severity == TYPST_SEVERITY_WARNING && told[2].severity == TYPST_SEVERITY_HINT, "the warning is another one", refused);
     path[0] = 12;
     DO(typst_node(session, path, 1, &info));
     DO(typst_find(session, info.number, path, 4, &place));
@@ -118,6 +144,16 @@ static void tree(typst_session *session, long refused)
     DO(typst_number(session, 1, TYPST_FIRST_NUMBER, TYPST_END_NUMBER));
     DO(typst_node(session, path, 0, &info));
     check(info.children == 2 && info.descendants == 16 && info.warnings == 1, "the copy has other nodes", refused);
+    follow(session, refused);
+}
+
+/* Sends a node from one session to another. */
+static void send(typst_session *session, typst_session *receiver, long refused)
+{
+    DO(typst_push_leaf(session, TYPST_KIND_TEXT, long_text, sizeof long_text - 1));
+    DO(typst_send(session, receiver));
+    check(typst_pop(session, 1) == TYPST_SHORT_STACK, "the node that was sent is still there", refused);
+    DO(typst_pop(receiver, 1));
 }
 
 /* Reads the value of a string, which is made for the call. */
@@ -168,16 +204,27 @@ int main(void)
 {
     long refused = 0;
     for (bool any = true; any; refused++) {
-        typst_session session = {0, NULL};
+        typst_session session = TYPST_SESSION_INIT, receiver = TYPST_SESSION_INIT, *pointer;
         long before = refused_calls;
         granted = refused;
         DO(typst_new(&session));
+        DO(typst_new(&receiver));
+        send(&session, &receiver, refused);
+        pointer = typst_session_new();
+        if (!pointer) {
+            refused_calls++;
+            pointer = typst_session_new();
+        }
+        check(pointer != NULL, "no session is made", refused);
+        typst_session_free(pointer);
         tree(&session, refused);
         view(&session, refused);
         document(&session, refused);
         any = granted < 0;
         check(!any || refused_calls == before + 1, "no call says that memory was refused", refused);
         typst_free(&session);
+        typst_free(&receiver);
+        check(session.made == 0 && session.at == NULL, "a session that was freed isn't all zero", refused);
         check(blocks == 0, "a block is left", refused);
     }
     printf("%ld requests for memory refused in turn\n", refused - 1);

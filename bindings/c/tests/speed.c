@@ -13,7 +13,7 @@
 
 enum { PARAGRAPHS = 8300, IN_A_SECTION = 50, ROUNDS = 20000, LINES = 1000, DEPTH = 8 };
 
-static typst_session session;
+static typst_session session = TYPST_SESSION_INIT;
 
 /* Ends the program if a call wasn't done. */
 static void need(typst_status status)

@@ -10,7 +10,8 @@ fn main() -> Result<(), Error> {
     let done = source.edit(0..0, "A word before.\n\n")?;
     println!("bytes {:?} were parsed anew", done.reparsed);
 
-    // The number leads to the heading, wherever it is now.
+    // The span is followed over the edit, and leads to the heading, wherever it is now.
+    let heading = done.follow(heading).ok_or(Error::NotFound)?;
     let bytes = source.find(heading)?.ok_or(Error::NotFound)?.range()?;
     let at = source.byte_to_line_column(bytes.start, ColumnUnit::Character);
     let line = at.ok_or(Error::NoPlace)?.line + 1;

@@ -3,6 +3,8 @@
 use crate::handle;
 use crate::kind::SyntaxKind;
 use crate::raw::KindClasses;
+use std::fmt;
+use std::str::FromStr;
 
 /// A named set of kinds. It holds the kinds that such a thing may begin with, or that it may be.
 #[derive(Clone, Copy, Debug, PartialEq, Eq, Hash)]
@@ -38,6 +40,43 @@ impl SyntaxSet {
     /// Whether the set holds a kind.
     pub fn contains(self, kind: SyntaxKind) -> bool {
         handle::kind_in_set(kind.to_u8(), self as u32).expect("there is such a kind and such a set")
+    }
+}
+
+impl fmt::Display for SyntaxKind {
+    /// Writes the name, as messages to a user write it.
+    fn fmt(&self, f: &mut fmt::Formatter<'_>) -> fmt::Result {
+        f.pad(self.name())
+    }
+}
+
+/// A name or a number that no kind has.
+#[derive(Clone, Copy, Debug, PartialEq, Eq, Hash)]
+pub struct NoKind;
+
+impl fmt::Display for NoKind {
+    fn fmt(&self, f: &mut fmt::Formatter<'_>) -> fmt::Result {
+        f.write_str("there is no such kind")
+    }
+}
+
+impl std::error::Error for NoKind {}
+
+impl FromStr for SyntaxKind {
+    type Err = NoKind;
+
+    /// The kind with a name, as [`SyntaxKind::name`] returns it.
+    fn from_str(name: &str) -> Result<SyntaxKind, NoKind> {
+        SyntaxKind::from_name(name).ok_or(NoKind)
+    }
+}
+
+impl TryFrom<u8> for SyntaxKind {
+    type Error = NoKind;
+
+    /// The kind with a number.
+    fn try_from(number: u8) -> Result<SyntaxKind, NoKind> {
+        SyntaxKind::from_u8(number).ok_or(NoKind)
     }
 }
 
@@ -89,6 +128,15 @@ mod tests {
     use super::*;
 
     #[test]
+    fn the_library_has_the_version_of_the_crate() {
+        let parts = env!("CARGO_PKG_VERSION").split('.').map(|part| part.parse::<u32>());
+        let number = parts.fold(0, |number, part| {
+            100 * number + part.expect("a version has three numbers")
+        });
+        assert_eq!(handle::version(), number);
+    }
+
+    #[test]
     fn the_names_of_the_table_are_those_of_the_library() {
         for kind in SyntaxKind::all() {
             assert_eq!(
@@ -98,6 +146,11 @@ mod tests {
             assert_eq!(SyntaxKind::from_name(kind.name()), Some(*kind));
         }
         assert_eq!(SyntaxKind::from_name("no kind"), None);
+        assert_eq!("heading".parse(), Ok(SyntaxKind::Heading));
+        assert_eq!("Heading".parse::<SyntaxKind>(), Err(NoKind));
+        assert_eq!(SyntaxKind::try_from(0), Ok(SyntaxKind::all()[0]));
+        assert_eq!(SyntaxKind::try_from(255), Err(NoKind));
+        assert_eq!(format!("{:>9}", SyntaxKind::Heading), "  heading");
     }
 
     #[test]

@@ -6,6 +6,11 @@ use crate::raw;
 use crate::span::Span;
 use std::ops::Range;
 
+/// The number of an error in `typst.h`.
+const ERROR: u32 = 301;
+/// The number of a warning.
+const WARNING: u32 = 302;
+
 /// How severe a diagnostic is.
 #[derive(Clone, Copy, Debug, PartialEq, Eq, Hash)]
 pub enum Severity {
@@ -54,8 +59,8 @@ pub(crate) fn all(handle: &Handle) -> Result<Vec<Diagnostic>, Error> {
         begin += one.len;
         let range = range_of(one);
         match one.severity {
-            0 | 1 => all.push(Diagnostic {
-                severity: if one.severity == 0 {
+            ERROR | WARNING => all.push(Diagnostic {
+                severity: if one.severity == ERROR {
                     Severity::Error
                 } else {
                     Severity::Warning

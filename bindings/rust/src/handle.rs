@@ -9,8 +9,8 @@
 
 use crate::error::Error;
 use crate::raw::{
-    self, ByteRange, Diagnostic, DiagnosticSizes, Edited, KindClasses, Length, LineColumn, NodeInfo, Place, ViewAnswer,
-    Window,
+    self, ByteRange, Change, Diagnostic, DiagnosticSizes, Edited, KindClasses, Length, LineColumn, NodeInfo, Place,
+    ViewAnswer, Window,
 };
 use std::ops::Range;
 use std::ptr;
@@ -20,6 +20,11 @@ const SHORT_BUFFER: u32 = 17;
 
 /// A session of the library.
 pub(crate) struct Handle(raw::Session);
+
+// SAFETY: a session is used by one thread at a time, since each call borrows the handle and a handle isn't `Sync`. What it
+// points to belongs to it alone: sessions share nothing, and the library has no variables of its own. (bench/door.py looks
+// at the archive.) Its memory comes from `malloc`, which serves each thread.
+unsafe impl Send for Handle {}
 
 /// A status as a result.
 fn outcome(status: u32) -> Result<(), Error> {
@@ -126,6 +131,37 @@ impl Handle {
         // SAFETY: what the head of this module says.
         outcome(unsafe { raw::typst_replace(self.at(), path.as_ptr(), path.len(), from, to, count, &mut window) })?;
         Ok(window)
+    }
+
+    pub(crate) fn reconcile(&mut self, path: &[usize], range: Range<usize>, count: usize) -> Result<Change, Error> {
+        let mut change = Change::default();
+        let (from, to) = (range.start, range.end);
+        // SAFETY: what the head of this module says.
+        outcome(unsafe { raw::typst_reconcile(self.at(), path.as_ptr(), path.len(), from, to, count, &mut change) })?;
+        Ok(change)
+    }
+
+    pub(crate) fn update(&mut self) -> Result<Change, Error> {
+        let mut change = Change::default();
+        // SAFETY: what the head of this module says.
+        outcome(unsafe { raw::typst_update(self.at(), &mut change) })?;
+        Ok(change)
+    }
+
+    /// Moves the last node of the stack to another stack.
+    pub(crate) fn send(&mut self, other: &mut Handle) -> Result<(), Error> {
+        // SAFETY: what the head of this module says.
+        outcome(unsafe { raw::typst_send(self.at(), other.at()) })
+    }
+
+    /// The number that a node has after the last edit, which can be followed. `None` if the node is gone.
+    pub(crate) fn follow(&self, number: u64) -> Option<u64> {
+        let mut now = 0;
+        // SAFETY: what the head of this module says.
+        match outcome(unsafe { raw::typst_follow(self.read(), number, &mut now) }) {
+            Ok(()) => Some(now),
+            Err(_) => None,
+        }
     }
 
     pub(crate) fn node(&self, path: &[usize]) -> Result<NodeInfo, Error> {
@@ -257,6 +293,14 @@ impl Handle {
         })
     }
 
+    pub(crate) fn find_range(&self, range: &Range<usize>) -> Result<Vec<usize>, Error> {
+        found(|path, place| {
+            let (from, to, room) = (range.start, range.end, path.len());
+            // SAFETY: what the head of this module says.
+            unsafe { raw::typst_find_range(self.read(), from, to, path.as_mut_ptr(), room, place) }
+        })
+    }
+
     pub(crate) fn leaf_at(&self, cursor: usize, side: u32) -> Result<Vec<usize>, Error> {
         found(|path, place| {
             // SAFETY: what the head of this module says.
@@ -308,6 +352,23 @@ impl Handle {
         Ok(count)
     }
 
+    pub(crate) fn line_to_range(&self, line: usize) -> Result<Range<usize>, Error> {
+        let mut range = ByteRange::default();
+        // SAFETY: what the head of this module says.
+        outcome(unsafe { raw::typst_line_to_range(self.read(), line, &mut range) })?;
+        Ok(range.start..range.end)
+    }
+
+    /// A part of the document's text.
+    pub(crate) fn text(&self, range: &Range<usize>) -> Result<String, Error> {
+        let out = filled(range.len(), |out: &mut [u8], length| {
+            let (from, to, room) = (range.start, range.end, out.len());
+            // SAFETY: what the head of this module says.
+            unsafe { raw::typst_text(self.read(), from, to, out.as_mut_ptr(), room, length) }
+        })?;
+        Ok(text(out))
+    }
+
     pub(crate) fn byte_to_line_column(&self, byte: usize, unit: u32) -> Result<LineColumn, Error> {
         let mut place = LineColumn::default();
         // SAFETY: what the head of this module says.
@@ -321,6 +382,13 @@ impl Handle {
         outcome(unsafe { raw::typst_line_column_to_byte(self.read(), line, column, unit, &mut byte) })?;
         Ok(byte)
     }
+}
+
+/// The version of the library.
+#[cfg(test)]
+pub(crate) fn version() -> u32 {
+    // SAFETY: the call takes nothing.
+    unsafe { raw::typst_version() }
 }
 
 /// The name of the kind with a number, if it has at most `most` bytes. The crate itself has a table of the

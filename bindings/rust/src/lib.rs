@@ -2,7 +2,7 @@
 //!
 //! A [`Source`] is a text with its tree. After an edit, only the part that changes is parsed anew. A [`Builder`] is a
 //! stack of nodes, and [`Builder::number`] makes a [`Tree`] from its last node. A [`Node`] knows its place, and one call
-//! reads it. The [`Span`] of a node identifies it while other nodes are edited.
+//! reads it. The [`Span`] of a node identifies it, if it is followed after each edit ([`Edited::follow`]).
 //!
 //! A text is edited, and a heading is found again:
 //!
@@ -11,9 +11,9 @@
 //!
 //! # fn main() -> Result<(), Error> {
 //! let mut source = Source::new(FileId::MIN, "First words.\n\n= Trees\n")?;
-//! let heading = source.root().child_of(NodeClass::Of(SyntaxKind::Heading), 0).map(|node| node.span());
-//! source.edit(0..0, "A word before.\n\n")?;
-//! let node = source.find(heading.unwrap())?.unwrap();
+//! let heading = source.root().child_of(NodeClass::Of(SyntaxKind::Heading), 0).unwrap().span();
+//! let heading = source.edit(0..0, "A word before.\n\n")?.follow(heading).unwrap();
+//! let node = source.find(heading)?.unwrap();
 //! assert_eq!((node.text()?.as_str(), node.range()?), ("= Trees", 30..37));
 //! # Ok(())
 //! # }
@@ -38,11 +38,13 @@
 #![deny(unsafe_code)]
 
 mod accessor;
+mod change;
 mod classes;
 mod cursor;
 mod diagnostic;
 mod error;
 mod handle;
+mod heap;
 mod kind;
 mod node;
 mod node_class;
@@ -54,15 +56,16 @@ mod tree;
 mod view;
 
 pub use accessor::Accessor;
-pub use classes::SyntaxSet;
+pub use change::{Change, Edited, Touched};
+pub use classes::{NoKind, SyntaxSet};
 pub use cursor::Cursor;
 pub use diagnostic::{Diagnostic, Hint, Severity};
 pub use error::Error;
 pub use kind::SyntaxKind;
-pub use node::{Children, Node, Preorder};
+pub use node::{Ancestors, Children, Node, Preorder};
 pub use node_class::NodeClass;
 pub use place::{ColumnUnit, LineColumn};
-pub use source::{Edited, Source};
+pub use source::Source;
 pub use span::{FileId, Side, Span};
-pub use tree::{Builder, Nodes, NotNumbered, Renumbered, Tree};
+pub use tree::{Builder, Nodes, NotNumbered, NotTaken, Renumbered, Tree};
 pub use view::Answer;

@@ -10,8 +10,10 @@ use crate::raw::NodeInfo;
 use crate::span::{Side, Span};
 use crate::view::Answer;
 use std::fmt;
+use std::hash::{Hash, Hasher};
 use std::iter::{Enumerate, FusedIterator};
 use std::ops::Range;
+use std::ptr;
 use std::vec;
 
 /// A node of a [`Tree`](crate::Tree) or of a [`Source`](crate::Source), with its place.
@@ -50,6 +52,11 @@ fn found(handle: &Handle, path: Result<Vec<usize>, Error>) -> Result<Option<Node
 /// The node with a span.
 pub(crate) fn find(handle: &Handle, span: Span) -> Result<Option<Node<'_>>, Error> {
     found(handle, handle.find(span.number()))
+}
+
+/// The node with a range of bytes.
+pub(crate) fn find_range<'t>(handle: &'t Handle, range: &Range<usize>) -> Result<Option<Node<'t>>, Error> {
+    found(handle, handle.find_range(range))
 }
 
 /// The leaf at a cursor.
@@ -225,6 +232,32 @@ impl<'t> Node<'t> {
         at(self.handle, above.to_vec())
     }
 
+    /// The kind of the parent. The root has none.
+    pub fn parent_kind(&self) -> Option<SyntaxKind> {
+        self.parent().map(|parent| parent.kind())
+    }
+
+    /// The nodes above this one, from the parent up to the root.
+    pub fn ancestors(&self) -> Ancestors<'t> {
+        Ancestors { next: self.parent() }
+    }
+
+    /// The first leaf of the subtree, or error with a text. It is this node itself if this node is one.
+    pub fn leftmost_leaf(&self) -> Option<Node<'t>> {
+        if self.is_leaf() {
+            return Some(self.clone());
+        }
+        self.children().find_map(|child| child.leftmost_leaf())
+    }
+
+    /// The last leaf of the subtree, or error with a text. It is this node itself if this node is one.
+    pub fn rightmost_leaf(&self) -> Option<Node<'t>> {
+        if self.is_leaf() {
+            return Some(self.clone());
+        }
+        self.children().rev().find_map(|child| child.rightmost_leaf())
+    }
+
     /// A cursor that begins at this node.
     pub fn walk(&self) -> Cursor<'t> {
         Cursor::new(self.clone())
@@ -302,6 +335,40 @@ impl fmt::Debug for Node<'_> {
         }
     }
 }
+
+/// Two nodes are equal if they are the same node of the same tree.
+impl PartialEq for Node<'_> {
+    fn eq(&self, other: &Self) -> bool {
+        ptr::eq(self.handle, other.handle) && self.path == other.path
+    }
+}
+
+impl Eq for Node<'_> {}
+
+impl Hash for Node<'_> {
+    fn hash<H: Hasher>(&self, state: &mut H) {
+        ptr::hash(self.handle, state);
+        self.path.hash(state);
+    }
+}
+
+/// The nodes above a node, from the parent up to the root.
+#[derive(Clone, Debug)]
+pub struct Ancestors<'t> {
+    next: Option<Node<'t>>,
+}
+
+impl<'t> Iterator for Ancestors<'t> {
+    type Item = Node<'t>;
+
+    fn next(&mut self) -> Option<Node<'t>> {
+        let node = self.next.take()?;
+        self.next = node.parent();
+        Some(node)
+    }
+}
+
+impl FusedIterator for Ancestors<'_> {}
 
 /// The children of a node, from either end.
 #[derive(Clone)]

@@ -107,19 +107,30 @@ pub struct Window {
     pub tried: usize,
 }
 
+/// What an edit changed of the tree.
+#[repr(C)]
+#[derive(Clone, Copy, Debug, Default)]
+pub struct Change {
+    pub depth: usize,
+    pub window: Window,
+    pub root: u32,
+}
+
 /// What an edit of a document did.
 #[repr(C)]
 #[derive(Clone, Copy, Debug, Default)]
 pub struct Edited {
     pub start: usize,
     pub end: usize,
-    pub window: Window,
+    pub change: Change,
 }
 
 #[allow(unsafe_code)]
 extern "C" {
     pub fn typst_new(session: *mut Session) -> u32;
     pub fn typst_free(session: *mut Session);
+    #[cfg_attr(not(test), allow(dead_code))]
+    pub fn typst_version() -> u32;
     pub fn typst_push_leaf(session: *mut Session, kind: u32, text: *const u8, text_len: usize) -> u32;
     pub fn typst_push_error(
         session: *mut Session,
@@ -145,6 +156,18 @@ extern "C" {
         count: usize,
         window: *mut Window,
     ) -> u32;
+    pub fn typst_reconcile(
+        session: *mut Session,
+        path: *const usize,
+        depth: usize,
+        from: usize,
+        to: usize,
+        count: usize,
+        change: *mut Change,
+    ) -> u32;
+    pub fn typst_update(session: *mut Session, change: *mut Change) -> u32;
+    pub fn typst_follow(session: *const Session, number: u64, now: *mut u64) -> u32;
+    pub fn typst_send(session: *mut Session, other: *mut Session) -> u32;
     pub fn typst_node(session: *const Session, path: *const usize, depth: usize, info: *mut NodeInfo) -> u32;
     pub fn typst_children(
         session: *const Session,
@@ -223,6 +246,14 @@ extern "C" {
         equal: *mut u32,
     ) -> u32;
     pub fn typst_find(session: *const Session, number: u64, path: *mut usize, room: usize, place: *mut Place) -> u32;
+    pub fn typst_find_range(
+        session: *const Session,
+        from: usize,
+        to: usize,
+        path: *mut usize,
+        room: usize,
+        place: *mut Place,
+    ) -> u32;
     pub fn typst_leaf_at(
         session: *const Session,
         cursor: usize,
@@ -251,6 +282,15 @@ extern "C" {
         edited: *mut Edited,
     ) -> u32;
     pub fn typst_len_lines(session: *const Session, count: *mut usize) -> u32;
+    pub fn typst_line_to_range(session: *const Session, line: usize, range: *mut ByteRange) -> u32;
+    pub fn typst_text(
+        session: *const Session,
+        from: usize,
+        to: usize,
+        out: *mut u8,
+        room: usize,
+        length: *mut Length,
+    ) -> u32;
     pub fn typst_byte_to_line_column(session: *const Session, byte: usize, unit: u32, place: *mut LineColumn) -> u32;
     pub fn typst_line_column_to_byte(
         session: *const Session,

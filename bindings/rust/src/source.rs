@@ -1,27 +1,21 @@
 //! Texts that are edited together with their trees.
 
+use crate::change::Edited;
 use crate::diagnostic::{self, Diagnostic};
 use crate::error::Error;
 use crate::handle::Handle;
 use crate::node::{self, Node};
 use crate::place::{ColumnUnit, LineColumn};
 use crate::span::{FileId, Side, Span};
-use crate::tree::Renumbered;
+use std::cell::OnceCell;
 use std::fmt;
 use std::ops::Range;
-
-/// What an edit of a text did.
-#[derive(Clone, Debug, PartialEq, Eq)]
-pub struct Edited {
-    /// The bytes of the new text that were parsed anew.
-    pub reparsed: Range<usize>,
-    /// The children of the root that were numbered anew.
-    pub renumbered: Renumbered,
-}
 
 /// A text of markup with its tree. The tree is always the one that parsing the whole text makes.
 pub struct Source {
     handle: Handle,
+    // A copy of the text, once it was asked for.
+    text: OnceCell<String>,
 }
 
 impl Source {
@@ -29,12 +23,33 @@ impl Source {
     pub fn new(file: FileId, text: &str) -> Result<Source, Error> {
         let mut handle = Handle::new()?;
         handle.open(file.get(), text)?;
-        Ok(Source { handle })
+        Ok(Source {
+            handle,
+            text: OnceCell::new(),
+        })
     }
 
-    /// The text. This fails only if memory is refused.
-    pub fn text(&self) -> Result<String, Error> {
-        self.root().text()
+    /// The text. The first call after an edit copies it.
+    pub fn text(&self) -> &str {
+        self.text.get_or_init(|| {
+            let whole = self.text_in(0..self.len());
+            whole.expect("a text holds all its bytes")
+        })
+    }
+
+    /// The length of the text in bytes.
+    pub fn len(&self) -> usize {
+        self.root().len()
+    }
+
+    /// Whether the text is empty.
+    pub fn is_empty(&self) -> bool {
+        self.len() == 0
+    }
+
+    /// A part of the text, if it is a range of the text with both ends between characters. The cost is a copy of the part.
+    pub fn text_in(&self, range: Range<usize>) -> Option<String> {
+        self.handle.text(&range).ok()
     }
 
     /// The root of the tree.
@@ -47,10 +62,21 @@ impl Source {
         node::at(&self.handle, path.to_vec())
     }
 
-    /// The node with a span. After an edit, the span of a node may belong to another node, or to none, if the node was
-    /// parsed anew or is in the window of the edit. This fails only if memory is refused.
+    /// The node with a span. After an edit, [`Edited::follow`] tells which span a node has now. This fails only if memory
+    /// is refused.
     pub fn find(&self, span: Span) -> Result<Option<Node<'_>>, Error> {
         node::find(&self.handle, span)
+    }
+
+    /// The bytes of the node with a span, if there is one. This fails only if memory is refused.
+    pub fn range(&self, span: Span) -> Result<Option<Range<usize>>, Error> {
+        self.find(span)?.map(|node| node.range()).transpose()
+    }
+
+    /// The outermost node whose text is exactly these bytes. A node without text that comes after a node with text is
+    /// missed. This fails only if memory is refused.
+    pub fn find_range(&self, range: Range<usize>) -> Result<Option<Node<'_>>, Error> {
+        node::find_range(&self.handle, &range)
     }
 
     /// The leaf at a cursor, in bytes. This fails only if memory is refused.
@@ -64,23 +90,23 @@ impl Source {
         diagnostic::all(&self.handle)
     }
 
-    /// Replaces a range of bytes by a text, and parses anew only the blocks that this can touch. `Error::Range` means
-    /// that the range isn't a range of the text, or that one of its ends lies within a character. After an error the
-    /// text is as it was.
-    pub fn edit(&mut self, range: Range<usize>, with: &str) -> Result<Edited, Error> {
+    /// Replaces a range of bytes by a text, and parses anew only the blocks that this can touch. Nodes that go on keep
+    /// their spans, and [`Edited::follow`] follows each span. `Error::Range` means that the range isn't a range of the
+    /// text, or that one of its ends lies within a character. After an error the text is as it was.
+    pub fn edit(&mut self, range: Range<usize>, with: &str) -> Result<Edited<'_>, Error> {
         let edited = self.handle.edit(range, with)?;
-        Ok(Edited {
-            reparsed: edited.start..edited.end,
-            renumbered: Renumbered {
-                window: edited.window.start..edited.window.end,
-                tried: edited.window.tried,
-            },
-        })
+        self.text.take();
+        Ok(Edited::new(&self.handle, &edited))
     }
 
     /// How many lines the text has: one more than it has line ends.
     pub fn len_lines(&self) -> usize {
         self.handle.len_lines().expect("a document is held")
+    }
+
+    /// The bytes of a line with its line end, if there is such a line. Lines count from 0.
+    pub fn line_to_range(&self, line: usize) -> Option<Range<usize>> {
+        self.handle.line_to_range(line).ok()
     }
 
     /// The line and the column of a byte, if it lies between two characters or at an end of the text. The cost is a

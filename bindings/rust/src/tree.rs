@@ -1,5 +1,6 @@
 //! Trees that are built node by node, and edited by their children.
 
+use crate::change::Change;
 use crate::diagnostic::{self, Diagnostic};
 use crate::error::Error;
 use crate::handle::Handle;
@@ -8,6 +9,7 @@ use crate::node::{self, Node};
 use crate::span::{FileId, Side, Span};
 use std::fmt;
 use std::ops::Range;
+use std::sync::{Mutex, PoisonError};
 
 /// A stack of nodes that are being built.
 pub struct Builder {
@@ -72,7 +74,10 @@ impl Builder {
                 debug_assert_eq!(popped, Ok(()));
                 Ok(Tree { handle: self.handle })
             }
-            Err(error) => Err(NotNumbered { error, builder: self }),
+            Err(error) => Err(NotNumbered {
+                error,
+                builder: Mutex::new(self),
+            }),
         }
     }
 }
@@ -88,8 +93,15 @@ impl fmt::Debug for Builder {
 pub struct NotNumbered {
     /// Why it wasn't numbered.
     pub error: Error,
+    // Errors are `Sync`, and a builder isn't.
+    builder: Mutex<Builder>,
+}
+
+impl NotNumbered {
     /// The stack, as it was.
-    pub builder: Builder,
+    pub fn into_builder(self) -> Builder {
+        self.builder.into_inner().unwrap_or_else(PoisonError::into_inner)
+    }
 }
 
 impl fmt::Display for NotNumbered {
@@ -103,6 +115,36 @@ impl std::error::Error for NotNumbered {}
 impl From<NotNumbered> for Error {
     fn from(not_numbered: NotNumbered) -> Error {
         not_numbered.error
+    }
+}
+
+/// A tree that wasn't taken as a builder.
+#[derive(Debug)]
+pub struct NotTaken {
+    /// Why it wasn't taken.
+    pub error: Error,
+    // Errors are `Sync`, and a tree isn't.
+    tree: Mutex<Tree>,
+}
+
+impl NotTaken {
+    /// The tree, as it was.
+    pub fn into_tree(self) -> Tree {
+        self.tree.into_inner().unwrap_or_else(PoisonError::into_inner)
+    }
+}
+
+impl fmt::Display for NotTaken {
+    fn fmt(&self, f: &mut fmt::Formatter<'_>) -> fmt::Result {
+        self.error.fmt(f)
+    }
+}
+
+impl std::error::Error for NotTaken {}
+
+impl From<NotTaken> for Error {
+    fn from(not_taken: NotTaken) -> Error {
+        not_taken.error
     }
 }
 
@@ -131,9 +173,21 @@ impl Tree {
         node::at(&self.handle, path.to_vec())
     }
 
-    /// The node with a span. This fails only if memory is refused.
+    /// The node with a span. After an edit, [`Change::follow`] tells which span a node has now. This fails only if memory
+    /// is refused.
     pub fn find(&self, span: Span) -> Result<Option<Node<'_>>, Error> {
         node::find(&self.handle, span)
+    }
+
+    /// The bytes of the node with a span, if there is one. This fails only if memory is refused.
+    pub fn range(&self, span: Span) -> Result<Option<Range<usize>>, Error> {
+        self.find(span)?.map(|node| node.range()).transpose()
+    }
+
+    /// The outermost node whose text is exactly these bytes. A node without text that comes after a node with text is
+    /// missed. This fails only if memory is refused.
+    pub fn find_range(&self, range: Range<usize>) -> Result<Option<Node<'_>>, Error> {
+        node::find_range(&self.handle, &range)
     }
 
     /// The leaf at a cursor, in bytes. This fails only if memory is refused.
@@ -154,28 +208,31 @@ impl Tree {
     }
 
     /// The tree as the only node of a stack, which can be wrapped. If memory is refused, the error returns the tree.
-    pub fn into_builder(mut self) -> Result<Builder, (Error, Tree)> {
+    pub fn into_builder(mut self) -> Result<Builder, NotTaken> {
         match self.handle.take_tree() {
             Ok(()) => Ok(Builder {
                 handle: self.handle,
                 count: 1,
             }),
-            Err(error) => Err((error, self)),
+            Err(error) => Err(NotTaken {
+                error,
+                tree: Mutex::new(self),
+            }),
         }
     }
 
-    /// Replaces a range of children of the inner node at a path by the nodes that `build` makes, and numbers as few
-    /// nodes anew as the free numbers allow. All others keep their spans. After an error the tree is as it was.
+    /// Replaces a range of children of the inner node at a path by the nodes that `build` makes. Nodes at either end that
+    /// equal the old children there count as the old ones. The others are numbered anew, with the first of 0, 1, 2, 4, ..
+    /// of their neighbors on either side for which there is room. All other nodes keep their spans. After an error the
+    /// tree is as it was. No span can be followed over this edit; [`Tree::reconcile`] makes the same edit, and tells
+    /// where each node is.
     pub fn replace(
         &mut self,
         path: &[usize],
         range: Range<usize>,
         build: impl FnOnce(&mut Nodes<'_>) -> Result<(), Error>,
     ) -> Result<Renumbered, Error> {
-        let mut nodes = Nodes {
-            handle: &mut self.handle,
-            count: 0,
-        };
+        let mut nodes = Nodes::on(&mut self.handle);
         build(&mut nodes)?;
         let window = nodes.handle.replace(path, range, nodes.count)?;
         nodes.count = 0;
@@ -183,6 +240,38 @@ impl Tree {
             window: window.start..window.end,
             tried: window.tried,
         })
+    }
+
+    /// Makes the same edit as [`Tree::replace`], as far down in the tree as it can, so that the nodes that go on keep
+    /// their spans. While all that changes is below one child, and that child and its new node are inner nodes of one
+    /// kind with the same warnings, the child stays, and its children are replaced instead. If a single leaf or error
+    /// then changes into another one of its kind, it keeps its span. After an error the tree is as it was.
+    pub fn reconcile(
+        &mut self,
+        path: &[usize],
+        range: Range<usize>,
+        build: impl FnOnce(&mut Nodes<'_>) -> Result<(), Error>,
+    ) -> Result<Change<'_>, Error> {
+        let mut nodes = Nodes::on(&mut self.handle);
+        build(&mut nodes)?;
+        let told = nodes.handle.reconcile(path, range, nodes.count)?;
+        nodes.count = 0;
+        drop(nodes);
+        Ok(Change::new(&self.handle, &told))
+    }
+
+    /// Puts the last node of a builder in place of the whole tree. The nodes that go on keep their spans, as after
+    /// [`Tree::reconcile`] of all children of the root. So a parser that makes a whole tree anew after each edit of its
+    /// text gets spans that can be kept. If the roots differ in their kinds or warnings, or if the old root has too few
+    /// numbers for all nodes, no node goes on. After an error the tree is as it was, and the builder is gone.
+    pub fn update(&mut self, mut builder: Builder) -> Result<Change<'_>, Error> {
+        builder.handle.send(&mut self.handle)?;
+        let mut nodes = Nodes::on(&mut self.handle);
+        nodes.count = 1;
+        let told = nodes.handle.update()?;
+        nodes.count = 0;
+        drop(nodes);
+        Ok(Change::new(&self.handle, &told))
     }
 }
 
@@ -198,7 +287,12 @@ pub struct Nodes<'t> {
     count: usize,
 }
 
-impl Nodes<'_> {
+impl<'t> Nodes<'t> {
+    /// No nodes yet.
+    fn on(handle: &'t mut Handle) -> Nodes<'t> {
+        Nodes { handle, count: 0 }
+    }
+
     /// Adds a leaf.
     pub fn leaf(&mut self, kind: SyntaxKind, text: &str) -> Result<&mut Self, Error> {
         self.handle.push_leaf(kind.to_u8(), text)?;

@@ -1,5 +1,6 @@
 //! Tests of trees that are built and edited.
-use typst_tree::{Builder, Error, FileId, NodeClass, Severity, Side, Span, SyntaxKind, Tree};
+use std::collections::HashSet;
+use typst_tree::{Builder, Error, FileId, Node, NodeClass, Severity, Side, Source, Span, SyntaxKind, Touched, Tree};
 
 /// `Markup[Text:Hello Strong[Text:big Error:*] Text:world]`
 fn built() -> Result<Tree, Error> {
@@ -148,11 +149,12 @@ fn what_isnt_numbered_stays_on_the_stack() -> Result<(), Error> {
         .leaf(SyntaxKind::Text, "b")?
         .wrap(SyntaxKind::Markup, 2)?;
     let refused = builder.number(FileId::MIN, 2..4).unwrap_err();
-    assert_eq!((refused.error, refused.builder.count()), (Error::Unnumberable, 1));
-    let refused = refused.builder.number(FileId::MIN, 1..9).unwrap_err();
+    let (error, builder) = (refused.error, refused.into_builder());
+    assert_eq!((error, builder.count()), (Error::Unnumberable, 1));
+    let refused = builder.number(FileId::MIN, 1..9).unwrap_err();
     assert_eq!(refused.error, Error::Numbers);
     assert_eq!(refused.to_string(), "the numbers must lie in 2..2^47");
-    let tree = refused.builder.number(FileId::MIN, 2..5)?;
+    let tree = refused.into_builder().number(FileId::MIN, 2..5)?;
     assert_eq!(tree.root().text()?, "ab");
     assert_eq!(
         Builder::new()?.number(FileId::MIN, Span::FULL).unwrap_err().error,
@@ -250,7 +252,7 @@ fn a_tree_is_copied_renumbered_and_wrapped() -> Result<(), Error> {
     tree.renumber(FileId::MIN, 2..11)?;
     let numbers: Vec<_> = tree.root().preorder().map(|node| node.span().number()).collect();
     assert_eq!(numbers, [2, 3, 4, 5, 6, 7, 8, 9, 10]);
-    let mut builder = tree.into_builder().map_err(|(error, _)| error)?;
+    let mut builder = tree.into_builder()?;
     builder.leaf(SyntaxKind::Text, "!")?.wrap(SyntaxKind::Markup, 2)?;
     let tree = builder.number(FileId::MIN, Span::FULL)?;
     assert_eq!((tree.root().descendants(), tree.root().text()?.len()), (11, 19));
@@ -322,4 +324,101 @@ fn children_are_picked_by_their_class() -> Result<(), Error> {
         root.child_of(NodeClass::Pattern, 2).is_none() && root.child_of(NodeClass::Of(SyntaxKind::Error), 0).is_none()
     );
     Ok(())
+}
+
+#[test]
+fn nodes_before_the_numbered_one_are_dropped() -> Result<(), Error> {
+    let mut builder = Builder::new()?;
+    builder.leaf(SyntaxKind::Text, "a")?.leaf(SyntaxKind::Text, "b")?;
+    let mut builder = builder.number(FileId::MIN, Span::FULL)?.into_builder()?;
+    assert_eq!(builder.count(), 1);
+    assert_eq!(builder.wrap(SyntaxKind::Markup, 2).unwrap_err(), Error::Stack);
+    Ok(())
+}
+
+/// A sum of two numbers below a root.
+fn sum(first: &str, second: &str) -> Result<Builder, Error> {
+    let mut builder = Builder::new()?;
+    builder
+        .leaf(SyntaxKind::Int, first)?
+        .leaf(SyntaxKind::Plus, "+")?
+        .leaf(SyntaxKind::Int, second)?;
+    builder.wrap(SyntaxKind::Binary, 3)?.wrap(SyntaxKind::Code, 1)?;
+    Ok(builder)
+}
+
+#[test]
+fn nodes_that_go_on_are_followed_through_updates() -> Result<(), Error> {
+    let mut tree = sum("1", "2")?.number(FileId::MIN, Span::FULL)?;
+    let spans: Vec<Span> = tree.root().preorder().map(|node| node.span()).collect();
+    // One number changes, and goes on as another number.
+    let change = tree.update(sum("1", "20")?)?;
+    assert_eq!(change.touched, Touched::Leaf { depth: 1, index: 2 });
+    assert_eq!(
+        spans.iter().map(|span| change.follow(*span)).collect::<Vec<_>>(),
+        spans.iter().map(|span| Some(*span)).collect::<Vec<_>>()
+    );
+    assert_eq!(tree.root().text()?, "1+20");
+    // A number becomes a name. It is gone, and the other nodes stay.
+    let change = tree.reconcile(&[0], 0..1, |nodes| nodes.leaf(SyntaxKind::Ident, "x").map(drop))?;
+    assert_eq!(change.follow(spans[2]), None);
+    assert_eq!(
+        [0, 1, 3, 4].map(|at| change.follow(spans[at])),
+        [0, 1, 3, 4].map(|at| Some(spans[at]))
+    );
+    assert_eq!(tree.find(spans[4])?.map(|node| node.leaf_text()), Some("20".into()));
+    // A root of another kind takes the place of all nodes.
+    let mut other = Builder::new()?;
+    other.leaf(SyntaxKind::Text, "a")?.wrap(SyntaxKind::Markup, 1)?;
+    let change = tree.update(other)?;
+    assert_eq!((change.touched.clone(), change.follow(spans[0])), (Touched::Root, None));
+    // A builder without a node changes nothing.
+    assert_eq!(tree.update(Builder::new()?).unwrap_err(), Error::Stack);
+    assert_eq!(tree.root().text()?, "a");
+    Ok(())
+}
+
+#[test]
+fn nodes_are_compared_and_lead_upwards_and_to_their_ends() -> Result<(), Error> {
+    let tree = sum("1", "2")?.number(FileId::MIN, Span::FULL)?;
+    let last = tree.at(&[0, 2]).unwrap();
+    let kinds: Vec<SyntaxKind> = last.ancestors().map(|node| node.kind()).collect();
+    assert_eq!(kinds, [SyntaxKind::Binary, SyntaxKind::Code]);
+    assert_eq!(
+        (last.parent_kind(), tree.root().parent_kind()),
+        (Some(SyntaxKind::Binary), None)
+    );
+    assert_eq!(
+        tree.root().leftmost_leaf().map(|leaf| leaf.leaf_text()),
+        Some("1".into())
+    );
+    assert_eq!(tree.root().rightmost_leaf(), Some(last.clone()));
+    let nodes: HashSet<Node<'_>> = tree.root().preorder().chain(tree.root().preorder()).collect();
+    assert_eq!(nodes.len(), 5);
+    assert_eq!(tree.find_range(0..1)?, tree.at(&[0, 0]));
+    assert_eq!(
+        (tree.find_range(0..3)?, tree.find_range(1..3)?),
+        (Some(tree.root()), None)
+    );
+    assert_eq!(tree.range(last.span())?, Some(2..3));
+    let same = sum("1", "2")?.number(FileId::MIN, Span::FULL)?;
+    assert!(same.root() != tree.root() && same.root().spanless_eq(&tree.root()));
+    Ok(())
+}
+
+#[test]
+fn trees_go_to_other_threads_and_errors_become_those_of_any_program() {
+    fn goes<T: Send>() {}
+    goes::<Tree>();
+    goes::<Builder>();
+    goes::<Source>();
+    fn becomes<E: std::error::Error + Send + Sync + 'static>(error: E) -> Box<dyn std::error::Error + Send + Sync> {
+        Box::from(error)
+    }
+    assert_eq!(becomes(Error::Stack).to_string(), "there are too few nodes");
+    let refused = Builder::new().unwrap().number(FileId::MIN, Span::FULL).unwrap_err();
+    assert_eq!(becomes(refused).to_string(), "there are too few nodes");
+    let tree = sum("1", "2").unwrap().number(FileId::MIN, Span::FULL).unwrap();
+    let text = std::thread::spawn(move || tree.root().text()).join().unwrap();
+    assert_eq!(text.as_deref(), Ok("1+2"));
 }

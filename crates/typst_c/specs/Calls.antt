@@ -9,11 +9,12 @@ abbrev pub status_of : {X : Type 0} → Result X Refusal → ℕ
 status_of (Ok x) = 0
 status_of (Err refusal) = code_of refusal
 
--- a call that may change what a handle holds; if it holds nothing, the status is 1 and it still holds nothing
-abbrev pub Changes : (Session → Session → Type 0) → Option Session → ℕ → Option Session → Type 0
-Changes call None status new = (status ≡ 1) × (new ≡ None)
-Changes call (Some old) status None = ⊥
-Changes call (Some old) status (Some new) = call old new
+-- A call that may change what a handle holds. If it holds nothing, the status is 1, it still holds nothing, and what the
+-- call writes to is the same.
+abbrev pub Changes : Type 0 → (Session → Session → Type 0) → Option Session → ℕ → Option Session → Type 0
+Changes same call None status new = (status ≡ 1) × (new ≡ None) × same
+Changes same call (Some old) status None = ⊥
+Changes same call (Some old) status (Some new) = call old new
 
 -- a call on a session has an outcome with this status
 abbrev pub HasOutcome : (Session → Result (Unit {0}) Refusal → Session → Type 0) → ℕ → Session → Session → Type 0
@@ -21,9 +22,9 @@ HasOutcome call status old new = (outcome : Result (Unit {0}) Refusal) × (statu
 
 -- a call that returns only a status
 abbrev pub Does : (Session → Result (Unit {0}) Refusal → Session → Type 0) → Option Session → ℕ → Option Session → Type 0
-Does call old status new = Changes (HasOutcome call status) old status new
+Does call old status new = Changes (Unit {0}) (HasOutcome call status) old status new
 
--- a call that reads what a handle holds; if the handle holds nothing, the status is 1
-abbrev pub Reads : (Session → Type 0) → Option Session → ℕ → Type 0
-Reads call None status = status ≡ 1
-Reads call (Some s) status = call s
+-- A call that reads what a handle holds. If it holds nothing, the status is 1, and what the call writes to is the same.
+abbrev pub Reads : Type 0 → (Session → Type 0) → Option Session → ℕ → Type 0
+Reads same call None status = (status ≡ 1) × same
+Reads same call (Some s) status = call s

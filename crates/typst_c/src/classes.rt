@@ -21,7 +21,8 @@ pub extern "C" fn typst_child_of_class(
     child: &mut usize,
 ) -> u32
     ensures kept { IsSameHandle handle.old handle.new }
-    ensures read { Reads (λ s. (outcome : Result ℕ Refusal) × TellsNumber child.new result outcome
+    ensures read { Reads (child.new ≡ child.old) (λ s. (outcome : Result ℕ Refusal)
+        × TellsNumber child.old child.new result outcome
         × PicksChild path.now node_class index (is_from_end from_end) s outcome) handle.old.at.value result }
 {
     let Some(session) = handle.read() else {

@@ -18,7 +18,8 @@ pub extern "C" fn typst_spanless_eq_within(
     equal: &mut u32,
 ) -> u32
     ensures kept { IsSameHandle handle.old handle.new }
-    ensures read { Reads (λ s. (outcome : Result Bool Refusal) × TellsFlag equal.new result outcome
+    ensures read { Reads (equal.new ≡ equal.old) (λ s. (outcome : Result Bool Refusal)
+        × TellsFlag equal.old equal.new result outcome
         × Compares path.now s other_path.now s outcome) handle.old.at.value result }
 {
     let Some(session) = handle.read() else {
@@ -39,7 +40,9 @@ pub extern "C" fn typst_spanless_eq(
 ) -> u32
     ensures kept { IsSameHandle handle.old handle.new }
     ensures other_kept { IsSameHandle other.old other.new }
-    ensures read { Reads (λ s. Reads (λ o. (outcome : Result Bool Refusal) × TellsFlag equal.new result outcome
+    ensures read { Reads (equal.new ≡ equal.old) (λ s. Reads (equal.new ≡ equal.old)
+        (λ o. (outcome : Result Bool Refusal)
+        × TellsFlag equal.old equal.new result outcome
         × Compares path.now s other_path.now o outcome) other.old.at.value result) handle.old.at.value result }
 {
     let Some(session) = handle.read() else {

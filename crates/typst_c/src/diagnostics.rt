@@ -20,9 +20,11 @@ pub extern "C" fn typst_diagnostics(
     sizes: &mut DiagnosticSizes,
 ) -> u32
     ensures kept { IsSameHandle handle.old handle.new }
-    ensures read { Reads (λ s. (outcome : Result (Unit {0}) Refusal) × (result ≡ status_of outcome)
-        × ReadsDiagnostics s (record { list = out.old; texts = texts.old }) (record { list = out.new; texts = texts.new })
-        sizes.new outcome) handle.old.at.value result }
+    ensures read { Reads ((out.new ≡ out.old) × (texts.new ≡ texts.old) × (sizes.new ≡ sizes.old)) (λ s.
+        (outcome : Result (Unit {0}) Refusal)
+        × (result ≡ status_of outcome)
+        × ReadsDiagnostics s (record { list = out.old; texts = texts.old; sizes = sizes.old })
+        (record { list = out.new; texts = texts.new; sizes = sizes.new }) outcome) handle.old.at.value result }
 {
     let Some(session) = handle.read() else {
         return NOT_MADE;

@@ -3,8 +3,8 @@ ghost use Rattle.std.specs.Prelude.{Result};
 ghost use Rattle.typst_c.specs.Calls.{Changes, Does};
 ghost use Rattle.typst_c.specs.Told.{TellsEdit, range_from};
 ghost use Rattle.typst_session.specs.Documents.{Opens, EditsText};
+ghost use Rattle.typst_session.specs.declared.documents.TextChange.{TextChange};
 ghost use Rattle.typst_session.specs.declared.refusal.Refusal.{Refusal};
-ghost use Rattle.typst_source.specs.declared.edited.Edited.{Edited as Done};
 
 use crate::handle::Handle;
 use crate::told::{Edited, NOT_MADE, status, tell_edit};
@@ -33,7 +33,8 @@ pub extern "C" fn typst_edit(
     with: &[u8],
     edited: &mut Edited,
 ) -> u32
-    ensures { Changes (λ s t. (outcome : Result Done Refusal) × TellsEdit edited.new result outcome
+    ensures { Changes (edited.new ≡ edited.old) (λ s t. (outcome : Result TextChange Refusal)
+        × TellsEdit edited.old edited.new result outcome
         × EditsText (range_from from to) with.now s outcome t) handle.old.at.value result handle.new.at.value }
 {
     let Some(mut session) = handle.take(alloc) else {

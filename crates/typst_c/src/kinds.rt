@@ -13,7 +13,8 @@ use typst_session::kinds::{self, KindClasses};
 #[unsafe(no_mangle)]
 pub extern "C" fn typst_kind_name(kind: u32, out: &mut [u8], length: &mut Length) -> u32
     ensures { (outcome : Result (Unit {0}) Refusal) × (result ≡ status_of outcome)
-        × WritesName kind out.old out.new length.new.len outcome }
+        × WritesName kind (record { items = out.old; len = length.old.len })
+        (record { items = out.new; len = length.new.len }) outcome }
 {
     status(kinds::write_name(kind, out, &mut length.len))
 }
@@ -21,7 +22,8 @@ pub extern "C" fn typst_kind_name(kind: u32, out: &mut [u8], length: &mut Length
 /// The number of the kind with a name.
 #[unsafe(no_mangle)]
 pub extern "C" fn typst_kind_of_name(name: &[u8], kind: &mut u32) -> u32
-    ensures { (outcome : Result ℕ Refusal) × TellsNumber kind.new result outcome × NumbersName name.now outcome }
+    ensures { (outcome : Result ℕ Refusal)
+        × TellsNumber kind.old kind.new result outcome × NumbersName name.now outcome }
 {
     tell_number(kinds::kind_of_name(name), kind)
 }
@@ -29,7 +31,8 @@ pub extern "C" fn typst_kind_of_name(name: &[u8], kind: &mut u32) -> u32
 /// The classes of the kind with a number.
 #[unsafe(no_mangle)]
 pub extern "C" fn typst_kind_classes(kind: u32, classes: &mut KindClasses) -> u32
-    ensures { (outcome : Result Classes Refusal) × TellsClasses classes.new result outcome × ClassesOf kind outcome }
+    ensures { (outcome : Result Classes Refusal)
+        × TellsClasses classes.old classes.new result outcome × ClassesOf kind outcome }
 {
     tell_classes(kinds::classes(kind), classes)
 }
@@ -37,7 +40,8 @@ pub extern "C" fn typst_kind_classes(kind: u32, classes: &mut KindClasses) -> u3
 /// Whether the set with a number holds the kind with a number.
 #[unsafe(no_mangle)]
 pub extern "C" fn typst_kind_in_set(kind: u32, set: u32, held: &mut u32) -> u32
-    ensures { (outcome : Result Bool Refusal) × TellsFlag held.new result outcome × TellsHolding set kind outcome }
+    ensures { (outcome : Result Bool Refusal)
+        × TellsFlag held.old held.new result outcome × TellsHolding set kind outcome }
 {
     tell_flag(kinds::set_holds(set, kind), held)
 }

@@ -7,6 +7,7 @@
 
 mod at;
 pub mod building;
+pub mod changes;
 pub mod classes;
 pub mod comparing;
 pub mod diagnostics;

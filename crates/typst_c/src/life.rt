@@ -8,6 +8,17 @@ use crate::handle::Handle;
 use std::alloc::Global;
 use typst_session::{Refusal, Session};
 
+/// The version of the library: 10,000 times its first number, 100 times its second number and its third number.
+pub const VERSION: u32 = 200;
+
+/// The version of the library.
+#[unsafe(no_mangle)]
+pub extern "C" fn typst_version() -> u32
+    ensures { result ≡ 200 }
+{
+    VERSION
+}
+
 /// Frees what the handle holds, and makes an empty session in its place.
 #[unsafe(no_mangle)]
 pub extern "C" fn typst_new(alloc: Global, handle: &mut Handle) -> u32

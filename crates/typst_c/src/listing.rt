@@ -20,8 +20,11 @@ pub extern "C" fn typst_children(
     length: &mut Length,
 ) -> u32
     ensures kept { IsSameHandle handle.old handle.new }
-    ensures read { Reads (λ s. (outcome : Result (Unit {0}) Refusal) × (result ≡ status_of outcome)
-        × ReadsInfos (λ t. trees t.children) path.now s out.old out.new length.new.len outcome) handle.old.at.value result }
+    ensures read { Reads ((out.new ≡ out.old) × (length.new.len ≡ length.old.len)) (λ s.
+        (outcome : Result (Unit {0}) Refusal)
+        × (result ≡ status_of outcome)
+        × ReadsInfos (λ t. trees t.children) path.now s (record { items = out.old; len = length.old.len })
+        (record { items = out.new; len = length.new.len }) outcome) handle.old.at.value result }
 {
     let Some(session) = handle.read() else {
         return NOT_MADE;
@@ -39,8 +42,11 @@ pub extern "C" fn typst_preorder(
     length: &mut Length,
 ) -> u32
     ensures kept { IsSameHandle handle.old handle.new }
-    ensures read { Reads (λ s. (outcome : Result (Unit {0}) Refusal) × (result ≡ status_of outcome)
-        × ReadsInfos subtrees path.now s out.old out.new length.new.len outcome) handle.old.at.value result }
+    ensures read { Reads ((out.new ≡ out.old) × (length.new.len ≡ length.old.len)) (λ s.
+        (outcome : Result (Unit {0}) Refusal)
+        × (result ≡ status_of outcome)
+        × ReadsInfos subtrees path.now s (record { items = out.old; len = length.old.len })
+        (record { items = out.new; len = length.new.len }) outcome) handle.old.at.value result }
 {
     let Some(session) = handle.read() else {
         return NOT_MADE;

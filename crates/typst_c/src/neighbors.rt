@@ -22,7 +22,8 @@ pub extern "C" fn typst_range_of(
     range: &mut ByteRange,
 ) -> u32
     ensures kept { IsSameHandle handle.old handle.new }
-    ensures read { Reads (λ s. (outcome : Result (Interval ℕ) Refusal) × TellsRange range.new result outcome
+    ensures read { Reads (range.new ≡ range.old) (λ s. (outcome : Result (Interval ℕ) Refusal)
+        × TellsRange range.old range.new result outcome
         × ReadsRange path.now s outcome) handle.old.at.value result }
 {
     let Some(session) = handle.read() else {
@@ -56,8 +57,8 @@ pub extern "C" fn typst_neighbor(
     place: &mut Place,
 ) -> u32
     ensures kept { IsSameHandle handle.old handle.new }
-    ensures read { Reads (λ s. (outcome : Result Found Refusal)
-        × TellsPlace found.old found.new place.new result outcome
+    ensures read { Reads ((found.new ≡ found.old) × (place.new ≡ place.old)) (λ s. (outcome : Result Found Refusal)
+        × TellsPlace found.old found.new place.old place.new result outcome
         × FindsNeighbor (neighbor_from which) path.now s outcome) handle.old.at.value result }
 {
     let Some(session) = handle.read() else {

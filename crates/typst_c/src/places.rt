@@ -1,14 +1,15 @@
 //! Lines and columns of the text of the document that a handle holds.
 ghost use Rattle.std.specs.Prelude.{ℕ, ◌≡◌, Result};
-ghost use Rattle.typst_c.specs.Calls.{Reads};
+ghost use Rattle.std.specs.declared.ops.Range.{Range as Interval};
+ghost use Rattle.typst_c.specs.Calls.{Reads, status_of};
 ghost use Rattle.typst_c.specs.Lending.{IsSameHandle};
-ghost use Rattle.typst_c.specs.Told.{TellsLineColumn, TellsNumber, unit_of};
-ghost use Rattle.typst_session.specs.Places.{CountsLines, FindsByte, PlacesByte};
+ghost use Rattle.typst_c.specs.Told.{TellsLineColumn, TellsNumber, TellsRange, range_from, unit_of};
+ghost use Rattle.typst_session.specs.Places.{CountsLines, FindsByte, FindsLine, PlacesByte, WritesPart};
 ghost use Rattle.typst_session.specs.declared.places.LineColumn.{LineColumn as Place};
 ghost use Rattle.typst_session.specs.declared.refusal.Refusal.{Refusal};
 
 use crate::handle::Handle;
-use crate::told::{NOT_MADE, tell_line_column, tell_size};
+use crate::told::{ByteRange, Length, NOT_MADE, status, tell_line_column, tell_range, tell_size};
 use typst_lines::ColumnUnit;
 use typst_session::LineColumn;
 
@@ -16,7 +17,8 @@ use typst_session::LineColumn;
 #[unsafe(no_mangle)]
 pub extern "C" fn typst_len_lines(handle: &mut Handle, count: &mut usize) -> u32
     ensures kept { IsSameHandle handle.old handle.new }
-    ensures read { Reads (λ s. (outcome : Result ℕ Refusal) × TellsNumber count.new result outcome
+    ensures read { Reads (count.new ≡ count.old) (λ s. (outcome : Result ℕ Refusal)
+        × TellsNumber count.old count.new result outcome
         × CountsLines s outcome) handle.old.at.value result }
 {
     let Some(session) = handle.read() else {
@@ -46,7 +48,8 @@ pub extern "C" fn typst_byte_to_line_column(
     place: &mut LineColumn,
 ) -> u32
     ensures kept { IsSameHandle handle.old handle.new }
-    ensures read { Reads (λ s. (outcome : Result Place Refusal) × TellsLineColumn place.new result outcome
+    ensures read { Reads (place.new ≡ place.old) (λ s. (outcome : Result Place Refusal)
+        × TellsLineColumn place.old place.new result outcome
         × PlacesByte (unit_of unit) byte s outcome) handle.old.at.value result }
 {
     let Some(session) = handle.read() else {
@@ -54,6 +57,47 @@ pub extern "C" fn typst_byte_to_line_column(
     };
     let outcome = session.byte_to_line_column(byte, unit_from(unit));
     tell_line_column(outcome, place)
+}
+
+/// The bytes of a line of the document's text, with its line end.
+#[unsafe(no_mangle)]
+pub extern "C" fn typst_line_to_range(
+    handle: &mut Handle,
+    line: usize,
+    range: &mut ByteRange,
+) -> u32
+    ensures kept { IsSameHandle handle.old handle.new }
+    ensures read { Reads (range.new ≡ range.old) (λ s. (outcome : Result (Interval ℕ) Refusal)
+        × TellsRange range.old range.new result outcome
+        × FindsLine line s outcome) handle.old.at.value result }
+{
+    let Some(session) = handle.read() else {
+        return NOT_MADE;
+    };
+    let outcome = session.line_to_range(line);
+    tell_range(outcome, range)
+}
+
+/// Writes the bytes of the document's text from `from` up to, not including, `to`.
+#[unsafe(no_mangle)]
+pub extern "C" fn typst_text(
+    handle: &mut Handle,
+    from: usize,
+    to: usize,
+    out: &mut [u8],
+    length: &mut Length,
+) -> u32
+    ensures kept { IsSameHandle handle.old handle.new }
+    ensures read { Reads ((out.new ≡ out.old) × (length.new.len ≡ length.old.len)) (λ s.
+        (outcome : Result (Unit {0}) Refusal) × (result ≡ status_of outcome)
+        × WritesPart (range_from from to) s (record { items = out.old; len = length.old.len })
+        (record { items = out.new; len = length.new.len }) outcome) handle.old.at.value result }
+{
+    let Some(session) = handle.read() else {
+        return NOT_MADE;
+    };
+    let outcome = session.text_in(from..to, out, &mut length.len);
+    status(outcome)
 }
 
 /// The byte of the document's text at a line and a column.
@@ -66,7 +110,8 @@ pub extern "C" fn typst_line_column_to_byte(
     byte: &mut usize,
 ) -> u32
     ensures kept { IsSameHandle handle.old handle.new }
-    ensures read { Reads (λ s. (outcome : Result ℕ Refusal) × TellsNumber byte.new result outcome
+    ensures read { Reads (byte.new ≡ byte.old) (λ s. (outcome : Result ℕ Refusal)
+        × TellsNumber byte.old byte.new result outcome
         × FindsByte (unit_of unit) line column s outcome) handle.old.at.value result }
 {
     let Some(session) = handle.read() else {

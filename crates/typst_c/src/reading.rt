@@ -18,7 +18,8 @@ use typst_session::NodeInfo;
 #[unsafe(no_mangle)]
 pub extern "C" fn typst_node(handle: &mut Handle, path: &[usize], info: &mut NodeInfo) -> u32
     ensures kept { IsSameHandle handle.old handle.new }
-    ensures read { Reads (λ s. (outcome : Result Info Refusal) × TellsInfo info.new result outcome
+    ensures read { Reads (info.new ≡ info.old) (λ s. (outcome : Result Info Refusal)
+        × TellsInfo info.old info.new result outcome
         × ReadsInfo path.now s outcome) handle.old.at.value result }
 {
     let Some(session) = handle.read() else {
@@ -37,8 +38,11 @@ pub extern "C" fn typst_leaf_text(
     length: &mut Length,
 ) -> u32
     ensures kept { IsSameHandle handle.old handle.new }
-    ensures read { Reads (λ s. (outcome : Result (Unit {0}) Refusal) × (result ≡ status_of outcome)
-        × WritesOf (λ t. own_text t.label) path.now s out.old out.new length.new.len outcome) handle.old.at.value result }
+    ensures read { Reads ((out.new ≡ out.old) × (length.new.len ≡ length.old.len)) (λ s.
+        (outcome : Result (Unit {0}) Refusal)
+        × (result ≡ status_of outcome)
+        × WritesOf (λ t. own_text t.label) path.now s (record { items = out.old; len = length.old.len })
+        (record { items = out.new; len = length.new.len }) outcome) handle.old.at.value result }
 {
     let Some(session) = handle.read() else {
         return NOT_MADE;
@@ -57,8 +61,11 @@ pub extern "C" fn typst_full_text(
     length: &mut Length,
 ) -> u32
     ensures kept { IsSameHandle handle.old handle.new }
-    ensures read { Reads (λ s. (outcome : Result (Unit {0}) Refusal) × (result ≡ status_of outcome)
-        × WritesOf text path.now s out.old out.new length.new.len outcome) handle.old.at.value result }
+    ensures read { Reads ((out.new ≡ out.old) × (length.new.len ≡ length.old.len)) (λ s.
+        (outcome : Result (Unit {0}) Refusal)
+        × (result ≡ status_of outcome)
+        × WritesOf text path.now s (record { items = out.old; len = length.old.len })
+        (record { items = out.new; len = length.new.len }) outcome) handle.old.at.value result }
 {
     let Some(session) = handle.read() else {
         return NOT_MADE;

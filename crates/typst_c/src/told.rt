@@ -2,13 +2,13 @@
 ghost use Rattle.std.specs.Prelude.{◌≡◌};
 ghost use Rattle.typst_session.specs.Texts.{Writes};
 ghost use Rattle.typst_c.specs.Calls.{status_of};
-ghost use Rattle.typst_c.specs.Told.{IsWindow, TellsClasses, TellsEdit, TellsFlag, TellsInfo, TellsLineColumn, TellsNumber, TellsPlace, TellsRange, TellsWindow};
+ghost use Rattle.typst_c.specs.Told.{IsChange, IsTouched, IsUpdate, IsWindow, TellsChange, TellsClasses, TellsEdit, TellsFlag, TellsInfo, TellsLineColumn, TellsNumber, TellsPlace, TellsRange, TellsUpdate, TellsWindow};
 
 use std::ops::Range;
+use typst_node::Touched;
 use typst_session::finding::Found;
 use typst_session::kinds::KindClasses;
-use typst_session::{LineColumn, NodeInfo, Refusal};
-use typst_source::Edited as SourceEdited;
+use typst_session::{Change as TreeChange, LineColumn, NodeInfo, Refusal, TextChange};
 use typst_tree::Renumbered;
 
 /// The status of a handle that holds nothing.
@@ -26,6 +26,18 @@ pub struct Window {
     pub tried: usize,
 }
 
+/// What an edit changed of a tree: children of one node, or the root itself.
+#[repr(C)]
+#[derive(Clone, Copy, Drop)]
+pub struct Change {
+    /// The number of child indices in the path to that node.
+    pub depth: usize,
+    /// Which of its children were numbered anew.
+    pub window: Window,
+    /// 1 if the root itself was changed, else 0.
+    pub root: u32,
+}
+
 /// What an edit of a text did.
 #[repr(C)]
 #[derive(Clone, Copy, Drop)]
@@ -34,8 +46,8 @@ pub struct Edited {
     pub start: usize,
     /// Where they end.
     pub end: usize,
-    /// The children of the root that were numbered anew.
-    pub window: Window,
+    /// What was changed of the tree.
+    pub change: Change,
 }
 
 /// Where a node was found.
@@ -78,7 +90,7 @@ pub(crate) fn status(outcome: Result<(), Refusal>) -> u32
 
 /// Tells an info.
 pub(crate) fn tell_info(outcome: Result<NodeInfo, Refusal>, told: &mut NodeInfo) -> u32
-    ensures { TellsInfo told.new result outcome }
+    ensures { TellsInfo told.old told.new result outcome }
 {
     match outcome {
         Ok(info) => {
@@ -89,9 +101,22 @@ pub(crate) fn tell_info(outcome: Result<NodeInfo, Refusal>, told: &mut NodeInfo)
     }
 }
 
-/// Tells a number.
+/// Tells the number that a node has now.
+pub(crate) fn tell_node_number(outcome: Result<u64, Refusal>, told: &mut u64) -> u32
+    ensures { TellsNumber told.old told.new result outcome }
+{
+    match outcome {
+        Ok(number) => {
+            *told = number;
+            0
+        }
+        Err(refusal) => refusal.code(),
+    }
+}
+
+/// Tells the number of a kind.
 pub(crate) fn tell_number(outcome: Result<u32, Refusal>, told: &mut u32) -> u32
-    ensures { TellsNumber told.new result outcome }
+    ensures { TellsNumber told.old told.new result outcome }
 {
     match outcome {
         Ok(number) => {
@@ -104,7 +129,7 @@ pub(crate) fn tell_number(outcome: Result<u32, Refusal>, told: &mut u32) -> u32
 
 /// Tells a length, a count or a place in a text.
 pub(crate) fn tell_size(outcome: Result<usize, Refusal>, told: &mut usize) -> u32
-    ensures { TellsNumber told.new result outcome }
+    ensures { TellsNumber told.old told.new result outcome }
 {
     match outcome {
         Ok(size) => {
@@ -117,7 +142,7 @@ pub(crate) fn tell_size(outcome: Result<usize, Refusal>, told: &mut usize) -> u3
 
 /// Tells a line and a column.
 pub(crate) fn tell_line_column(outcome: Result<LineColumn, Refusal>, told: &mut LineColumn) -> u32
-    ensures { TellsLineColumn told.new result outcome }
+    ensures { TellsLineColumn told.old told.new result outcome }
 {
     match outcome {
         Ok(place) => {
@@ -130,7 +155,7 @@ pub(crate) fn tell_line_column(outcome: Result<LineColumn, Refusal>, told: &mut 
 
 /// Tells whether something holds, as 1 or 0.
 pub(crate) fn tell_flag(outcome: Result<bool, Refusal>, told: &mut u32) -> u32
-    ensures { TellsFlag told.new result outcome }
+    ensures { TellsFlag told.old told.new result outcome }
 {
     match outcome {
         Ok(flag) => {
@@ -143,7 +168,7 @@ pub(crate) fn tell_flag(outcome: Result<bool, Refusal>, told: &mut u32) -> u32
 
 /// Tells classes.
 pub(crate) fn tell_classes(outcome: Result<KindClasses, Refusal>, told: &mut KindClasses) -> u32
-    ensures { TellsClasses told.new result outcome }
+    ensures { TellsClasses told.old told.new result outcome }
 {
     match outcome {
         Ok(classes) => {
@@ -156,7 +181,7 @@ pub(crate) fn tell_classes(outcome: Result<KindClasses, Refusal>, told: &mut Kin
 
 /// Tells a range of bytes.
 pub(crate) fn tell_range(outcome: Result<Range<usize>, Refusal>, told: &mut ByteRange) -> u32
-    ensures { TellsRange told.new result outcome }
+    ensures { TellsRange told.old told.new result outcome }
 {
     match outcome {
         Ok(range) => {
@@ -183,7 +208,7 @@ fn window_of(done: &Renumbered) -> Window
 
 /// Tells a window.
 pub(crate) fn tell_window(outcome: Result<Renumbered, Refusal>, told: &mut Window) -> u32
-    ensures { TellsWindow told.new result outcome }
+    ensures { TellsWindow told.old told.new result outcome }
 {
     match outcome {
         Ok(done) => {
@@ -194,16 +219,85 @@ pub(crate) fn tell_window(outcome: Result<Renumbered, Refusal>, told: &mut Windo
     }
 }
 
-/// Tells what an edit did.
-pub(crate) fn tell_edit(outcome: Result<SourceEdited, Refusal>, told: &mut Edited) -> u32
-    ensures { TellsEdit told.new result outcome }
+/// The window of an edit. If a leaf or an error went on, it is empty.
+fn window_touched(touched: &Touched) -> Window
+    ensures { IsTouched touched.now result }
+{
+    match touched {
+        Touched::Leaf { index } => Window {
+            start: *index,
+            end: *index,
+            tried: 0,
+        },
+        Touched::Window(done) => window_of(done),
+    }
+}
+
+/// What an edit changed below the root or at it.
+fn change_of(done: &TreeChange) -> Change
+    ensures { IsChange done.now result }
+{
+    Change {
+        depth: done.depth,
+        window: window_touched(&done.touched),
+        root: 0,
+    }
+}
+
+/// What an update changed.
+fn update_of(done: &Option<TreeChange>) -> Change
+    ensures { IsUpdate done.now result }
+{
+    match done {
+        Some(done) => change_of(done),
+        None => Change {
+            depth: 0,
+            window: Window {
+                start: 0,
+                end: 0,
+                tried: 0,
+            },
+            root: 1,
+        },
+    }
+}
+
+/// Tells what an edit of the tree changed.
+pub(crate) fn tell_change(outcome: Result<TreeChange, Refusal>, told: &mut Change) -> u32
+    ensures { TellsChange told.old told.new result outcome }
+{
+    match outcome {
+        Ok(done) => {
+            *told = change_of(&done);
+            0
+        }
+        Err(refusal) => refusal.code(),
+    }
+}
+
+/// Tells what an update of the tree changed.
+pub(crate) fn tell_update(outcome: Result<Option<TreeChange>, Refusal>, told: &mut Change) -> u32
+    ensures { TellsUpdate told.old told.new result outcome }
+{
+    match outcome {
+        Ok(done) => {
+            *told = update_of(&done);
+            0
+        }
+        Err(refusal) => refusal.code(),
+    }
+}
+
+/// Tells what an edit of a text did.
+pub(crate) fn tell_edit(outcome: Result<TextChange, Refusal>, told: &mut Edited) -> u32
+    ensures { TellsEdit told.old told.new result outcome }
 {
     match outcome {
         Ok(done) => {
             *told = Edited {
                 start: done.reparsed.start,
                 end: done.reparsed.end,
-                window: window_of(&done.renumbered),
+                change: change_of(&done.change),
             };
             0
         }
@@ -213,7 +307,8 @@ pub(crate) fn tell_edit(outcome: Result<SourceEdited, Refusal>, told: &mut Edite
 
 /// Writes a path into a buffer if it has room for it, and tells in any case how long it is.
 fn write_path(path: &[usize], out: &mut [usize], len: &mut usize) -> Result<(), Refusal>
-    ensures { Writes path.now out.old out.new len.new result }
+    ensures { Writes path.now (record { items = out.old; len = len.old }) (record { items = out.new; len = len.new })
+        result }
 {
     *len = path.len();
     if out.len() < path.len() {
@@ -229,7 +324,7 @@ pub(crate) fn tell_place(
     out: &mut [usize],
     told: &mut Place,
 ) -> u32
-    ensures { TellsPlace out.old out.new told.new result outcome }
+    ensures { TellsPlace out.old out.new told.old told.new result outcome }
 {
     match outcome {
         Ok(found) => {

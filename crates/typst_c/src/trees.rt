@@ -74,7 +74,8 @@ pub extern "C" fn typst_replace(
     count: usize,
     window: &mut Window,
 ) -> u32
-    ensures { Changes (λ s t. (outcome : Result Done Refusal) × TellsWindow window.new result outcome
+    ensures { Changes (window.new ≡ window.old) (λ s t. (outcome : Result Done Refusal)
+        × TellsWindow window.old window.new result outcome
         × Replaces path.now from to count s outcome t) handle.old.at.value result handle.new.at.value }
 {
     let Some(mut session) = handle.take(alloc) else {

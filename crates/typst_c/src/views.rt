@@ -22,7 +22,8 @@ pub extern "C" fn typst_view(
     answer: &mut ViewAnswer,
 ) -> u32
     ensures kept { IsSameHandle handle.old handle.new }
-    ensures read { Reads (λ s. (outcome : Result (Unit {0}) Refusal) × (result ≡ status_of outcome)
+    ensures read { Reads ((out.new ≡ out.old) × (answer.new ≡ answer.old)) (λ s. (outcome : Result (Unit {0}) Refusal)
+        × (result ≡ status_of outcome)
         × ReadsView path.now (record { accessor = accessor; index = index }) s
         (record { bytes = out.old; answer = answer.old }) (record { bytes = out.new; answer = answer.new }) outcome)
         handle.old.at.value result }

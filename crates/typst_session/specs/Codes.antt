@@ -1,12 +1,13 @@
 -- The codes of refusals, and the refusals for the errors of other crates.
 use Rattle.std.specs.Prelude.{ℕ}
+use Rattle.typst_node.specs.declared.node.replace.ReplaceError.{ReplaceError}
 use Rattle.typst_node.specs.declared.node.replace.ReplaceError.TheVariants as replace
 use Rattle.typst_source.specs.declared.error.SourceError.{SourceError}
 use Rattle.typst_source.specs.declared.error.SourceError.TheVariants as source
 use Rattle.typst_tree.specs.declared.edit.EditError.{EditError}
 use Rattle.typst_tree.specs.declared.edit.EditError.TheVariants as edit
 use Rattle.typst_session.specs.declared.refusal.Refusal.{Refusal}
-use Rattle.typst_session.specs.declared.refusal.Refusal.TheVariants.{Memory, Kind, Text, Stack, Size, NoTree, IsDocument, NoDocument, File, Numbers, Unnumberable, NoNode, Leaf, Range, NotFound, Buffer, NoHints, Set, NoPlace, Accessor}
+use Rattle.typst_session.specs.declared.refusal.Refusal.TheVariants.{Memory, Kind, Text, Stack, Size, NoTree, IsDocument, NoDocument, File, Numbers, Unnumberable, NoNode, Leaf, Range, NotFound, Buffer, NoHints, Set, NoPlace, Accessor, NoEdit}
 
 -- the code of a refusal; 0 says that a call was done, and 1 that a handle holds nothing
 abbrev pub code_of : Refusal → ℕ
@@ -30,6 +31,7 @@ code_of NoHints = 18
 code_of Set = 19
 code_of NoPlace = 20
 code_of Accessor = 21
+code_of NoEdit = 22
 
 -- the refusal for an error of an edit of a tree
 abbrev pub of_edit : EditError → Refusal
@@ -39,6 +41,12 @@ of_edit (edit.Range start end children) = Range
 of_edit (edit.Refused replace.Unnumberable) = Unnumberable
 of_edit (edit.Refused replace.Overflow) = Size
 of_edit (edit.Refused replace.Memory) = Memory
+
+-- the refusal for an error of an update of a whole tree
+abbrev pub of_update : ReplaceError → Refusal
+of_update replace.Unnumberable = Unnumberable
+of_update replace.Overflow = Size
+of_update replace.Memory = Memory
 
 -- the refusal for an error of a text, or of an edit of a text
 abbrev pub of_source : SourceError → Refusal

@@ -17,11 +17,11 @@ use Rattle.typst_session.specs.declared.session.Session.{Session}
 use Rattle.typst_session.specs.declared.refusal.Refusal.{Refusal}
 use Rattle.typst_session.specs.declared.refusal.Refusal.TheVariants.{Buffer, Memory, NoTree}
 
--- the number of a severity
+-- the number of a severity, which no status has
 abbrev pub severity_number : Severity → ℕ
-severity_number Error = 0
-severity_number Warning = 1
-severity_number Hint = 2
+severity_number Error = 301
+severity_number Warning = 302
+severity_number Hint = 303
 
 -- the number of the node that something is about, or 1 if there is none
 abbrev pub node_number : DiagSpanKind → ℕ
@@ -58,28 +58,30 @@ diagnostic_of t remark = record {
 abbrev pub diagnostics_of : Tree → List Diagnostic
 diagnostics_of t = map (diagnostic_of t) (remarks t)
 
--- the contents of two buffers: diagnostics, and their texts
+-- what a call writes to: a buffer for diagnostics, one for their texts, and how long both lists are
 pub record Buffers : Type 0 where
   pub list : List Diagnostic
   pub texts : List ℕ
+  pub sizes : DiagnosticSizes
 
 -- a tree's remarks are written, and so are their texts
-pub record AreDiagnosed (old new : Buffers) (sizes : DiagnosticSizes) (t : Tree) : Type 0 where
-  pub list : IsWritten (diagnostics_of t) old.list new.list sizes.count
-  pub texts : IsWritten (texts_of (remarks t)) old.texts new.texts sizes.len
+pub record AreDiagnosed (old new : Buffers) (t : Tree) : Type 0 where
+  pub list : IsWritten (diagnostics_of t) old.list new.list new.sizes.count
+  pub texts : IsWritten (texts_of (remarks t)) old.texts new.texts new.sizes.len
 
 -- a buffer is too short for a tree's remarks or for their texts; their number and the length of their texts are told,
 -- and both buffers stay as they were
-pub record LacksRoom (old new : Buffers) (sizes : DiagnosticSizes) (t : Tree) : Type 0 where
-  pub count : sizes.count ≡ length (diagnostics_of t)
-  pub len : sizes.len ≡ length (texts_of (remarks t))
-  pub short : (length old.list < sizes.count) ⊎ (length old.texts < sizes.len)
-  pub same : new ≡ old
+pub record LacksRoom (old new : Buffers) (t : Tree) : Type 0 where
+  pub count : new.sizes.count ≡ length (diagnostics_of t)
+  pub len : new.sizes.len ≡ length (texts_of (remarks t))
+  pub short : (length old.list < new.sizes.count) ⊎ (length old.texts < new.sizes.len)
+  pub same_list : new.list ≡ old.list
+  pub same_texts : new.texts ≡ old.texts
 
 -- the remarks of the tree that is held and their texts are written into two buffers, or why not
-abbrev pub ReadsDiagnostics : Session → Buffers → Buffers → DiagnosticSizes → Result (Unit {0}) Refusal → Type 0
-ReadsDiagnostics s old new sizes (Ok done) = IsSomeAnd (root_of s.held) (AreDiagnosed old new sizes)
-ReadsDiagnostics s old new sizes (Err Buffer) = IsSomeAnd (root_of s.held) (LacksRoom old new sizes)
-ReadsDiagnostics s old new sizes (Err NoTree) = (root_of s.held ≡ None) × (new ≡ old)
-ReadsDiagnostics s old new sizes (Err Memory) = new ≡ old
-ReadsDiagnostics s old new sizes (Err _) = ⊥
+abbrev pub ReadsDiagnostics : Session → Buffers → Buffers → Result (Unit {0}) Refusal → Type 0
+ReadsDiagnostics s old new (Ok done) = IsSomeAnd (root_of s.held) (AreDiagnosed old new)
+ReadsDiagnostics s old new (Err Buffer) = IsSomeAnd (root_of s.held) (LacksRoom old new)
+ReadsDiagnostics s old new (Err NoTree) = (root_of s.held ≡ None) × (new ≡ old)
+ReadsDiagnostics s old new (Err Memory) = new ≡ old
+ReadsDiagnostics s old new (Err _) = ⊥

@@ -1,5 +1,5 @@
 -- What calls on documents do.
-use Rattle.std.specs.Prelude.{ℕ, ◌≡◌, ◌≢◌, ◌≤◌, ◌^◌, List, IsUtf8, Result, Ok, Err}
+use Rattle.std.specs.Prelude.{ℕ, ◌≡◌, ◌≢◌, ◌≤◌, ◌^◌, List, None, Some, IsUtf8, Result, Ok, Err}
 use Rattle.std.specs.List.{replace_range}
 use Rattle.std.specs.declared.ops.Range.{Range as Interval}
 use Rattle.typst_node.specs.Tree.{Tree}
@@ -15,7 +15,9 @@ use Rattle.typst_source.specs.declared.edited.Edited.{Edited}
 use Rattle.typst_source.specs.declared.error.SourceError.{SourceError}
 use Rattle.typst_source.specs.declared.error.SourceError.TheVariants as source_error
 use Rattle.typst_markup.specs.Block.{first}
+use Rattle.typst_session.specs.Changes.{IsChange}
 use Rattle.typst_session.specs.Sessions.{IsKept, Holds}
+use Rattle.typst_session.specs.declared.documents.TextChange.{TextChange}
 use Rattle.typst_session.specs.declared.session.Session.{Session}
 use Rattle.typst_session.specs.declared.session.Held.TheVariants as held
 use Rattle.typst_session.specs.declared.refusal.Refusal.{Refusal}
@@ -42,7 +44,7 @@ pub record IsOpened (file : ℕ) (source : List ℕ) (old new : Session) : Type 
   pub utf8 : IsUtf8 source
   pub tree : Tree
   pub document_is : IsDocumentOf file source tree
-  pub holds : Holds old.stack.items (held.Document tree) new
+  pub holds : Holds old.stack.items (held.Document tree) None new
 
 -- a text becomes the document that is held, or why not
 abbrev pub Opens : ℕ → List ℕ → Session → Result (Unit {0}) Refusal → Session → Type 0
@@ -54,14 +56,18 @@ Opens file source old (Err Size) new = IsTooLarge first source × IsKept old new
 Opens file source old (Err Memory) new = IsKept old new
 Opens file source old (Err _) new = ⊥
 
--- the text of the document that is held was edited
-pub record IsEditedText (range : Interval ℕ) (with : List ℕ) (old : Session) (done : Edited) (new : Session) : Type 0 where
+-- The text of the document that is held was edited. Which bytes were parsed and what the edit changed is told, and its
+-- moves are kept.
+pub record IsEditedText (range : Interval ℕ) (with : List ℕ) (old : Session) (told : TextChange) (new : Session) : Type 0 where
   pub utf8 : IsUtf8 with
   pub tree : Tree
   pub after : Tree
+  pub done : Edited
   pub was : old.held ≡ held.Document tree
   pub edited : IsEdited first tree range with done after
-  pub holds : Holds old.stack.items (held.Document after) new
+  pub reparsed : told.reparsed ≡ done.reparsed
+  pub change : IsChange done.path.items done.touched told.change
+  pub holds : Holds old.stack.items (held.Document after) (Some done.moves) new
 
 -- why the text of a document isn't edited
 abbrev pub WhyNotEdited : Interval ℕ → List ℕ → Tree → Refusal → Type 0
@@ -73,8 +79,8 @@ WhyNotEdited range with tree Memory = Unit {0}
 WhyNotEdited range with tree _ = ⊥
 
 -- another text replaces a range of bytes of the document's text, or why not
-abbrev pub EditsText : Interval ℕ → List ℕ → Session → Result Edited Refusal → Session → Type 0
-EditsText range with old (Ok done) new = IsEditedText range with old done new
+abbrev pub EditsText : Interval ℕ → List ℕ → Session → Result TextChange Refusal → Session → Type 0
+EditsText range with old (Ok told) new = IsEditedText range with old told new
 EditsText range with old (Err NoDocument) new = HoldsNoDocument old × IsKept old new
 EditsText range with old (Err refusal) new =
     (tree : Tree) × (old.held ≡ held.Document tree) × WhyNotEdited range with tree refusal × IsKept old new

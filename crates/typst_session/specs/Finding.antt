@@ -5,6 +5,7 @@ use Rattle.typst_node.specs.Text.{offset}
 use Rattle.typst_linked.specs.Place.{Place}
 use Rattle.typst_linked.specs.Finds.{HasNumberBelow}
 use Rattle.typst_linked.specs.LeafAt.{leaf_place}
+use Rattle.typst_linked.specs.Ranges.{FindsRange}
 use Rattle.typst_linked.specs.Search.{with_number, found_below}
 use Rattle.typst_linked.specs.declared.cursor.Side.{Side}
 use Rattle.typst_session.specs.Sessions.{root_of}
@@ -33,6 +34,19 @@ Finds number s (Err NoTree) = root_of s.held ≡ None
 Finds number s (Err NotFound) = IsSomeAnd (root_of s.held) (HasNoNumber number)
 Finds number s (Err Memory) = Unit {0}
 Finds number s (Err _) = ⊥
+
+-- the node with a range of bytes is at the path that was found, and its text begins at the offset that was found
+pub record IsAtRange (start end : ℕ) (root : Tree) (found : Found) : Type 0 where
+  pub node : FindsRange start end (place_in root []) (Some (place_in root found.path.items))
+  pub begin : found.offset ≡ offset found.path.items root
+
+-- where the node with a range of bytes is, or why there is none
+abbrev pub FindsByRange : ℕ → ℕ → Session → Result Found Refusal → Type 0
+FindsByRange start end s (Ok found) = IsSomeAnd (root_of s.held) (λ root. IsAtRange start end root found)
+FindsByRange start end s (Err NoTree) = root_of s.held ≡ None
+FindsByRange start end s (Err NotFound) = IsSomeAnd (root_of s.held) (λ root. FindsRange start end (place_in root []) None)
+FindsByRange start end s (Err Memory) = Unit {0}
+FindsByRange start end s (Err _) = ⊥
 
 -- the leaf at a cursor is at the path that was found, and its text begins at the offset that was found
 pub record IsLeafAt (side : Side) (cursor : ℕ) (root : Tree) (found : Found) : Type 0 where

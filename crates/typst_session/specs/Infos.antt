@@ -3,6 +3,7 @@ use Rattle.std.specs.Prelude.{ℕ, ◌≡◌, ◌<◌, List, length, take, drop,
 use Rattle.std.specs.List.{AllZip}
 use Rattle.typst_node.specs.Tree.{Tree}
 use Rattle.typst_session.specs.Reading.{IsInfo, IsNoNode, OfNode}
+use Rattle.typst_session.specs.Texts.{Output}
 use Rattle.typst_session.specs.declared.session.Session.{Session}
 use Rattle.typst_session.specs.declared.info.NodeInfo.{NodeInfo}
 use Rattle.typst_session.specs.declared.refusal.Refusal.{Refusal}
@@ -25,7 +26,7 @@ pub record AreTooMany (trees : List Tree) (old new : List NodeInfo) (len : ℕ) 
   pub same : new ≡ old
 
 -- the infos of the trees that a list takes from the node at a path are written into a buffer, or why not
-abbrev pub ReadsInfos : (Tree → List Tree) → List ℕ → Session → List NodeInfo → List NodeInfo → ℕ → Result (Unit {0}) Refusal → Type 0
-ReadsInfos list path s old new len (Ok done) = OfNode (λ t. AreTold (list t) old new len) path s
-ReadsInfos list path s old new len (Err Buffer) = OfNode (λ t. AreTooMany (list t) old new len) path s
-ReadsInfos list path s old new len (Err refusal) = IsNoNode path s refusal × (new ≡ old)
+abbrev pub ReadsInfos : (Tree → List Tree) → List ℕ → Session → Output NodeInfo → Output NodeInfo → Result (Unit {0}) Refusal → Type 0
+ReadsInfos list path s old new (Ok done) = OfNode (λ t. AreTold (list t) old.items new.items new.len) path s
+ReadsInfos list path s old new (Err Buffer) = OfNode (λ t. AreTooMany (list t) old.items new.items new.len) path s
+ReadsInfos list path s old new (Err refusal) = IsNoNode path s refusal × (new ≡ old)

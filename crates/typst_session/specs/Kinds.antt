@@ -1,11 +1,12 @@
 -- What calls tell about a kind, by its number or its name.
-use Rattle.std.specs.Prelude.{ℕ, ◌≡◌, ◌↔◌, Bool, List, IsTrue, Result, Ok, Err}
+use Rattle.std.specs.Prelude.{ℕ, ◌≡◌, Bool, List, IsTrue, Result, Ok, Err}
 use Rattle.typst_base.specs.KindClasses.{is_block_kind, is_grouping_kind, is_keyword_kind, is_stmt_kind, is_terminator_kind, is_trivia_kind}
 use Rattle.typst_base.specs.KindName.{name_of}
 use Rattle.typst_base.specs.KindNumber.{number_of}
 use Rattle.typst_base.specs.NamedSets.{arg_set, array_or_dict_item_set, atomic_code_expr_set, binary_op_set, code_expr_set, destructuring_item_set, math_expr_set, param_set, pattern_leaf_set, pattern_set, stmt_set, unary_op_set}
 use Rattle.typst_base.specs.declared.kind.SyntaxKind.{SyntaxKind}
-use Rattle.typst_session.specs.Texts.{IsWritten, IsTooShort}
+use Rattle.typst_session.specs.Flags.{IsFlag}
+use Rattle.typst_session.specs.Texts.{Output, IsWritten, IsTooShort}
 use Rattle.typst_session.specs.declared.kinds.KindClasses.{KindClasses}
 use Rattle.typst_session.specs.declared.kinds.KindSet.{KindSet}
 use Rattle.typst_session.specs.declared.kinds.KindSet.TheVariants as sets
@@ -21,10 +22,10 @@ abbrev pub IsNoKind : ℕ → Refusal → Type 0
 IsNoKind number refusal = (refusal ≡ Kind) × ((kind : SyntaxKind) → ¬ (number_of kind ≡ number))
 
 -- the name of the kind with a number is written into a buffer, or why not
-abbrev pub WritesName : ℕ → List ℕ → List ℕ → ℕ → Result (Unit {0}) Refusal → Type 0
-WritesName number old new len (Ok done) = IsOfKind (λ kind. IsWritten (name_of kind) old new len) number
-WritesName number old new len (Err Buffer) = IsOfKind (λ kind. IsTooShort (name_of kind) old new len) number
-WritesName number old new len (Err refusal) = IsNoKind number refusal × (new ≡ old)
+abbrev pub WritesName : ℕ → Output ℕ → Output ℕ → Result (Unit {0}) Refusal → Type 0
+WritesName number old new (Ok done) = IsOfKind (λ kind. IsWritten (name_of kind) old.items new.items new.len) number
+WritesName number old new (Err Buffer) = IsOfKind (λ kind. IsTooShort (name_of kind) old.items new.items new.len) number
+WritesName number old new (Err refusal) = IsNoKind number refusal × (new ≡ old)
 
 -- the number is the number of the kind with a name
 pub record IsNamed (name : List ℕ) (number : ℕ) : Type 0 where
@@ -43,12 +44,12 @@ NumbersName name (Err refusal) = IsNoName name refusal
 
 -- how the classes of a kind are told
 pub record AreClasses (kind : SyntaxKind) (told : KindClasses) : Type 0 where
-  pub grouping : (told.grouping ≡ 1) ↔ IsTrue (is_grouping_kind kind)
-  pub terminator : (told.terminator ≡ 1) ↔ IsTrue (is_terminator_kind kind)
-  pub block : (told.block ≡ 1) ↔ IsTrue (is_block_kind kind)
-  pub stmt : (told.stmt ≡ 1) ↔ IsTrue (is_stmt_kind kind)
-  pub keyword : (told.keyword ≡ 1) ↔ IsTrue (is_keyword_kind kind)
-  pub trivia : (told.trivia ≡ 1) ↔ IsTrue (is_trivia_kind kind)
+  pub grouping : IsFlag told.grouping (IsTrue (is_grouping_kind kind))
+  pub terminator : IsFlag told.terminator (IsTrue (is_terminator_kind kind))
+  pub block : IsFlag told.block (IsTrue (is_block_kind kind))
+  pub stmt : IsFlag told.stmt (IsTrue (is_stmt_kind kind))
+  pub keyword : IsFlag told.keyword (IsTrue (is_keyword_kind kind))
+  pub trivia : IsFlag told.trivia (IsTrue (is_trivia_kind kind))
 
 -- the classes of the kind with a number, or why there are none
 abbrev pub ClassesOf : ℕ → Result KindClasses Refusal → Type 0

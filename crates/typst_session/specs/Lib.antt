@@ -1,5 +1,6 @@
 pub mod Codes
 pub mod Sessions
+pub mod Flags
 pub mod Reading
 pub mod Building
 pub mod Trees
@@ -7,6 +8,7 @@ pub mod Finding
 pub mod Neighbors
 pub mod Infos
 pub mod Texts
+pub mod Changes
 pub mod Documents
 pub mod Places
 pub mod Remarks

@@ -1,17 +1,20 @@
 -- Lines and columns of the document's text.
-use Rattle.std.specs.Prelude.{ℕ, ◌≡◌, List, length, Result, Ok, Err}
+use Rattle.std.specs.Prelude.{ℕ, ◌≡◌, ◌<◌, ◌≤◌, List, length, slice_range, Result, Ok, Err}
 use Rattle.std.specs.Str.{IsCharBoundary}
+use Rattle.std.specs.declared.ops.Range.{Range as Interval}
 use Rattle.typst_lines.specs.Columns.{IsPlace}
-use Rattle.typst_lines.specs.TextLines.{lines}
+use Rattle.typst_lines.specs.TextLines.{lines, bytes_before, line_bytes}
 use Rattle.typst_lines.specs.declared.column.ColumnUnit.{ColumnUnit}
 use Rattle.typst_node.specs.Tree.{Tree}
 use Rattle.typst_node.specs.Text.{text}
+use Rattle.typst_source.specs.Fits.{FitsText}
 use Rattle.typst_session.specs.Documents.{HoldsNoDocument}
+use Rattle.typst_session.specs.Texts.{Output, IsWritten, IsTooShort}
 use Rattle.typst_session.specs.declared.places.LineColumn.{LineColumn}
 use Rattle.typst_session.specs.declared.session.Session.{Session}
 use Rattle.typst_session.specs.declared.session.Held.TheVariants as held
 use Rattle.typst_session.specs.declared.refusal.Refusal.{Refusal}
-use Rattle.typst_session.specs.declared.refusal.Refusal.TheVariants.{NoDocument, NoPlace}
+use Rattle.typst_session.specs.declared.refusal.Refusal.TheVariants.{Buffer, NoDocument, NoPlace, Range}
 
 -- a fact of the document's text
 abbrev pub OfText : (List ℕ → Type 0) → Session → Type 0
@@ -29,6 +32,37 @@ PlacesByte unit byte s (Ok place) = OfText (λ source. IsPlace unit source place
 PlacesByte unit byte s (Err NoDocument) = HoldsNoDocument s
 PlacesByte unit byte s (Err NoPlace) = OfText (λ source. ¬ (IsCharBoundary source byte)) s
 PlacesByte unit byte s (Err _) = ⊥
+
+-- the range of bytes that a line has, with its line end
+pub record IsRangeOfLine (source : List ℕ) (line : ℕ) (range : Interval ℕ) : Type 0 where
+  pub there : line < length (lines source)
+  pub begin : range.start ≡ bytes_before source line
+  pub bytes : slice_range source range.start range.end ≡ line_bytes source line
+
+-- the bytes of a line of the document's text, or why there are none
+abbrev pub FindsLine : ℕ → Session → Result (Interval ℕ) Refusal → Type 0
+FindsLine line s (Ok range) = OfText (λ source. IsRangeOfLine source line range) s
+FindsLine line s (Err NoDocument) = HoldsNoDocument s
+FindsLine line s (Err NoPlace) = OfText (λ source. length (lines source) ≤ line) s
+FindsLine line s (Err _) = ⊥
+
+-- a part of a text is written
+pub record IsPartWritten (range : Interval ℕ) (old new : Output ℕ) (source : List ℕ) : Type 0 where
+  pub fits : FitsText source range
+  pub written : IsWritten (slice_range source range.start range.end) old.items new.items new.len
+
+-- the buffer is too short for a part of a text
+pub record IsPartTooLong (range : Interval ℕ) (old new : Output ℕ) (source : List ℕ) : Type 0 where
+  pub fits : FitsText source range
+  pub too_short : IsTooShort (slice_range source range.start range.end) old.items new.items new.len
+
+-- the bytes of a range of the document's text are written into a buffer, or why not
+abbrev pub WritesPart : Interval ℕ → Session → Output ℕ → Output ℕ → Result (Unit {0}) Refusal → Type 0
+WritesPart range s old new (Ok done) = OfText (IsPartWritten range old new) s
+WritesPart range s old new (Err Buffer) = OfText (IsPartTooLong range old new) s
+WritesPart range s old new (Err NoDocument) = HoldsNoDocument s × (new ≡ old)
+WritesPart range s old new (Err Range) = OfText (λ source. ¬ (FitsText source range)) s × (new ≡ old)
+WritesPart range s old new (Err _) = ⊥
 
 -- the byte of the document's text at a line and a column, or why there is none
 abbrev pub FindsByte : ColumnUnit → ℕ → ℕ → Session → Result ℕ Refusal → Type 0

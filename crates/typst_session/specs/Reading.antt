@@ -1,5 +1,5 @@
 -- What is read of a node.
-use Rattle.std.specs.Prelude.{ℕ, ◌≡◌, ◌↔◌, List, length, None, IsSomeAnd, IsTrue, Result, Ok, Err}
+use Rattle.std.specs.Prelude.{ℕ, ◌≡◌, List, length, None, IsSomeAnd, IsTrue, Result, Ok, Err}
 use Rattle.typst_base.specs.KindNumber.{number_of}
 use Rattle.typst_node.specs.Tree.{Tree, trees, kind_of, IsInner, IsLeaf}
 use Rattle.typst_node.specs.Text.{text}
@@ -7,6 +7,7 @@ use Rattle.typst_node.specs.Count.{count}
 use Rattle.typst_node.specs.Diagnosis.{has_error, has_warning}
 use Rattle.typst_node.specs.Labels.{number, bound}
 use Rattle.typst_node.specs.Paths.{IsPath, tree_at}
+use Rattle.typst_session.specs.Flags.{IsFlag}
 use Rattle.typst_session.specs.Sessions.{root_of}
 use Rattle.typst_session.specs.declared.session.Session.{Session}
 use Rattle.typst_session.specs.declared.info.NodeInfo.{NodeInfo}
@@ -33,10 +34,10 @@ pub record IsInfo (t : Tree) (info : NodeInfo) : Type 0 where
   pub children : info.children ≡ length (trees t.children)
   pub descendants : info.descendants ≡ count t
   pub kind : info.kind ≡ number_of (kind_of t.label.content)
-  pub leaf : (info.leaf ≡ 1) ↔ IsLeaf t.label.content
-  pub inner : (info.inner ≡ 1) ↔ IsInner t.label.content
-  pub errors : (info.errors ≡ 1) ↔ IsTrue (has_error t)
-  pub warnings : (info.warnings ≡ 1) ↔ IsTrue (has_warning t)
+  pub leaf : IsFlag info.leaf (IsLeaf t.label.content)
+  pub inner : IsFlag info.inner (IsInner t.label.content)
+  pub errors : IsFlag info.errors (IsTrue (has_error t))
+  pub warnings : IsFlag info.warnings (IsTrue (has_warning t))
 
 -- the info of the node that a path leads to, or why there is none
 abbrev pub ReadsInfo : List ℕ → Session → Result NodeInfo Refusal → Type 0

@@ -6,6 +6,11 @@ use Rattle.typst_session.specs.declared.session.Session.{Session}
 use Rattle.typst_session.specs.declared.refusal.Refusal.{Refusal}
 use Rattle.typst_session.specs.declared.refusal.Refusal.TheVariants.{Memory, Buffer}
 
+-- what a call writes to: a buffer, and how long the list is that it writes there
+pub record Output (X : Type 0) : Type 0 where
+  pub items : List X
+  pub len : ℕ
+
 -- the list is at the beginning of a buffer with room for it, and its length is told; the rest of the buffer stays as it
 -- was
 pub record IsWritten {X : Type 0} (items old new : List X) (len : ℕ) : Type 0 where
@@ -20,14 +25,14 @@ pub record IsTooShort {X : Type 0} (items old new : List X) (len : ℕ) : Type 0
   pub same : new ≡ old
 
 -- a list is written, or the buffer is too short
-abbrev pub Writes : List ℕ → List ℕ → List ℕ → ℕ → Result (Unit {0}) Refusal → Type 0
-Writes items old new len (Ok done) = IsWritten items old new len
-Writes items old new len (Err Buffer) = IsTooShort items old new len
-Writes items old new len (Err _) = ⊥
+abbrev pub Writes : List ℕ → Output ℕ → Output ℕ → Result (Unit {0}) Refusal → Type 0
+Writes items old new (Ok done) = IsWritten items old.items new.items new.len
+Writes items old new (Err Buffer) = IsTooShort items old.items new.items new.len
+Writes items old new (Err _) = ⊥
 
 -- what is read of the node that a path leads to is written into a buffer, or why not
-abbrev pub WritesOf : (Tree → List ℕ) → List ℕ → Session → List ℕ → List ℕ → ℕ → Result (Unit {0}) Refusal → Type 0
-WritesOf read path s old new len (Ok done) = OfNode (λ t. IsWritten (read t) old new len) path s
-WritesOf read path s old new len (Err Buffer) = OfNode (λ t. IsTooShort (read t) old new len) path s
-WritesOf read path s old new len (Err Memory) = new ≡ old
-WritesOf read path s old new len (Err refusal) = IsNoNode path s refusal × (new ≡ old)
+abbrev pub WritesOf : (Tree → List ℕ) → List ℕ → Session → Output ℕ → Output ℕ → Result (Unit {0}) Refusal → Type 0
+WritesOf read path s old new (Ok done) = OfNode (λ t. IsWritten (read t) old.items new.items new.len) path s
+WritesOf read path s old new (Err Buffer) = OfNode (λ t. IsTooShort (read t) old.items new.items new.len) path s
+WritesOf read path s old new (Err Memory) = new ≡ old
+WritesOf read path s old new (Err refusal) = IsNoNode path s refusal × (new ≡ old)

@@ -1,5 +1,5 @@
 -- What calls on the tree that is held do.
-use Rattle.std.specs.Prelude.{ℕ, ◌≡◌, ◌<◌, ◌≤◌, ◌^◌, ◌⊎◌, ◌∷◌, ◌++◌, List, [], length, Result, Ok, Err}
+use Rattle.std.specs.Prelude.{ℕ, ◌≡◌, ◌<◌, ◌≤◌, ◌^◌, ◌⊎◌, ◌∷◌, ◌++◌, List, [], length, None, Result, Ok, Err}
 use Rattle.typst_node.specs.Tree.{Tree}
 use Rattle.typst_node.specs.Accepted.{IsAccepted}
 use Rattle.typst_node.specs.Edit.{Edit}
@@ -22,7 +22,7 @@ pub record TakesNumbered (file from to : ℕ) (old new : Session) : Type 0 where
   pub tree : Tree
   pub stack : old.stack.items ≡ rest ++ node ∷ []
   pub numbering : IsNumbering file from to node tree
-  pub holds : Holds rest (held.Tree tree) new
+  pub holds : Holds rest (held.Tree tree) None new
 
 -- there are fewer numbers than the last node of the stack has nodes
 pub record LacksNumbers (from to : ℕ) (old : Session) : Type 0 where
@@ -46,7 +46,7 @@ pub record IsRenumbered (file from to : ℕ) (old new : Session) : Type 0 where
   pub after : Tree
   pub was : old.held ≡ held.Tree tree
   pub numbering : IsNumbering file from to tree after
-  pub holds : Holds old.stack.items (held.Tree after) new
+  pub holds : Holds old.stack.items (held.Tree after) None new
 
 -- why the tree that is held isn't numbered anew
 abbrev pub WhyNotRenumbered : ℕ → ℕ → ℕ → Tree → Refusal → Type 0
@@ -67,7 +67,7 @@ Renumbers file from to old (Err refusal) new =
 pub record IsTaken (old new : Session) : Type 0 where
   pub tree : Tree
   pub was : old.held ≡ held.Tree tree
-  pub holds : Holds (old.stack.items ++ tree ∷ []) held.Nothing new
+  pub holds : Holds (old.stack.items ++ tree ∷ []) held.Nothing None new
 
 -- the tree that is held goes back on the stack, or why not
 abbrev pub TakesTree : Session → Result (Unit {0}) Refusal → Session → Type 0
@@ -88,7 +88,7 @@ pub record IsReplaced (path : List ℕ) (from to count : ℕ) (old : Session) (w
   pub was : old.held ≡ held.Tree root
   pub enough : count ≤ length old.stack.items
   pub accepted : IsAccepted (edit_from_stack path from to count old) root window after
-  pub holds : Holds (below_top count old.stack.items) (held.Tree after) new
+  pub holds : Holds (below_top count old.stack.items) (held.Tree after) None new
 
 -- an edit of the tree that is held was refused
 pub record IsRefusedEdit (path : List ℕ) (from to count : ℕ) (old : Session) (refusal : Refusal) : Type 0 where

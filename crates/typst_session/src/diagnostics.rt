@@ -25,14 +25,14 @@ pub enum Severity {
 }
 
 impl Severity {
-    /// The number of the severity.
+    /// The number of the severity. No status has it, so that one can't be taken for the other.
     fn number(self) -> u32
         ensures { result ≡ severity_number self }
     {
         match self {
-            Severity::Error => 0,
-            Severity::Warning => 1,
-            Severity::Hint => 2,
+            Severity::Error => 301,
+            Severity::Warning => 302,
+            Severity::Hint => 303,
         }
     }
 }
@@ -49,7 +49,7 @@ pub struct Diagnostic {
     pub end: usize,
     /// The length of its text in bytes.
     pub len: usize,
-    /// The number of its severity, in the order of [`Severity`].
+    /// The number of its severity: 301 for an error, 302 for a warning and 303 for a hint.
     pub severity: u32,
     /// 1 if it is about bytes of the tree's text, else 0.
     pub placed: u32,
@@ -189,8 +189,8 @@ impl Session {
         texts: &mut [u8],
         sizes: &mut DiagnosticSizes,
     ) -> Result<(), Refusal>
-        ensures { ReadsDiagnostics self.now (record { list = out.old; texts = texts.old })
-            (record { list = out.new; texts = texts.new }) sizes.new result }
+        ensures { ReadsDiagnostics self.now (record { list = out.old; texts = texts.old; sizes = sizes.old })
+            (record { list = out.new; texts = texts.new; sizes = sizes.new }) result }
     {
         let Some(root) = self.root() else {
             return Err(Refusal::NoTree);

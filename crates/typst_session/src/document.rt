@@ -12,6 +12,7 @@ ghost use Rattle.typst_node.specs.Text.{text};
 ghost use Rattle.typst_source.specs.Edited.{IsEdited, IsRefusedBy};
 ghost use Rattle.typst_source.specs.Fits.{FitsText};
 ghost use Rattle.typst_session.specs.Documents.{IsDocumentOf, WhyNoDocument};
+ghost use Rattle.typst_session.specs.Places.{IsRangeOfLine};
 
 use crate::places::LineColumn;
 use std::alloc::Global;
@@ -149,6 +150,14 @@ impl Document {
         let line = self.lines.byte_to_line(text, byte)?;
         let column = self.lines.byte_to_column(text, byte, unit)?;
         Some(LineColumn { line, column })
+    }
+
+    /// The bytes of a line with its line end. `None` if there is no such line.
+    pub fn line_to_range(&self, line: usize) -> Option<Range<usize>>
+        ensures { MatchOption result (length (lines (text self.now)) ≤ line)
+            (λ range. IsRangeOfLine (text self.now) line range) }
+    {
+        self.lines.line_to_range(self.source.text(), line)
     }
 
     /// The byte at a line and a column, both from 0. `None` if no byte has them. The cost is a walk over the line.

@@ -2,6 +2,7 @@
 ghost use Rattle.typst_session.specs.Documents.{Opens, EditsText};
 
 use crate::building::text_of;
+use crate::changes::Change;
 use crate::document::Document;
 use crate::refusal::Refusal;
 use crate::session::{Held, Session};
@@ -9,6 +10,15 @@ use std::alloc::Global;
 use std::ops::Range;
 use typst_source::Edited;
 use typst_tree::FileId;
+
+/// What an edit of a text did.
+#[derive(Clone, Debug, PartialEq, Eq, Drop)]
+pub struct TextChange {
+    /// The bytes of the new text that were parsed anew.
+    pub reparsed: Range<usize>,
+    /// What the edit changed in the tree.
+    pub change: Change,
+}
 
 /// # Documents
 impl Session {
@@ -23,17 +33,19 @@ impl Session {
         let text = text_of(text)?;
         let document = Document::new(alloc, file, text)?;
         self.held = Held::Document(document);
+        self.moves = None;
         Ok(())
     }
 
     /// Replaces a range of bytes of the document's text by another text, and tells which bytes were parsed anew and
-    /// which children of the root were numbered anew.
+    /// what the edit changed in the tree. Nodes that go on keep their numbers, and [`Session::follow`] follows each
+    /// number.
     pub fn edit(
         &mut self,
         alloc: Global,
         range: Range<usize>,
         with: &[u8],
-    ) -> Result<Edited, Refusal>
+    ) -> Result<TextChange, Refusal>
         ensures { EditsText range with.now self.old result self.new }
     {
         let Held::Document(document) = &mut self.held else {
@@ -43,6 +55,19 @@ impl Session {
         if !document.fits(&range) {
             return Err(Refusal::Range);
         }
-        Ok(document.edit(alloc, range, with)?)
+        let Edited {
+            reparsed,
+            path,
+            touched,
+            moves,
+        } = document.edit(alloc, range, with)?;
+        self.moves = Some(moves);
+        Ok(TextChange {
+            reparsed,
+            change: Change {
+                depth: path.len(),
+                touched,
+            },
+        })
     }
 }

@@ -1,12 +1,13 @@
 //! Finding nodes of the tree that a session holds.
 ghost use Rattle.std.specs.Prelude.{◌≡◌, MatchResult};
 ghost use Rattle.typst_node.specs.Text.{offset};
-ghost use Rattle.typst_session.specs.Finding.{Finds, FindsLeaf};
+ghost use Rattle.typst_session.specs.Finding.{Finds, FindsByRange, FindsLeaf};
 ghost use Rattle.typst_session.specs.declared.refusal.Refusal.TheVariants.{Memory};
 
 use crate::refusal::Refusal;
 use crate::session::Session;
 use std::alloc::Global;
+use std::ops::Range;
 use typst_tree::{FileId, LinkedNode, Side, Span, SpanNumber};
 
 /// Where a node is.
@@ -48,6 +49,20 @@ impl Session {
         // A search by a number doesn't look at the file.
         let span = Span::from_number(FileId::FIRST, SpanNumber(number));
         match LinkedNode::new(root).find(alloc, span)? {
+            Some(node) => Found::of(alloc, &node),
+            None => Err(Refusal::NotFound),
+        }
+    }
+
+    /// Finds the node with a range of bytes in the tree that is held, as [`LinkedNode::find_range`] finds it from the
+    /// root.
+    pub fn find_range(&self, alloc: Global, range: Range<usize>) -> Result<Found, Refusal>
+        ensures { FindsByRange range.start range.end self.now result }
+    {
+        let Some(root) = self.root() else {
+            return Err(Refusal::NoTree);
+        };
+        match LinkedNode::new(root).find_range(alloc, range.start, range.end)? {
             Some(node) => Found::of(alloc, &node),
             None => Err(Refusal::NotFound),
         }

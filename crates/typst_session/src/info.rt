@@ -1,5 +1,6 @@
 //! What one call reads of a node.
-ghost use Rattle.std.specs.Prelude.{◌≡◌, ◌↔◌, IsTrue};
+ghost use Rattle.std.specs.Prelude.{IsTrue};
+ghost use Rattle.typst_session.specs.Flags.{IsFlag};
 ghost use Rattle.typst_session.specs.Reading.{IsInfo};
 
 use typst_tree::SyntaxNode;
@@ -32,7 +33,7 @@ pub struct NodeInfo {
 
 /// 1 for true, and 0 for false.
 pub(crate) fn bit(flag: bool) -> u8
-    ensures { (result ≡ 1) ↔ IsTrue flag }
+    ensures { IsFlag result (IsTrue flag) }
 {
     if flag { 1 } else { 0 }
 }

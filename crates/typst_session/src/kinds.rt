@@ -77,7 +77,8 @@ pub(crate) fn kind_of(number: u32) -> Result<SyntaxKind, Refusal>
 
 /// Writes the name of the kind with a number, as messages to a user write it, and tells how long it is.
 pub fn write_name(number: u32, out: &mut [u8], len: &mut usize) -> Result<(), Refusal>
-    ensures { WritesName number out.old out.new len.new result }
+    ensures { WritesName number (record { items = out.old; len = len.old }) (record { items = out.new; len = len.new })
+        result }
 {
     let kind = kind_of(number)?;
     write_bytes(kind.name().as_bytes(), out, len)

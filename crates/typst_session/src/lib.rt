@@ -7,8 +7,10 @@
 //! names, need no session.
 #![tactic(auto)]
 
+pub use changes::Change;
 pub use diagnostics::{Diagnostic, DiagnosticSizes};
 pub use document::Document;
+pub use documents::TextChange;
 pub use info::NodeInfo;
 pub use neighbors::Neighbor;
 pub use places::LineColumn;
@@ -17,6 +19,7 @@ pub use session::{Held, Session};
 pub use views::{Asked, ViewAnswer};
 
 pub mod building;
+pub mod changes;
 pub mod classes;
 pub mod comparing;
 pub mod diagnostics;

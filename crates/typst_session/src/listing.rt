@@ -55,7 +55,8 @@ impl Session {
         out: &mut [NodeInfo],
         len: &mut usize,
     ) -> Result<(), Refusal>
-        ensures { ReadsInfos (λ t. trees t.children) path.now self.now out.old out.new len.new result }
+        ensures { ReadsInfos (λ t. trees t.children) path.now self.now (record { items = out.old; len = len.old })
+            (record { items = out.new; len = len.new }) result }
     {
         match self.node_at(path) {
             Ok(node) => {
@@ -82,7 +83,8 @@ impl Session {
         out: &mut [NodeInfo],
         len: &mut usize,
     ) -> Result<(), Refusal>
-        ensures { ReadsInfos subtrees path.now self.now out.old out.new len.new result }
+        ensures { ReadsInfos subtrees path.now self.now (record { items = out.old; len = len.old })
+            (record { items = out.new; len = len.new }) result }
     {
         match self.node_at(path) {
             Ok(node) => {

@@ -1,13 +1,15 @@
 //! Lines and columns of the document's text.
 ghost use Rattle.std.specs.Prelude.{◌≡◌, IfOk, IfErr};
 ghost use Rattle.typst_session.specs.Documents.{HoldsNoDocument};
-ghost use Rattle.typst_session.specs.Places.{CountsLines, FindsByte, PlacesByte};
+ghost use Rattle.typst_session.specs.Places.{CountsLines, FindsByte, FindsLine, PlacesByte, WritesPart};
 ghost use Rattle.typst_session.specs.declared.refusal.Refusal.TheVariants.{NoDocument};
 ghost use Rattle.typst_session.specs.declared.session.Held.TheVariants as held;
 
 use crate::document::Document;
+use crate::reading::write_bytes;
 use crate::refusal::Refusal;
 use crate::session::{Held, Session};
+use std::ops::Range;
 use typst_lines::ColumnUnit;
 
 /// A place in a text, by its line and column. Both count from 0.
@@ -48,6 +50,34 @@ impl Session {
             Some(place) => Ok(place),
             None => Err(Refusal::NoPlace),
         }
+    }
+
+    /// The bytes of a line of the document's text, with its line end.
+    pub fn line_to_range(&self, line: usize) -> Result<Range<usize>, Refusal>
+        ensures { FindsLine line self.now result }
+    {
+        match self.document()?.line_to_range(line) {
+            Some(range) => Ok(range),
+            None => Err(Refusal::NoPlace),
+        }
+    }
+
+    /// Writes the bytes of a range of the document's text, and tells how many there are. It takes no memory.
+    pub fn text_in(
+        &self,
+        range: Range<usize>,
+        out: &mut [u8],
+        len: &mut usize,
+    ) -> Result<(), Refusal>
+        ensures { WritesPart range self.now (record { items = out.old; len = len.old })
+            (record { items = out.new; len = len.new }) result }
+    {
+        let document = self.document()?;
+        if !document.fits(&range) {
+            return Err(Refusal::Range);
+        }
+        let part = &document.text()[range];
+        write_bytes(part.as_bytes(), out, len)
     }
 
     /// The byte of the document's text at a line and a column. The cost is a walk over the line.

@@ -10,7 +10,8 @@ use std::alloc::Global;
 
 /// Writes bytes into a buffer if it has room for them, and tells in any case how many there are.
 pub fn write_bytes(bytes: &[u8], out: &mut [u8], len: &mut usize) -> Result<(), Refusal>
-    ensures { Writes bytes.now out.old out.new len.new result }
+    ensures { Writes bytes.now (record { items = out.old; len = len.old }) (record { items = out.new; len = len.new })
+        result }
 {
     *len = bytes.len();
     if out.len() < bytes.len() {
@@ -35,7 +36,8 @@ impl Session {
     /// Writes the text of the leaf or error that a path leads to, and tells how long it is. For an inner node the text
     /// is empty.
     pub fn leaf_text(&self, path: &[usize], out: &mut [u8], len: &mut usize) -> Result<(), Refusal>
-        ensures { WritesOf (λ t. own_text t.label) path.now self.now out.old out.new len.new result }
+        ensures { WritesOf (λ t. own_text t.label) path.now self.now (record { items = out.old; len = len.old })
+            (record { items = out.new; len = len.new }) result }
     {
         match self.node_at(path) {
             Ok(node) => write_bytes(node.leaf_text().as_bytes(), out, len),
@@ -53,7 +55,8 @@ impl Session {
         out: &mut [u8],
         len: &mut usize,
     ) -> Result<(), Refusal>
-        ensures { WritesOf text path.now self.now out.old out.new len.new result }
+        ensures { WritesOf text path.now self.now (record { items = out.old; len = len.old })
+            (record { items = out.new; len = len.new }) result }
     {
         match self.node_at(path) {
             Ok(node) => {

@@ -71,6 +71,9 @@ pub enum Refusal {
     /// The number is no accessor of a view.
     #[error("the number is no accessor")]
     Accessor,
+    /// The tree wasn't edited since it was made or numbered, or its last edit keeps no moves.
+    #[error("there is no edit to follow")]
+    NoEdit,
 }
 
 impl Refusal {
@@ -99,6 +102,7 @@ impl Refusal {
             Refusal::Set => 19,
             Refusal::NoPlace => 20,
             Refusal::Accessor => 21,
+            Refusal::NoEdit => 22,
         }
     }
 }
@@ -136,6 +140,20 @@ impl From<EditError> for Refusal {
             EditError::Refused(ReplaceError::Unnumberable) => Refusal::Unnumberable,
             EditError::Refused(ReplaceError::Overflow) => Refusal::Size,
             EditError::Refused(ReplaceError::Memory) => Refusal::Memory,
+        }
+    }
+}
+
+impl From<ReplaceError> for Refusal {
+    ghost use Rattle.typst_session.specs.Codes.{of_update};
+
+    ghost from_gives = { λ e r. r ≡ of_update e };
+
+    fn from(e: ReplaceError) -> Refusal {
+        match e {
+            ReplaceError::Unnumberable => Refusal::Unnumberable,
+            ReplaceError::Overflow => Refusal::Size,
+            ReplaceError::Memory => Refusal::Memory,
         }
     }
 }

@@ -9,6 +9,7 @@ ghost use Rattle.typst_session.specs.declared.session.Held.TheVariants.{Nothing}
 use crate::document::Document;
 use crate::refusal::Refusal;
 use std::alloc::Global;
+use typst_node::Moves;
 use typst_tree::{NumberedTree, SyntaxNode, node_at};
 
 /// What a handle holds: a stack of nodes that are being built, and at most one tree.
@@ -18,6 +19,9 @@ pub struct Session {
     pub stack: Vec<SyntaxNode>,
     /// The tree that is read and edited, if there is one.
     pub held: Held,
+    /// Where the nodes of the tree are after its last edit. `None` if the tree wasn't edited since it was made or
+    /// numbered, or if its last edit was [`Session::replace`].
+    pub moves: Option<Moves>,
 }
 
 /// The tree that a session holds.
@@ -36,10 +40,12 @@ impl Session {
     pub fn new(alloc: Global) -> Session
         ensures stack { result.stack.items ≡ [] }
         ensures held { result.held ≡ Nothing }
+        ensures moves { result.moves ≡ None }
     {
         Session {
             stack: Vec::new(alloc),
             held: Held::Nothing,
+            moves: None,
         }
     }
 

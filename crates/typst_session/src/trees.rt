@@ -37,6 +37,7 @@ impl Session {
         match NumberedTree::number(root, file, within) {
             Ok(tree) => {
                 self.held = Held::Tree(tree);
+                self.moves = None;
                 Ok(())
             }
             Err(_) => unreachable!(),
@@ -61,7 +62,10 @@ impl Session {
             return Err(Refusal::Numbers);
         }
         match tree.renumber(file, within) {
-            Ok(()) => Ok(()),
+            Ok(()) => {
+                self.moves = None;
+                Ok(())
+            }
             Err(_) => Err(Refusal::Unnumberable),
         }
     }
@@ -79,6 +83,7 @@ impl Session {
         let Held::Tree(tree) = mem::replace(&mut self.held, Held::Nothing) else {
             unreachable!();
         };
+        self.moves = None;
         match self.stack.push(tree.into_root()) {
             Ok(()) => Ok(()),
             Err(_) => unreachable!(),
@@ -89,7 +94,8 @@ impl Session {
     /// the last `count` nodes of the stack. The range is of child indices. Tells which children were numbered anew.
     ///
     /// It takes as long as [`NumberedTree::replace`]. It also takes time and memory in proportion to the new nodes,
-    /// since copies of them come into the tree. After a refusal the nodes themselves are still on the stack.
+    /// since copies of them come into the tree. After a refusal the nodes themselves are still on the stack. No number
+    /// can be followed over it; [`Session::reconcile`] keeps where each node is.
     pub fn replace(
         &mut self,
         alloc: Global,
@@ -111,6 +117,7 @@ impl Session {
         match tree.replace(alloc, path, range, nodes) {
             Ok(window) => {
                 self.stack.truncate(start);
+                self.moves = None;
                 Ok(window)
             }
             Err(error) => Err(Refusal::from(error)),

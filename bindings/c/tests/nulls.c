@@ -1,0 +1,190 @@
+/* Passes a null pointer to each function `typst_try_` in place of each pointer in turn. It must answer TYPST_NULL. If the number
+ * after the pointer is 0, the call must be passed on instead. The sanitizers see a null pointer that is followed. */
+#include "typst.h"
+
+#include <stdio.h>
+
+static unsigned long count, wrong;
+
+static void look(const char *call, typst_status status, int is_null)
+{
+    count++;
+    if ((status == TYPST_NULL) == is_null) return;
+    wrong++;
+    printf("%s answers: %s\n", call, typst_status_text(status));
+}
+
+#define IS_NULL(call) look(#call, call, 1)
+#define IS_PASSED(call) look(#call, call, 0)
+
+int main(void)
+{
+    static const size_t path[1] = {0};
+    typst_session *session = typst_session_new(), *other = typst_session_new();
+    size_t found[1], size;
+    uint64_t number;
+    uint32_t flag;
+    char text[1];
+    typst_answer answer;
+    typst_change change;
+    typst_diagnostic diagnostic;
+    typst_diagnostic_sizes diagnostic_sizes;
+    typst_edited edited;
+    typst_length length;
+    typst_line_column line_column;
+    typst_node_info node_info;
+    typst_place place;
+    typst_range range;
+    typst_window window;
+
+    if (typst_try_new(session) != TYPST_DONE || typst_try_new(other) != TYPST_DONE) return 1;
+    IS_NULL(typst_try_new(NULL));
+    IS_NULL(typst_try_push_leaf(NULL, TYPST_KIND_TEXT, "a", 1));
+    IS_NULL(typst_try_push_leaf(session, TYPST_KIND_TEXT, NULL, 1));
+    IS_PASSED(typst_try_push_leaf(session, TYPST_KIND_TEXT, NULL, 0));
+    IS_NULL(typst_try_push_error(NULL, "a", 1, "a", 1));
+    IS_NULL(typst_try_push_error(session, NULL, 1, "a", 1));
+    IS_PASSED(typst_try_push_error(session, NULL, 0, "a", 1));
+    IS_NULL(typst_try_push_error(session, "a", 1, NULL, 1));
+    IS_PASSED(typst_try_push_error(session, "a", 1, NULL, 0));
+    IS_NULL(typst_try_push_copy(NULL, path, 1));
+    IS_NULL(typst_try_push_copy(session, NULL, 1));
+    IS_PASSED(typst_try_push_copy(session, NULL, 0));
+    IS_NULL(typst_try_wrap(NULL, TYPST_KIND_TEXT, 0));
+    IS_NULL(typst_try_warn(NULL, "a", 1));
+    IS_NULL(typst_try_warn(session, NULL, 1));
+    IS_PASSED(typst_try_warn(session, NULL, 0));
+    IS_NULL(typst_try_hint(NULL, "a", 1));
+    IS_NULL(typst_try_hint(session, NULL, 1));
+    IS_PASSED(typst_try_hint(session, NULL, 0));
+    IS_NULL(typst_try_pop(NULL, 0));
+    IS_NULL(typst_try_number(NULL, 1, 0, 0));
+    IS_NULL(typst_try_renumber(NULL, 1, 0, 0));
+    IS_NULL(typst_try_take_tree(NULL));
+    IS_NULL(typst_try_replace(NULL, path, 1, 0, 0, 0, &window));
+    IS_NULL(typst_try_replace(session, NULL, 1, 0, 0, 0, &window));
+    IS_PASSED(typst_try_replace(session, NULL, 0, 0, 0, 0, &window));
+    IS_NULL(typst_try_replace(session, path, 1, 0, 0, 0, NULL));
+    IS_NULL(typst_try_reconcile(NULL, path, 1, 0, 0, 0, &change));
+    IS_NULL(typst_try_reconcile(session, NULL, 1, 0, 0, 0, &change));
+    IS_PASSED(typst_try_reconcile(session, NULL, 0, 0, 0, 0, &change));
+    IS_NULL(typst_try_reconcile(session, path, 1, 0, 0, 0, NULL));
+    IS_NULL(typst_try_update(NULL, &change));
+    IS_NULL(typst_try_update(session, NULL));
+    IS_NULL(typst_try_follow(NULL, 2, &number));
+    IS_NULL(typst_try_follow(session, 2, NULL));
+    IS_NULL(typst_try_send(NULL, other));
+    IS_NULL(typst_try_send(session, NULL));
+    IS_NULL(typst_try_node(NULL, path, 1, &node_info));
+    IS_NULL(typst_try_node(session, NULL, 1, &node_info));
+    IS_PASSED(typst_try_node(session, NULL, 0, &node_info));
+    IS_NULL(typst_try_node(session, path, 1, NULL));
+    IS_NULL(typst_try_children(NULL, path, 1, &node_info, 1, &length));
+    IS_NULL(typst_try_children(session, NULL, 1, &node_info, 1, &length));
+    IS_PASSED(typst_try_children(session, NULL, 0, &node_info, 1, &length));
+    IS_NULL(typst_try_children(session, path, 1, NULL, 1, &length));
+    IS_PASSED(typst_try_children(session, path, 1, NULL, 0, &length));
+    IS_NULL(typst_try_children(session, path, 1, &node_info, 1, NULL));
+    IS_NULL(typst_try_preorder(NULL, path, 1, &node_info, 1, &length));
+    IS_NULL(typst_try_preorder(session, NULL, 1, &node_info, 1, &length));
+    IS_PASSED(typst_try_preorder(session, NULL, 0, &node_info, 1, &length));
+    IS_NULL(typst_try_preorder(session, path, 1, NULL, 1, &length));
+    IS_PASSED(typst_try_preorder(session, path, 1, NULL, 0, &length));
+    IS_NULL(typst_try_preorder(session, path, 1, &node_info, 1, NULL));
+    IS_NULL(typst_try_leaf_text(NULL, path, 1, text, 1, &length));
+    IS_NULL(typst_try_leaf_text(session, NULL, 1, text, 1, &length));
+    IS_PASSED(typst_try_leaf_text(session, NULL, 0, text, 1, &length));
+    IS_NULL(typst_try_leaf_text(session, path, 1, NULL, 1, &length));
+    IS_PASSED(typst_try_leaf_text(session, path, 1, NULL, 0, &length));
+    IS_NULL(typst_try_leaf_text(session, path, 1, text, 1, NULL));
+    IS_NULL(typst_try_full_text(NULL, path, 1, text, 1, &length));
+    IS_NULL(typst_try_full_text(session, NULL, 1, text, 1, &length));
+    IS_PASSED(typst_try_full_text(session, NULL, 0, text, 1, &length));
+    IS_NULL(typst_try_full_text(session, path, 1, NULL, 1, &length));
+    IS_PASSED(typst_try_full_text(session, path, 1, NULL, 0, &length));
+    IS_NULL(typst_try_full_text(session, path, 1, text, 1, NULL));
+    IS_NULL(typst_try_child_of_class(NULL, path, 1, TYPST_CLASS_EXPR, 0, 0, &size));
+    IS_NULL(typst_try_child_of_class(session, NULL, 1, TYPST_CLASS_EXPR, 0, 0, &size));
+    IS_PASSED(typst_try_child_of_class(session, NULL, 0, TYPST_CLASS_EXPR, 0, 0, &size));
+    IS_NULL(typst_try_child_of_class(session, path, 1, TYPST_CLASS_EXPR, 0, 0, NULL));
+    IS_NULL(typst_try_view(NULL, path, 1, 0, 0, text, 1, &answer));
+    IS_NULL(typst_try_view(session, NULL, 1, 0, 0, text, 1, &answer));
+    IS_PASSED(typst_try_view(session, NULL, 0, 0, 0, text, 1, &answer));
+    IS_NULL(typst_try_view(session, path, 1, 0, 0, NULL, 1, &answer));
+    IS_PASSED(typst_try_view(session, path, 1, 0, 0, NULL, 0, &answer));
+    IS_NULL(typst_try_view(session, path, 1, 0, 0, text, 1, NULL));
+    IS_NULL(typst_try_diagnostics(NULL, &diagnostic, 1, text, 1, &diagnostic_sizes));
+    IS_NULL(typst_try_diagnostics(session, NULL, 1, text, 1, &diagnostic_sizes));
+    IS_PASSED(typst_try_diagnostics(session, NULL, 0, text, 1, &diagnostic_sizes));
+    IS_NULL(typst_try_diagnostics(session, &diagnostic, 1, NULL, 1, &diagnostic_sizes));
+    IS_PASSED(typst_try_diagnostics(session, &diagnostic, 1, NULL, 0, &diagnostic_sizes));
+    IS_NULL(typst_try_diagnostics(session, &diagnostic, 1, text, 1, NULL));
+    IS_NULL(typst_try_spanless_eq_within(NULL, path, 1, path, 1, &flag));
+    IS_NULL(typst_try_spanless_eq_within(session, NULL, 1, path, 1, &flag));
+    IS_PASSED(typst_try_spanless_eq_within(session, NULL, 0, path, 1, &flag));
+    IS_NULL(typst_try_spanless_eq_within(session, path, 1, NULL, 1, &flag));
+    IS_PASSED(typst_try_spanless_eq_within(session, path, 1, NULL, 0, &flag));
+    IS_NULL(typst_try_spanless_eq_within(session, path, 1, path, 1, NULL));
+    IS_NULL(typst_try_spanless_eq(NULL, path, 1, other, path, 1, &flag));
+    IS_NULL(typst_try_spanless_eq(session, NULL, 1, other, path, 1, &flag));
+    IS_PASSED(typst_try_spanless_eq(session, NULL, 0, other, path, 1, &flag));
+    IS_NULL(typst_try_spanless_eq(session, path, 1, NULL, path, 1, &flag));
+    IS_NULL(typst_try_spanless_eq(session, path, 1, other, NULL, 1, &flag));
+    IS_PASSED(typst_try_spanless_eq(session, path, 1, other, NULL, 0, &flag));
+    IS_NULL(typst_try_spanless_eq(session, path, 1, other, path, 1, NULL));
+    IS_NULL(typst_try_find(NULL, 2, found, 1, &place));
+    IS_NULL(typst_try_find(session, 2, NULL, 1, &place));
+    IS_PASSED(typst_try_find(session, 2, NULL, 0, &place));
+    IS_NULL(typst_try_find(session, 2, found, 1, NULL));
+    IS_NULL(typst_try_find_range(NULL, 0, 0, found, 1, &place));
+    IS_NULL(typst_try_find_range(session, 0, 0, NULL, 1, &place));
+    IS_PASSED(typst_try_find_range(session, 0, 0, NULL, 0, &place));
+    IS_NULL(typst_try_find_range(session, 0, 0, found, 1, NULL));
+    IS_NULL(typst_try_leaf_at(NULL, 0, 0, found, 1, &place));
+    IS_NULL(typst_try_leaf_at(session, 0, 0, NULL, 1, &place));
+    IS_PASSED(typst_try_leaf_at(session, 0, 0, NULL, 0, &place));
+    IS_NULL(typst_try_leaf_at(session, 0, 0, found, 1, NULL));
+    IS_NULL(typst_try_range_of(NULL, path, 1, &range));
+    IS_NULL(typst_try_range_of(session, NULL, 1, &range));
+    IS_PASSED(typst_try_range_of(session, NULL, 0, &range));
+    IS_NULL(typst_try_range_of(session, path, 1, NULL));
+    IS_NULL(typst_try_neighbor(NULL, path, 1, 0, found, 1, &place));
+    IS_NULL(typst_try_neighbor(session, NULL, 1, 0, found, 1, &place));
+    IS_PASSED(typst_try_neighbor(session, NULL, 0, 0, found, 1, &place));
+    IS_NULL(typst_try_neighbor(session, path, 1, 0, NULL, 1, &place));
+    IS_PASSED(typst_try_neighbor(session, path, 1, 0, NULL, 0, &place));
+    IS_NULL(typst_try_neighbor(session, path, 1, 0, found, 1, NULL));
+    IS_NULL(typst_try_open(NULL, 1, "a", 1));
+    IS_NULL(typst_try_open(session, 1, NULL, 1));
+    IS_PASSED(typst_try_open(session, 1, NULL, 0));
+    IS_NULL(typst_try_edit(NULL, 0, 0, "a", 1, &edited));
+    IS_NULL(typst_try_edit(session, 0, 0, NULL, 1, &edited));
+    IS_PASSED(typst_try_edit(session, 0, 0, NULL, 0, &edited));
+    IS_NULL(typst_try_edit(session, 0, 0, "a", 1, NULL));
+    IS_NULL(typst_try_len_lines(NULL, &size));
+    IS_NULL(typst_try_len_lines(session, NULL));
+    IS_NULL(typst_try_line_to_range(NULL, 0, &range));
+    IS_NULL(typst_try_line_to_range(session, 0, NULL));
+    IS_NULL(typst_try_text(NULL, 0, 0, text, 1, &length));
+    IS_NULL(typst_try_text(session, 0, 0, NULL, 1, &length));
+    IS_PASSED(typst_try_text(session, 0, 0, NULL, 0, &length));
+    IS_NULL(typst_try_text(session, 0, 0, text, 1, NULL));
+    IS_NULL(typst_try_byte_to_line_column(NULL, 0, 0, &line_column));
+    IS_NULL(typst_try_byte_to_line_column(session, 0, 0, NULL));
+    IS_NULL(typst_try_line_column_to_byte(NULL, 0, 0, 0, &size));
+    IS_NULL(typst_try_line_column_to_byte(session, 0, 0, 0, NULL));
+    IS_NULL(typst_try_kind_name(TYPST_KIND_TEXT, NULL, 1, &length));
+    IS_PASSED(typst_try_kind_name(TYPST_KIND_TEXT, NULL, 0, &length));
+    IS_NULL(typst_try_kind_name(TYPST_KIND_TEXT, text, 1, NULL));
+    IS_NULL(typst_try_kind_of_name(NULL, 1, &flag));
+    IS_PASSED(typst_try_kind_of_name(NULL, 0, &flag));
+    IS_NULL(typst_try_kind_of_name("a", 1, NULL));
+    IS_NULL(typst_try_kind_classes(TYPST_KIND_TEXT, NULL));
+    IS_NULL(typst_try_kind_in_set(TYPST_KIND_TEXT, 0, NULL));
+    typst_try_free(NULL);
+    typst_session_free(NULL);
+    typst_session_free(session);
+    typst_session_free(other);
+    printf("%lu calls with null pointers, and %lu went wrong\n", count, wrong);
+    return wrong != 0;
+}
