@@ -1,9 +1,9 @@
 //! What calls answer, in words.
 use std::alloc::{AllocError, Global};
 use std::fmt::Debug;
+use typst_node::Touched;
 use typst_session::finding::Found;
-use typst_session::{LineColumn, NodeInfo, Refusal};
-use typst_source::Edited;
+use typst_session::{Change, LineColumn, NodeInfo, Refusal, TextChange};
 use typst_tree::Renumbered;
 
 /// What a call answers in words, or why it is refused.
@@ -33,12 +33,38 @@ pub(crate) fn window(alloc: Global, outcome: Result<Renumbered, Refusal>) -> Ans
     }
 }
 
-/// The bytes that were parsed anew, and the window, as `0..3 parsed, 1..2 of 1`.
-pub(crate) fn edited(alloc: Global, outcome: Result<Edited, Refusal>) -> Answer {
+/// How deep the node is whose children were edited, and the window or the leaf there, as `1: 2..3 of 1` or `1: leaf 2`.
+fn changed(alloc: Global, change: &Change) -> Result<String, AllocError> {
+    let depth = change.depth;
+    match &change.touched {
+        Touched::Leaf { index } => format!(in alloc; "{depth}: leaf {index}"),
+        Touched::Window(done) => format!(in alloc; "{depth}: {:?} of {}", done.window, done.tried),
+    }
+}
+
+/// What an edit of the tree changed.
+pub(crate) fn change(alloc: Global, outcome: Result<Change, Refusal>) -> Answer {
+    match outcome {
+        Ok(done) => Ok(changed(alloc, &done)?),
+        Err(refusal) => Err(refusal),
+    }
+}
+
+/// What an update changed below the root, or `root`.
+pub(crate) fn update(alloc: Global, outcome: Result<Option<Change>, Refusal>) -> Answer {
+    match outcome {
+        Ok(Some(done)) => Ok(changed(alloc, &done)?),
+        Ok(None) => Ok(String::from_str(alloc, "root")?),
+        Err(refusal) => Err(refusal),
+    }
+}
+
+/// The bytes that were parsed anew, and what changed, as `0..3 parsed, 0: 1..2 of 1`.
+pub(crate) fn edited(alloc: Global, outcome: Result<TextChange, Refusal>) -> Answer {
     match outcome {
         Ok(done) => {
-            let window = window(alloc, Ok(done.renumbered))?;
-            Ok(format!(in alloc; "{:?} parsed, {window}", done.reparsed)?)
+            let change = changed(alloc, &done.change)?;
+            Ok(format!(in alloc; "{:?} parsed, {change}", done.reparsed)?)
         }
         Err(refusal) => Err(refusal),
     }

@@ -1,5 +1,6 @@
 //! Calls on a session, each with what it answers.
 use crate::answers::Answer;
+use crate::changes::{self, ChangeCall};
 use crate::finding::{self, FindCall};
 use crate::held::{self, HeldCall};
 use crate::kinds::{self, KindCall};
@@ -20,6 +21,8 @@ pub(crate) enum Call {
     Stack(StackCall),
     /// Changes what is held.
     Held(HeldCall),
+    /// Edits the tree, follows a number, or reads a part of a text.
+    Change(ChangeCall),
     /// Reads a node.
     Read(ReadCall),
     /// Finds a node.
@@ -58,6 +61,7 @@ fn answer(alloc: Global, session: &mut Session, call: Call) -> Answer {
     match call {
         Call::Stack(call) => stack::answer(alloc, session, call),
         Call::Held(call) => held::answer(alloc, session, call),
+        Call::Change(call) => changes::answer(alloc, session, call),
         Call::Read(call) => reading::answer(alloc, session, call),
         Call::Find(call) => finding::answer(alloc, session, call),
         Call::Remark(call) => remarks::answer(alloc, session, call),

@@ -5,7 +5,7 @@ use std::alloc::{AllocError, Global};
 use std::ops::Range;
 use std::test::Fail;
 use typst_lines::ColumnUnit;
-use typst_session::{Document, LineColumn, Refusal};
+use typst_session::{Change, Document, LineColumn, Refusal, TextChange};
 use typst_tree::FileId;
 
 /// A call on a document.
@@ -53,7 +53,12 @@ fn edit(alloc: Global, document: &mut Document, range: Range<usize>, with: &str)
         return Err(Refusal::Range);
     }
     match document.edit(alloc, range, with) {
-        Ok(done) => edited(alloc, Ok(done)),
+        Ok(done) => {
+            let (depth, touched) = (done.path.len(), done.touched);
+            let change = Change { depth, touched };
+            let reparsed = done.reparsed;
+            edited(alloc, Ok(TextChange { reparsed, change }))
+        }
         Err(error) => Err(Refusal::from(error)),
     }
 }
@@ -76,7 +81,7 @@ const CALLS: &[(DocumentCall, &str)] = &[
         Edit(0, 2, "x"),
         "the range doesn't fit the children or the text",
     ),
-    (Edit(0, 1, "x\n"), "0..6 parsed, 0..3 of 1"),
+    (Edit(0, 1, "x\n"), "0..6 parsed, 0: 0..3 of 1"),
     (
         Shown,
         "\"x\\n\u{e9}c\\n\" \"x\\n\u{e9}c\\n\", 3 lines, \

@@ -142,7 +142,7 @@ const EDITED: &[(Call, &str)] = &[
         Held(Edit(46, 47, b"")),
         "the range doesn't fit the children or the text",
     ),
-    (Held(Edit(19, 23, b"*text*")), "9..28 parsed, 2..6 of 1"),
+    (Held(Edit(19, 23, b"*text*")), "9..28 parsed, 0: 2..6 of 1"),
     (
         Nodes,
         r#"[], Markup: 48 [Heading: 7 [HeadingMarker: "=", Space: " ", Markup: 5 [Text: "Notes"]], Parbreak: "\n\n", Text: "Some more", Space: " ", Strong: 6 [Star: "*", Markup: 4 [Text: "text"], Star: "*"], Text: ".", Parbreak: "\n\n", Text: "The last paragraph.", Space: "\n"]"#,

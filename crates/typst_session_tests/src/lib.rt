@@ -6,6 +6,8 @@ mod answers;
 #[cfg(test)]
 mod calls;
 #[cfg(test)]
+mod changes;
+#[cfg(test)]
 mod documents;
 #[cfg(test)]
 mod finding;

@@ -66,7 +66,7 @@ const TEXT: &[(Call, &str)] = &[
         Line(LineColumnToByte(3, 0, Byte)),
         "the text has no such place",
     ),
-    (Held(Edit(6, 7, b"\r\n\n")), "0..14 parsed, 1..2 of 1"),
+    (Held(Edit(6, 7, b"\r\n\n")), "0..14 parsed, 0: 1..2 of 1"),
     (Line(LenLines), "4"),
     (
         Line(ByteToLineColumn(10, Byte)),

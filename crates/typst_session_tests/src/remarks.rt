@@ -91,8 +91,8 @@ const REMARKED: &[(Call, &str)] = &[
     (Held(Number(1, 10, 13)), "done"),
     (
         Remark(Diagnostics(6, 22)),
-        "done: 21 wrongthisoutersoinner# 5; 0 12 4..5 1 5; 2 1 0..0 0 4; 1 11 0..4 1 5; 2 1 0..0 0 2; 1 11 0..4 1 5; \
-        9 0 0..0 0 77",
+        "done: 21 wrongthisoutersoinner# 5; 301 12 4..5 1 5; 303 1 0..0 0 4; 302 11 0..4 1 5; \
+        303 1 0..0 0 2; 302 11 0..4 1 5; 9 0 0..0 0 77",
     ),
     (
         Remark(Diagnostics(1, 22)),
