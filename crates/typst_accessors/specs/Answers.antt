@@ -9,6 +9,7 @@ use Rattle.typst_accessors.specs.Nodes.{node_answered}
 use Rattle.typst_accessors.specs.Texts.{IsText}
 use Rattle.typst_accessors.specs.declared.accessor.Accessor.{Accessor}
 use Rattle.typst_accessors.specs.declared.accessor.Accessor.TheVariants as by
+use Rattle.typst_accessors.specs.declared.accessor.StringAccessor.TheVariants.{StrGet}
 use Rattle.typst_accessors.specs.declared.answer.Answer.{Answer}
 use Rattle.typst_accessors.specs.declared.answer.Answer.TheVariants.{Nothing, Flag, Natural, Integer, Character, Text, Owned, Node}
 use Rattle.typst_atoms.specs.Ints.{IsIntReading}
@@ -36,6 +37,10 @@ Says (by.String accessor) index node (Owned value) = IsStringValue (text_in node
 Says (by.Node accessor) index node answer = IsNode (node_answered accessor node) answer
 Says (by.Nodes accessor) index node answer = IsNode (slice_get (nodes_answered accessor node) index) answer
 Says _ _ _ _ = ⊥
+
+-- the accessor of the value of a string, the only one that takes memory
+abbrev pub string_value : Accessor
+string_value = by.String StrGet
 
 -- whether an accessor may have an answer with an index: one that answers several nodes, or any other at the index 0
 abbrev pub may_answer : Accessor → ℕ → Bool

@@ -1,7 +1,7 @@
 //! What an accessor answers of a node.
-ghost use Rattle.std.specs.Prelude.{◌≡◌, Some, IfOk, MatchOption};
+ghost use Rattle.std.specs.Prelude.{◌≡◌, Some, IfOk, IsErr, MatchOption};
 ghost use Rattle.typst_accessors.specs.Accessors.{accessor_view};
-ghost use Rattle.typst_accessors.specs.Answers.{Answers, Says, may_answer};
+ghost use Rattle.typst_accessors.specs.Answers.{Answers, Says, may_answer, string_value};
 ghost use Rattle.typst_accessors.specs.declared.answer.Answer.TheVariants.{Nothing, Natural, Node};
 ghost use Rattle.typst_node.specs.Views.{node_kind};
 
@@ -70,7 +70,8 @@ impl Accessor {
         index: usize,
     ) -> Result<Answer<'a>, AllocError>
         requires { node_kind node.now ≡ accessor_view self }
-        ensures { IfOk result (Says self index (Some node.now)) }
+        ensures said { IfOk result (Says self index (Some node.now)) }
+        ensures memory { IsErr result → self ≡ string_value }
     {
         match self {
             Accessor::Flag(accessor) => Ok(Answer::Flag(accessor.read(node))),
@@ -100,7 +101,8 @@ impl Accessor {
         node: &'a SyntaxNode,
         index: usize,
     ) -> Result<Answer<'a>, AllocError>
-        ensures { IfOk result (Answers self index node.now) }
+        ensures answers { IfOk result (Answers self index node.now) }
+        ensures memory { IsErr result → self ≡ string_value }
     {
         if node.kind() == self.view() && self.may_answer(index) {
             self.read(alloc, node, index)

@@ -1,7 +1,7 @@
 -- What a call tells of the answer of an accessor.
 use Rattle.std.specs.Prelude.{ℕ, ℤ, pos, ◌≡◌, Bool, true, false, cond, List, [], length, string_bytes, Result, Ok, Err}
 use Rattle.typst_accessors.specs.Accessors.{accessor_number}
-use Rattle.typst_accessors.specs.Answers.{Answers}
+use Rattle.typst_accessors.specs.Answers.{Answers, string_value}
 use Rattle.typst_accessors.specs.declared.accessor.Accessor.{Accessor as AnAccessor}
 use Rattle.typst_accessors.specs.declared.answer.Answer.{Answer}
 use Rattle.typst_accessors.specs.declared.answer.Answer.TheVariants.{Nothing, Flag, Natural, Integer, Character, Text, Owned, Node}
@@ -80,6 +80,6 @@ TellsOfNode path asked s old new has_room =
 abbrev pub ReadsView : List ℕ → Asked → Session → Told → Told → Result (Unit {0}) Refusal → Type 0
 ReadsView path asked s old new (Ok done) = TellsOfNode path asked s old new true
 ReadsView path asked s old new (Err Buffer) = TellsOfNode path asked s old new false
-ReadsView path asked s old new (Err Memory) = new ≡ old
+ReadsView path asked s old new (Err Memory) = (accessor_number string_value ≡ asked.accessor) × (new ≡ old)
 ReadsView path asked s old new (Err Accessor) = IsNoAccessor asked.accessor Accessor × (new ≡ old)
 ReadsView path asked s old new (Err refusal) = IsNoNode path s refusal × (new ≡ old)

@@ -7,7 +7,7 @@ use crate::refusal::Refusal;
 use crate::session::{Held, Session};
 use std::alloc::Global;
 use std::ops::Range;
-use typst_node::{Below, Reconciled, Touched, Updated};
+use typst_node::{Below, Touched};
 
 /// What an edit changed: children of one node.
 #[derive(Clone, Debug, PartialEq, Eq, Drop)]
@@ -58,18 +58,12 @@ impl Session {
         };
         let nodes = copies(alloc, &self.stack[start..])?;
         match tree.reconcile(alloc, path, range, nodes) {
-            Ok(
-                Reconciled {
-                    path,
-                    touched,
-                    moves,
-                },
-            ) => {
+            Ok(done) => {
                 self.stack.truncate(start);
-                self.moves = Some(moves);
+                self.moves = Some(done.moves);
                 Ok(Change {
-                    depth: path.len(),
-                    touched,
+                    depth: done.path.len(),
+                    touched: done.touched,
                 })
             }
             Err(error) => Err(Refusal::from(error)),
@@ -94,10 +88,10 @@ impl Session {
         };
         let node = node.clone()?;
         match tree.update(alloc, node) {
-            Ok(Updated { below, moves }) => {
+            Ok(done) => {
                 self.stack.pop();
-                self.moves = Some(moves);
-                Ok(change_below(below))
+                self.moves = Some(done.moves);
+                Ok(change_below(done.below))
             }
             Err(error) => Err(Refusal::from(error)),
         }

@@ -8,7 +8,6 @@ use crate::refusal::Refusal;
 use crate::session::{Held, Session};
 use std::alloc::Global;
 use std::ops::Range;
-use typst_source::Edited;
 use typst_tree::FileId;
 
 /// What an edit of a text did.
@@ -55,18 +54,13 @@ impl Session {
         if !document.fits(&range) {
             return Err(Refusal::Range);
         }
-        let Edited {
-            reparsed,
-            path,
-            touched,
-            moves,
-        } = document.edit(alloc, range, with)?;
-        self.moves = Some(moves);
+        let done = document.edit(alloc, range, with)?;
+        self.moves = Some(done.moves);
         Ok(TextChange {
-            reparsed,
+            reparsed: done.reparsed,
             change: Change {
-                depth: path.len(),
-                touched,
+                depth: done.path.len(),
+                touched: done.touched,
             },
         })
     }

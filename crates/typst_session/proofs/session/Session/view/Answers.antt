@@ -9,7 +9,7 @@ returns-then-tell c = (
   c.in_ok-accessor.ensures.ok,
   view_told (root_of c.args.self.now.held) c.args.path.now c.in-Ok.node.now c.in_ok-accessor.accessor c.args.asked.index c.in-Ok-answer.answer
       (record { bytes = c.args.out.now; answer = c.args.told.now }) (record { bytes = c.tell.new.out; answer = c.tell.new.told }) true
-      c.in-Ok.ensures.ok c.in-Ok-answer.ensures c.if-tell.ensures,
+      c.in-Ok.ensures.ok c.in-Ok-answer.ensures.answers c.if-tell.ensures,
 )
 
 pub returns-in-Ok-answer : goal.returns-in-Ok-answer
@@ -18,5 +18,5 @@ returns-in-Ok-answer c = (
   c.in_ok-accessor.ensures.ok,
   view_told (root_of c.args.self.now.held) c.args.path.now c.in-Ok.node.now c.in_ok-accessor.accessor c.args.asked.index c.in-Ok-answer.answer
       (record { bytes = c.args.out.now; answer = c.args.told.now }) (record { bytes = c.tell.new.out; answer = c.tell.new.told }) false
-      c.in-Ok.ensures.ok c.in-Ok-answer.ensures c.if-tell.ensures,
+      c.in-Ok.ensures.ok c.in-Ok-answer.ensures.answers c.if-tell.ensures,
 )
