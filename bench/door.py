@@ -20,7 +20,8 @@
 4. gcc compiles the examples and the tests in C with all warnings. They run under the sanitizers of addresses and of undefined
    behavior. One test makes calls that are drawn at random: a million, or as many as --calls says. Another refuses each request for
    memory in turn. A third makes each call that only reads on sessions in memory that can't be written, and a fourth passes null
-   pointers. Each example must print what the file `.stdout` next to it says. clang, if it is there, reads the comments of the headers.
+   pointers. A program that doesn't look at a status must not compile. Each example must print what the file `.stdout` next to it
+   says. clang, if it is there, reads the comments of the headers.
 5. cargo, offline, runs the tests, the lints and the documentation of the Rust crate. Its examples must print what the files
    `.stdout` next to them say. One of them carries out scripts: the vectors of scripts and the scripts in examples/.
 
@@ -286,7 +287,18 @@ def programs_in_c(folder, archive, calls):
     header = folder / "header.cc"
     header.write_text('#include "typst.h"\n')
     run(["g++", "-std=c++11", "-Wall", "-Wextra", "-Werror", f"-I{C}", "-fsyntax-only", header])
+    check_discards(folder)
     check_comments()
+
+
+def check_discards(folder):
+    """Whether gcc refuses a program that doesn't look at a status, and takes the same one if it does."""
+    for file, line, is_taken in [("looks.c", "return (int)typst_new(&session);", True), ("discards.c", "typst_new(&session);", False)]:
+        program = folder / file
+        program.write_text(f'#include "typst.h"\nint main(void)\n{{\n    typst_session session = TYPST_SESSION_INIT;\n    {line}\n}}\n')
+        said = subprocess.run(["gcc", *STRICT, "-c", program, "-o", folder / "program.o"], capture_output=True, text=True, check=False)
+        if (said.returncode == 0) != is_taken:
+            raise Differs(f"gcc {'takes' if not is_taken else 'refuses'} the line {line}\n{said.stderr}")
 
 
 def check_comments():
