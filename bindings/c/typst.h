@@ -16,7 +16,7 @@
  * - A session comes from `typst_session_new`. Or it is a struct of the caller's own, which TYPST_SESSION_INIT makes all zero before
  *   the first call. After that only calls change it. It is never copied.
  * - Calls on one session come one at a time. They may come from different threads. Two sessions share nothing, so two threads may use
- *   two sessions at the same time.
+ *   two sessions at the same time. A call that takes two sessions uses both.
  * - No call comes from a signal handler, or from the forked child of a process with threads.
  * - A text, a path or a buffer is a pointer to as many elements as the number after it says. No pointer is null, even if the number
  *   is 0. The functions `typst_try_` below test for null pointers, and accept a null pointer with the number 0.
@@ -369,7 +369,8 @@ TYPST_ASSERT(sizeof(typst_edited) == 56, "typst_edited");
 /** @{ */
 
 /**
- * Makes an empty session. It frees what the session held before.
+ * Makes an empty session of a struct that is TYPST_SESSION_INIT, or of one that was made before. In the second case it frees what the
+ * session held. Of any other struct it may free what its stale bytes point to.
  * @return TYPST_DONE or TYPST_NO_MEMORY. After TYPST_NO_MEMORY the session holds nothing.
  */
 TYPST_NODISCARD typst_status typst_new(typst_session *session);
@@ -550,7 +551,8 @@ TYPST_NODISCARD typst_status typst_children(const typst_session *session, const 
 
 /**
  * Reads all nodes of the subtree at a path in preorder: each node before its children, and the children in order. After a node come
- * the `descendants - 1` other nodes of its subtree, so a caller can skip a subtree. The path of a node isn't read; typst_find gives
+ * the `descendants - 1` other nodes of its subtree, so a caller can skip a subtree. The call takes time in proportion to the nodes,
+ * however deep they are, while a call for each path also goes down that path. The path of a node isn't read; typst_find gives
  * it for the node's number.
  * @param out receives what is read of each node.
  * @param room the number of elements that `out` has room for.
@@ -623,7 +625,7 @@ TYPST_NODISCARD typst_status typst_diagnostics(const typst_session *session, typ
 
 /**
  * Tells whether the subtrees at two paths of the tree are equal apart from numbers: they have the same kinds, texts, messages,
- * hints and warnings.
+ * hints and warnings. The first path is looked at before the second one.
  * @param equal receives 1 if they are equal, else 0.
  * @return TYPST_DONE, TYPST_NOT_MADE, TYPST_NO_TREE or TYPST_NO_NODE.
  */
@@ -632,7 +634,7 @@ TYPST_NODISCARD typst_status typst_spanless_eq_within(const typst_session *sessi
 
 /**
  * Tells whether the subtree at a path and a subtree of another session are equal apart from numbers. The two sessions must be
- * different ones: pass no session twice.
+ * different ones: pass no session twice. The first session is looked at before the second one, after both are found to be made.
  * @return TYPST_DONE, TYPST_NOT_MADE, TYPST_NO_TREE or TYPST_NO_NODE, each also for the other session.
  */
 TYPST_NODISCARD typst_status typst_spanless_eq(const typst_session *session, const size_t *path, size_t depth,
