@@ -1,6 +1,5 @@
 -- The codes of refusals, and the refusals for the errors of other crates.
 use Rattle.std.specs.Prelude.{ℕ}
-use Rattle.typst_node.specs.declared.node.replace.ReplaceError.{ReplaceError}
 use Rattle.typst_node.specs.declared.node.replace.ReplaceError.TheVariants as replace
 use Rattle.typst_source.specs.declared.error.SourceError.{SourceError}
 use Rattle.typst_source.specs.declared.error.SourceError.TheVariants as source
@@ -41,12 +40,6 @@ of_edit (edit.Range start end children) = Range
 of_edit (edit.Refused replace.Unnumberable) = Unnumberable
 of_edit (edit.Refused replace.Overflow) = Size
 of_edit (edit.Refused replace.Memory) = Memory
-
--- the refusal for an error of an update of a whole tree
-abbrev pub of_update : ReplaceError → Refusal
-of_update replace.Unnumberable = Unnumberable
-of_update replace.Overflow = Size
-of_update replace.Memory = Memory
 
 -- the refusal for an error of a text, or of an edit of a text
 abbrev pub of_source : SourceError → Refusal

@@ -7,7 +7,7 @@ use crate::refusal::Refusal;
 use crate::session::{Held, Session};
 use std::alloc::Global;
 use std::ops::Range;
-use typst_node::{Below, Touched};
+use typst_node::{Below, ReplaceError, Touched};
 
 /// What an edit changed: children of one node.
 #[derive(Clone, Debug, PartialEq, Eq, Drop)]
@@ -93,7 +93,9 @@ impl Session {
                 self.moves = Some(done.moves);
                 Ok(change_below(done.below))
             }
-            Err(error) => Err(Refusal::from(error)),
+            Err(ReplaceError::Unnumberable) => Err(Refusal::Unnumberable),
+            Err(ReplaceError::Memory) => Err(Refusal::Memory),
+            Err(ReplaceError::Overflow) => unreachable!(),
         }
     }
 

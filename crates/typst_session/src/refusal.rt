@@ -144,20 +144,6 @@ impl From<EditError> for Refusal {
     }
 }
 
-impl From<ReplaceError> for Refusal {
-    ghost use Rattle.typst_session.specs.Codes.{of_update};
-
-    ghost from_gives = { λ e r. r ≡ of_update e };
-
-    fn from(e: ReplaceError) -> Refusal {
-        match e {
-            ReplaceError::Unnumberable => Refusal::Unnumberable,
-            ReplaceError::Overflow => Refusal::Size,
-            ReplaceError::Memory => Refusal::Memory,
-        }
-    }
-}
-
 impl From<SourceError> for Refusal {
     ghost use Rattle.typst_session.specs.Codes.{of_source};
 
