@@ -19,7 +19,7 @@ CRATE = TOP / "crates/typst_grammar"
 WRITTEN = f"Written by bench/grammar.py from {TABLE}: change that and run it."
 WIDTH = 100  # of a line of code
 START = "document"  # the state of the outermost frame
-CONDITIONS = {"newline": "Newline"}
+CONDITIONS = {"newline": "Newline", "empty": "Empty"}
 LINE_FEEDS = {"stop": "Stop", "go": "Go"}
 
 

@@ -116,7 +116,7 @@ class Machine:
         for _ in range(MOST_LOOKS):
             top = self.frames[-1]
             ends = self.line and self.frames[self.judge].newline == "stop"
-            row = next((row for row in self.cells[top.state, "End" if ends else name] if not row.condition or self.line), None)
+            row = next((row for row in self.cells[top.state, "End" if ends else name] if self.holds(row.condition)), None)
             if row is None:
                 return self.put(node and Node("Error", node.text, "unexpected token"))
             words = self.table.states[row.call[0]].words if row.call else ()
@@ -131,6 +131,9 @@ class Machine:
             if row.takes:
                 return None
         return self.put(node and Node("Error", node.text, "unexpected token"))
+
+    def holds(self, condition):
+        return {"": True, "newline": self.line, "empty": self.body <= self.frames[-1].start}[condition]
 
     def call(self, state, enters, words):
         top = self.frames[-1]

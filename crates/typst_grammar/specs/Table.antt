@@ -134,13 +134,13 @@ row_13 = record {
   before = [];
   takes = true;
   after = actions.Goto states.HeadingRest ∷ [];
-  call = Some (record { state = states.HeadingLine; enters = false; is_deep = false; newline = None });
+  call = Some (record { state = states.HeadingBody; enters = false; is_deep = false; newline = None });
 }
 
 abbrev pub row_14 : Row
 row_14 = record {
   condition = conditions.Newline;
-  before = actions.Goto states.HeadingBody ∷ [];
+  before = actions.Wrap kinds.Markup ∷ actions.Return ∷ [];
   takes = false;
   after = [];
   call = None;
@@ -148,8 +148,8 @@ row_14 = record {
 
 abbrev pub row_15 : Row
 row_15 = record {
-  condition = conditions.Always;
-  before = actions.Flush ∷ actions.Goto states.HeadingBody ∷ [];
+  condition = conditions.Empty;
+  before = actions.Flush ∷ actions.Wrap kinds.Markup ∷ actions.Return ∷ [];
   takes = false;
   after = [];
   call = None;
@@ -161,7 +161,7 @@ row_16 = record {
   before = [];
   takes = true;
   after = actions.Goto states.ItemRest1 ∷ [];
-  call = Some (record { state = states.ItemLine; enters = false; is_deep = false; newline = None });
+  call = Some (record { state = states.ItemBody; enters = false; is_deep = false; newline = None });
 }
 
 abbrev pub row_17 : Row
@@ -170,13 +170,13 @@ row_17 = record {
   before = [];
   takes = true;
   after = actions.Goto states.ItemRest2 ∷ [];
-  call = Some (record { state = states.ItemLine; enters = false; is_deep = false; newline = None });
+  call = Some (record { state = states.ItemBody; enters = false; is_deep = false; newline = None });
 }
 
 abbrev pub row_18 : Row
 row_18 = record {
-  condition = conditions.Newline;
-  before = actions.Goto states.ItemBody ∷ [];
+  condition = conditions.Always;
+  before = actions.Wrap kinds.Heading ∷ actions.Return ∷ [];
   takes = false;
   after = [];
   call = None;
@@ -185,7 +185,7 @@ row_18 = record {
 abbrev pub row_19 : Row
 row_19 = record {
   condition = conditions.Always;
-  before = actions.Flush ∷ actions.Goto states.ItemBody ∷ [];
+  before = actions.Wrap kinds.ListItem ∷ actions.Return ∷ [];
   takes = false;
   after = [];
   call = None;
@@ -193,24 +193,6 @@ row_19 = record {
 
 abbrev pub row_20 : Row
 row_20 = record {
-  condition = conditions.Always;
-  before = actions.Wrap kinds.Heading ∷ actions.Return ∷ [];
-  takes = false;
-  after = [];
-  call = None;
-}
-
-abbrev pub row_21 : Row
-row_21 = record {
-  condition = conditions.Always;
-  before = actions.Wrap kinds.ListItem ∷ actions.Return ∷ [];
-  takes = false;
-  after = [];
-  call = None;
-}
-
-abbrev pub row_22 : Row
-row_22 = record {
   condition = conditions.Always;
   before = actions.Wrap kinds.EnumItem ∷ actions.Return ∷ [];
   takes = false;
@@ -266,16 +248,12 @@ abbrev pub heading : Class → List Row
 heading classes.HeadingMarker = row_13 ∷ []
 heading _ = []
 
--- what follows the marker of a heading
-abbrev pub heading_line : Class → List Row
-heading_line _ = row_14 ∷ row_15 ∷ []
-
 -- the content of a heading
 abbrev pub heading_body : Class → List Row
-heading_body classes.End = row_6 ∷ []
+heading_body classes.End = row_14 ∷ row_15 ∷ row_6 ∷ []
 heading_body classes.Star = row_1 ∷ []
 heading_body classes.Underscore = row_2 ∷ []
-heading_body classes.Label = row_6 ∷ []
+heading_body classes.Label = row_14 ∷ row_15 ∷ row_6 ∷ []
 heading_body _ = row_0 ∷ []
 
 -- an item of a list with its marker
@@ -284,28 +262,24 @@ item classes.ListMarker = row_16 ∷ []
 item classes.EnumMarker = row_17 ∷ []
 item _ = []
 
--- what follows the marker of an item
-abbrev pub item_line : Class → List Row
-item_line _ = row_18 ∷ row_19 ∷ []
-
 -- the content of an item
 abbrev pub item_body : Class → List Row
-item_body classes.End = row_6 ∷ []
+item_body classes.End = row_14 ∷ row_15 ∷ row_6 ∷ []
 item_body classes.Star = row_1 ∷ []
 item_body classes.Underscore = row_2 ∷ []
 item_body _ = row_0 ∷ []
 
 -- the rest of a row of `heading`, once the frame that it opened has returned
 abbrev pub heading_rest : Class → List Row
-heading_rest _ = row_20 ∷ []
+heading_rest _ = row_18 ∷ []
 
 -- the rest of a row of `item`, once the frame that it opened has returned
 abbrev pub item_rest1 : Class → List Row
-item_rest1 _ = row_21 ∷ []
+item_rest1 _ = row_19 ∷ []
 
 -- the rest of a row of `item`, once the frame that it opened has returned
 abbrev pub item_rest2 : Class → List Row
-item_rest2 _ = row_22 ∷ []
+item_rest2 _ = row_20 ∷ []
 
 -- the rows of a state for a class of tokens
 unfoldable pub rows : State → Class → List Row
@@ -317,10 +291,8 @@ rows states.Emph class = emph class
 rows states.EmphBody class = emph_body class
 rows states.EmphClose class = emph_close class
 rows states.Heading class = heading class
-rows states.HeadingLine class = heading_line class
 rows states.HeadingBody class = heading_body class
 rows states.Item class = item class
-rows states.ItemLine class = item_line class
 rows states.ItemBody class = item_body class
 rows states.HeadingRest class = heading_rest class
 rows states.ItemRest1 class = item_rest1 class

@@ -24,6 +24,8 @@ pub enum Condition {
     Always,
     /// If a line feed is in the white space before the token.
     Newline,
+    /// If the innermost frame has no nodes yet.
+    Empty,
 }
 
 /// What a line feed before a token does.

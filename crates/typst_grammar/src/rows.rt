@@ -2,7 +2,7 @@
 //! The rows of the syntax.
 ghost use Rattle.std.specs.Prelude.{◌≡◌};
 ghost use Rattle.typst_grammar.specs.Row.{rows_of};
-ghost use Rattle.typst_grammar.specs.Table.{document, emph, emph_body, emph_close, heading, heading_body, heading_line, heading_rest, item, item_body, item_line, item_rest1, item_rest2, rows, strong, strong_body, strong_close};
+ghost use Rattle.typst_grammar.specs.Table.{document, emph, emph_body, emph_close, heading, heading_body, heading_rest, item, item_body, item_rest1, item_rest2, rows, strong, strong_body, strong_close};
 
 use crate::row::{Action, Call, Condition, Newline, Row};
 use typst_base::SyntaxKind;
@@ -47,14 +47,10 @@ pub enum State {
     EmphClose,
     /// A heading with its marker.
     Heading,
-    /// What follows the marker of a heading.
-    HeadingLine,
     /// The content of a heading.
     HeadingBody,
     /// An item of a list with its marker.
     Item,
-    /// What follows the marker of an item.
-    ItemLine,
     /// The content of an item.
     ItemBody,
     /// The rest of a row of `heading`, once the frame that it opened has returned.
@@ -231,7 +227,7 @@ const ROW_13: Row = Row {
     takes: true,
     after: &[Action::Goto(State::HeadingRest)],
     call: Some(Call {
-        state: State::HeadingLine,
+        state: State::HeadingBody,
         enters: false,
         is_deep: false,
         newline: None,
@@ -241,7 +237,7 @@ const ROW_13: Row = Row {
 /// Row 14.
 const ROW_14: Row = Row {
     condition: Condition::Newline,
-    before: &[Action::Goto(State::HeadingBody)],
+    before: &[Action::Wrap(SyntaxKind::Markup), Action::Return],
     takes: false,
     after: &[],
     call: None,
@@ -249,8 +245,12 @@ const ROW_14: Row = Row {
 
 /// Row 15.
 const ROW_15: Row = Row {
-    condition: Condition::Always,
-    before: &[Action::Flush, Action::Goto(State::HeadingBody)],
+    condition: Condition::Empty,
+    before: &[
+        Action::Flush,
+        Action::Wrap(SyntaxKind::Markup),
+        Action::Return,
+    ],
     takes: false,
     after: &[],
     call: None,
@@ -263,7 +263,7 @@ const ROW_16: Row = Row {
     takes: true,
     after: &[Action::Goto(State::ItemRest1)],
     call: Some(Call {
-        state: State::ItemLine,
+        state: State::ItemBody,
         enters: false,
         is_deep: false,
         newline: None,
@@ -277,7 +277,7 @@ const ROW_17: Row = Row {
     takes: true,
     after: &[Action::Goto(State::ItemRest2)],
     call: Some(Call {
-        state: State::ItemLine,
+        state: State::ItemBody,
         enters: false,
         is_deep: false,
         newline: None,
@@ -286,8 +286,8 @@ const ROW_17: Row = Row {
 
 /// Row 18.
 const ROW_18: Row = Row {
-    condition: Condition::Newline,
-    before: &[Action::Goto(State::ItemBody)],
+    condition: Condition::Always,
+    before: &[Action::Wrap(SyntaxKind::Heading), Action::Return],
     takes: false,
     after: &[],
     call: None,
@@ -296,7 +296,7 @@ const ROW_18: Row = Row {
 /// Row 19.
 const ROW_19: Row = Row {
     condition: Condition::Always,
-    before: &[Action::Flush, Action::Goto(State::ItemBody)],
+    before: &[Action::Wrap(SyntaxKind::ListItem), Action::Return],
     takes: false,
     after: &[],
     call: None,
@@ -304,24 +304,6 @@ const ROW_19: Row = Row {
 
 /// Row 20.
 const ROW_20: Row = Row {
-    condition: Condition::Always,
-    before: &[Action::Wrap(SyntaxKind::Heading), Action::Return],
-    takes: false,
-    after: &[],
-    call: None,
-};
-
-/// Row 21.
-const ROW_21: Row = Row {
-    condition: Condition::Always,
-    before: &[Action::Wrap(SyntaxKind::ListItem), Action::Return],
-    takes: false,
-    after: &[],
-    call: None,
-};
-
-/// Row 22.
-const ROW_22: Row = Row {
     condition: Condition::Always,
     before: &[Action::Wrap(SyntaxKind::EnumItem), Action::Return],
     takes: false,
@@ -416,19 +398,12 @@ fn heading(class: Class) -> &'static [Row]
     }
 }
 
-/// The rows of the state `heading.line`.
-fn heading_line(_class: Class) -> &'static [Row]
-    ensures { rows_of result.now ≡ heading_line _class }
-{
-    &[ROW_14, ROW_15]
-}
-
 /// The rows of the state `heading.body`.
 fn heading_body(class: Class) -> &'static [Row]
     ensures { rows_of result.now ≡ heading_body class }
 {
     match class {
-        Class::End | Class::Label => &[ROW_6],
+        Class::End | Class::Label => &[ROW_14, ROW_15, ROW_6],
         Class::Star => &[ROW_1],
         Class::Underscore => &[ROW_2],
         _ => &[ROW_0],
@@ -446,19 +421,12 @@ fn item(class: Class) -> &'static [Row]
     }
 }
 
-/// The rows of the state `item.line`.
-fn item_line(_class: Class) -> &'static [Row]
-    ensures { rows_of result.now ≡ item_line _class }
-{
-    &[ROW_18, ROW_19]
-}
-
 /// The rows of the state `item.body`.
 fn item_body(class: Class) -> &'static [Row]
     ensures { rows_of result.now ≡ item_body class }
 {
     match class {
-        Class::End => &[ROW_6],
+        Class::End => &[ROW_14, ROW_15, ROW_6],
         Class::Star => &[ROW_1],
         Class::Underscore => &[ROW_2],
         _ => &[ROW_0],
@@ -469,21 +437,21 @@ fn item_body(class: Class) -> &'static [Row]
 fn heading_rest(_class: Class) -> &'static [Row]
     ensures { rows_of result.now ≡ heading_rest _class }
 {
-    &[ROW_20]
+    &[ROW_18]
 }
 
 /// The rows of the state `item.rest1`.
 fn item_rest1(_class: Class) -> &'static [Row]
     ensures { rows_of result.now ≡ item_rest1 _class }
 {
-    &[ROW_21]
+    &[ROW_19]
 }
 
 /// The rows of the state `item.rest2`.
 fn item_rest2(_class: Class) -> &'static [Row]
     ensures { rows_of result.now ≡ item_rest2 _class }
 {
-    &[ROW_22]
+    &[ROW_20]
 }
 
 /// The rows of a state for a class of tokens. The first one that fits is done.
@@ -500,10 +468,8 @@ pub fn rows(state: State, class: Class) -> &'static [Row]
         State::EmphBody => emph_body(class),
         State::EmphClose => emph_close(class),
         State::Heading => heading(class),
-        State::HeadingLine => heading_line(class),
         State::HeadingBody => heading_body(class),
         State::Item => item(class),
-        State::ItemLine => item_line(class),
         State::ItemBody => item_body(class),
         State::HeadingRest => heading_rest(class),
         State::ItemRest1 => item_rest1(class),

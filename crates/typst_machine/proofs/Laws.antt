@@ -11,7 +11,7 @@ use Rattle.typst_grammar.specs.declared.row.Action.{Action}
 use Rattle.typst_grammar.specs.declared.row.Action.TheVariants.{Goto, Return, Wrap, Flush, Unclosed}
 use Rattle.typst_grammar.specs.declared.row.Call.{Call}
 use Rattle.typst_lexer.specs.Tokens.{Piece, joined as joined_bytes}
-use Rattle.typst_machine.specs.Actions.{act, acts, as_unclosed, expected, is_error_kind, joined, own_levels, own_nodes, returned_by, whitened, wrapped}
+use Rattle.typst_machine.specs.Actions.{act, acts, as_unclosed, expected, is_error_kind, joined, own_nodes, returned_by, whitened, wrapped}
 use Rattle.typst_machine.specs.Last.{last_of}
 use Rattle.typst_machine.specs.Rows.{Table, row_for}
 use Rattle.typst_machine.specs.Stack.{Stack, start}
@@ -42,21 +42,21 @@ expected_same message s =
 
 wrapped_same : (most : ℕ) (kind : SyntaxKind) (s : Stack) → Same s.nodes (wrapped most kind s).nodes
 wrapped_same most kind s =
-    elim (is_error_kind kind) as (λ b. Same s.nodes (cond b s (cond (nat_lt (own_levels s) most) (joined kind s) (expected TooTall s))).nodes) [
+    elim (is_error_kind kind) as (λ b. Same s.nodes (cond b s (cond (nat_lt (s.top.levels) most) (joined kind s) (expected TooTall s))).nodes) [
       | true ↦ same s.nodes
-      | false ↦ elim (nat_lt (own_levels s) most) as (λ b. Same s.nodes (cond b (joined kind s) (expected TooTall s)).nodes) [
-          | true ↦ joined_same kind s
-          | false ↦ expected_same TooTall s
-        ]
+      | false ↦ elim (nat_lt (s.top.levels) most) as (λ b. Same s.nodes (cond b (joined kind s) (expected TooTall s)).nodes) [
+        | true ↦ joined_same kind s
+        | false ↦ expected_same TooTall s
+      ]
     ]
 
 -- the nodes that become one node fit
 pub joined_fits : (kind : SyntaxKind) (s : Stack) → SumsFit (joined kind s).nodes → SumsFit (own_nodes s)
 joined_fits kind s fits = inside_fits kind (take s.top.start (take s.body s.nodes)) (own_nodes s) (drop s.body s.nodes) fits
 
-pub wrapped_fits : (most : ℕ) (kind : SyntaxKind) (s : Stack) → is_error_kind kind ≡ false → nat_lt (own_levels s) most ≡ true → SumsFit (wrapped most kind s).nodes → SumsFit (own_nodes s)
+pub wrapped_fits : (most : ℕ) (kind : SyntaxKind) (s : Stack) → is_error_kind kind ≡ false → nat_lt (s.top.levels) most ≡ true → SumsFit (wrapped most kind s).nodes → SumsFit (own_nodes s)
 wrapped_fits most kind s proper low fits =
-    joined_fits kind s (subst (λ (u : Stack). SumsFit u.nodes) (ap (λ b. cond b s (cond (nat_lt (own_levels s) most) (joined kind s) (expected TooTall s))) proper ∙ ap (λ b. cond b (joined kind s) (expected TooTall s)) low) fits)
+    joined_fits kind s (subst (λ (u : Stack). SumsFit u.nodes) (ap (λ b. cond b s (cond (nat_lt (s.top.levels) most) (joined kind s) (expected TooTall s))) proper ∙ ap (λ b. cond b (joined kind s) (expected TooTall s)) low) fits)
 
 returned_same : (o : Option (List Frame × Frame)) (s : Stack) → Same s.nodes (returned_by o s).nodes
 returned_same None s = same s.nodes

@@ -1,5 +1,5 @@
 -- What the code does, in the words of the definitions.
-use Rattle.std.proofs.Common.{◌≡◌, ℕ, zero, suc, ◌+◌, ◌-◌, ◌<◌, ◌≤◌, min, nat_le, true, false, cond, List, [], ◌∷◌, ◌++◌, length, drop, get_or, Option, refl, sym, ap, subst, ◌∙◌, arith}
+use Rattle.std.proofs.Common.{◌≡◌, ℕ, zero, suc, ◌+◌, ◌-◌, ◌<◌, ◌≤◌, max, min, nat_le, true, false, cond, List, [], ◌∷◌, ◌++◌, length, drop, get_or, Option, refl, sym, ap, subst, ◌∙◌, arith}
 use Rattle.std.proofs.Math.ListN.{set}
 use Rattle.std.proofs.Math.Seq.{drop-cons}
 use Rattle.typst_grammar.specs.declared.message.Message.TheVariants.{Unexpected}
@@ -29,10 +29,16 @@ changed_past f (x ∷ xs) zero past = absurd (omega arith)
 changed_past f (x ∷ xs) (suc i) past = ap (λ ys. x ∷ ys) (changed_past f xs i (omega arith))
 
 -- the innermost frame is popped
-pub popped : (s : Stack) (rest : List Frame) (f : Frame) (newline : Newline) (judge : ℕ) → s.below ≡ rest ++ f ∷ [] → newline ≡ cond (nat_le (length s.below) s.judge) f.newline s.newline → judge ≡ min s.judge (length rest)
-    → (let t : Stack = record s { top = f; below = rest; newline = newline; judge = judge } in t) ≡ returned s
-popped s rest f newline judge were line at =
-    (λ i. record s { top = f; below = rest; newline = line i; judge = at i }) ∙ sym (ap (λ o. returned_by o s) (ap last_of were ∙ last_push rest f))
+pub popped : (s : Stack) (rest : List Frame) (f : Frame) (levels : ℕ) (newline : Newline) (judge : ℕ) → s.below ≡ rest ++ f ∷ [] → levels ≡ max f.levels s.top.levels
+    → newline ≡ cond (nat_le (length s.below) s.judge) f.newline s.newline → judge ≡ min s.judge (length rest)
+    → (let t : Stack = record s { top = record f { levels = levels }; below = rest; newline = newline; judge = judge } in t) ≡ returned s
+popped s rest f levels newline judge were high line at =
+    (λ i. record s { top = record f { levels = high i }; below = rest; newline = line i; judge = at i }) ∙ sym (ap (λ o. returned_by o s) (ap last_of were ∙ last_push rest f))
+
+-- without actions the stack stays
+pub no_actions : (most : ℕ) (all : List Action) (s : Stack) → length all ≡ 0 → acts most all s ≡ s
+no_actions most [] s none = refl
+no_actions most (a ∷ all) s none = absurd (omega (arith, none))
 
 -- what an action leaves fits, if what all leave does
 pub acts_fit : (most : ℕ) (all : List Action) (i : ℕ) (d : Action) (s end : Stack) → i < length all → acts most (drop i all) s ≡ end → SumsFit end.nodes → SumsFit (act most (get_or all i d) s).nodes

@@ -13,7 +13,7 @@ use Rattle.typst_grammar.specs.declared.row.Call.{Call}
 use Rattle.typst_lexer.specs.Tokens.{Piece}
 use Rattle.typst_lexer.specs.declared.token.TokenKind.{TokenKind}
 use Rattle.typst_lexer.specs.declared.token.TokenKind.TheVariants as tokens
-use Rattle.typst_machine.specs.Actions.{act, acts, as_unclosed, changed_at, expected, is_error_kind, joined, own_levels, own_nodes, returned_by, whitened, wrapped}
+use Rattle.typst_machine.specs.Actions.{act, acts, as_unclosed, changed_at, expected, is_error_kind, joined, own_nodes, returned_by, whitened, wrapped}
 use Rattle.typst_machine.specs.Last.{last_of}
 use Rattle.typst_machine.specs.Raw.{some_leaf, line_trees, lines, open_len, close_at, lang_len, head_len, tail_at, trimmed_behind, trimmed, block_parts, parts, closed_parts, raw_tree}
 use Rattle.typst_machine.specs.Rows.{Table, row_for}
@@ -123,21 +123,21 @@ joined_plain kind s g =
 
 wrapped_plain : (most : ℕ) (kind : SyntaxKind) (s : Stack) → ArePlain s.nodes → ArePlain (wrapped most kind s).nodes
 wrapped_plain most kind s g =
-    elim (is_error_kind kind) as (λ b. ArePlain (cond b s (cond (nat_lt (own_levels s) most) (joined kind s) (expected messages.TooTall s))).nodes) [
+    elim (is_error_kind kind) as (λ b. ArePlain (cond b s (cond (nat_lt (s.top.levels) most) (joined kind s) (expected messages.TooTall s))).nodes) [
       | true ↦ g
-      | false ↦ elim (nat_lt (own_levels s) most) as (λ b. ArePlain (cond b (joined kind s) (expected messages.TooTall s)).nodes) [
-          | true ↦ joined_plain kind s g
-          | false ↦ expected_plain messages.TooTall s g
-        ]
+      | false ↦ elim (nat_lt (s.top.levels) most) as (λ b. ArePlain (cond b (joined kind s) (expected messages.TooTall s)).nodes) [
+        | true ↦ joined_plain kind s g
+        | false ↦ expected_plain messages.TooTall s g
+      ]
     ]
 
 unclosed_plain : (t : Tree) → plain t ≡ t → plain (as_unclosed t) ≡ as_unclosed t
 unclosed_plain t is =
     elim (count t == 1) as (λ b. plain (cond b (as_error (message_text messages.Unclosed) [] t) t) ≡ cond b (as_error (message_text messages.Unclosed) [] t) t) [
       | true ↦ elim (is_error t.label) as (λ b. plain (cond b t (hinted [] (error_tree (message_text messages.Unclosed) (text t)))) ≡ cond b t (hinted [] (error_tree (message_text messages.Unclosed) (text t)))) [
-          | true ↦ is
-          | false ↦ refl
-        ]
+        | true ↦ is
+        | false ↦ refl
+      ]
       | false ↦ is
     ]
 

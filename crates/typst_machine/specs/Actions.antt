@@ -20,9 +20,9 @@ use Rattle.typst_node.specs.Hints.{error_tree}
 use Rattle.typst_node.specs.Tree.{Tree, inner_tree}
 use denote.Enum.Bare.{sameb}
 
--- A token's node goes behind all others. It may have two levels. The innermost frame now says what a line feed does.
+-- A token's node goes behind all others. The innermost frame now says what a line feed does.
 abbrev pub pushed : Tree → Stack → Stack
-pushed t s = record s { nodes = s.nodes ++ t ∷ []; levels = s.levels ++ 2 ∷ []; body = length s.nodes + 1; line = false; newline = s.top.newline; judge = length s.below }
+pushed t s = record s { nodes = s.nodes ++ t ∷ []; body = length s.nodes + 1; line = false; newline = s.top.newline; judge = length s.below }
 
 -- a frame that doesn't enter the white space before its first token begins behind it
 abbrev pub led : ℕ → Frame → Frame
@@ -30,18 +30,20 @@ led n f = if not f.enters && nat_le n f.start then record f { start = n + 1 } el
 
 -- white space before the next token
 abbrev pub whitened : Tree → Bool → Stack → Stack
-whitened t line s = record s { nodes = s.nodes ++ t ∷ []; levels = s.levels ++ 2 ∷ []; line = line; top = led (length s.nodes) s.top }
+whitened t line s = record s { nodes = s.nodes ++ t ∷ []; line = line; top = led (length s.nodes) s.top }
 
 -- what a line feed does in a frame that opens in another one
 abbrev pub inherited : Option Newline → Newline → Newline
 inherited None old = old
 inherited (Some new) old = new
 
--- the frame that opens in another one, behind the white space before the next token or before it
+-- The frame that opens in another one, behind the white space before the next token or before it. The node of a token has
+-- at most two levels.
 abbrev pub opened_frame : Call → Stack → Frame
 opened_frame c s = record {
   state = c.state;
   start = if c.enters then s.body else length s.nodes;
+  levels = 2;
   enters = c.enters;
   room = if c.is_deep then s.top.room - 1 else s.top.room;
   newline = inherited c.newline s.top.newline;
@@ -63,11 +65,15 @@ in_state state f = record f { state = state }
 abbrev pub gone_to : State → Stack → Stack
 gone_to state s = record s { top = in_state state s.top }
 
+-- the frame around one that ends, which gets its nodes
+abbrev pub rejoined : ℕ → Frame → Frame
+rejoined levels f = record f { levels = max f.levels levels }
+
 -- The innermost frame ends, unless it is the outermost. If it said what a line feed does, the frame around it now does.
 abbrev pub returned_by : Option (List Frame × Frame) → Stack → Stack
 returned_by None s = s
 returned_by (Some p) s = record s {
-  top = p.1;
+  top = rejoined s.top.levels p.1;
   below = p.0;
   newline = if nat_le (length s.below) s.judge then p.1.newline else s.newline;
   judge = min s.judge (length p.0);
@@ -77,30 +83,24 @@ abbrev pub returned : Stack → Stack
 returned s = returned_by (last_of s.below) s
 
 -- other nodes before the white space before the next token
-abbrev pub placed : List Tree → List ℕ → Stack → Stack
-placed ts ls s = record s { nodes = ts ++ drop s.body s.nodes; levels = ls ++ drop s.body s.levels; body = length ts }
+abbrev pub placed : List Tree → Stack → Stack
+placed ts s = record s { nodes = ts ++ drop s.body s.nodes; body = length ts }
 
 -- an error without text before the white space before the next token
 abbrev pub expected : Message → Stack → Stack
-expected message s = placed (take s.body s.nodes ++ error_tree (message_text message) [] ∷ []) (take s.body s.levels ++ 2 ∷ []) s
+expected message s = placed (take s.body s.nodes ++ error_tree (message_text message) [] ∷ []) s
 
--- the greatest of some numbers
-abbrev pub greatest : List ℕ → ℕ
-greatest [] = 0
-greatest (n ∷ ns) = max n (greatest ns)
-
--- the nodes of the innermost frame, and how many levels they may have
+-- the nodes of the innermost frame
 abbrev pub own_nodes : Stack → List Tree
 own_nodes s = drop s.top.start (take s.body s.nodes)
 
-abbrev pub own_levels : Stack → ℕ
-own_levels s = greatest (drop s.top.start (take s.body s.levels))
+-- the frame, one level higher
+abbrev pub raised : Frame → Frame
+raised f = record f { levels = suc f.levels }
 
 -- one node in place of those of the innermost frame
 abbrev pub joined : SyntaxKind → Stack → Stack
-joined kind s = placed
-    (take s.top.start (take s.body s.nodes) ++ inner_tree kind (own_nodes s) ∷ [])
-    (take s.top.start (take s.body s.levels) ++ suc (own_levels s) ∷ []) s
+joined kind s = record (placed (take s.top.start (take s.body s.nodes) ++ inner_tree kind (own_nodes s) ∷ []) s) { top = raised s.top }
 
 abbrev pub is_error_kind : SyntaxKind → Bool
 is_error_kind kind = sameb the_type kind kinds.Error
@@ -109,7 +109,7 @@ is_error_kind kind = sameb the_type kind kinds.Error
 abbrev pub wrapped : ℕ → SyntaxKind → Stack → Stack
 wrapped most kind s =
     if is_error_kind kind then s
-    else (if nat_lt (own_levels s) most then joined kind s else expected messages.TooTall s)
+    else (if nat_lt s.top.levels most then joined kind s else expected messages.TooTall s)
 
 -- the list with a change at a place
 abbrev pub changed_at : {X : Type 0} → (X → X) → ℕ → List X → List X

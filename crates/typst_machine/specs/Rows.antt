@@ -1,5 +1,5 @@
 -- The table, and which of its rows is done.
-use Rattle.std.specs.Prelude.{ℕ, ◌&&◌, Bool, true, false, List, [], ◌∷◌, Option, Some, None, if◌then◌else◌}
+use Rattle.std.specs.Prelude.{ℕ, ◌&&◌, nat_le, Bool, true, false, List, [], ◌∷◌, Option, Some, None, if◌then◌else◌}
 use Rattle.typst_grammar.specs.Row.{Row}
 use Rattle.typst_grammar.specs.declared.row.Condition.{Condition}
 use Rattle.typst_grammar.specs.declared.row.Condition.TheVariants as conditions
@@ -40,20 +40,25 @@ abbrev pub stops : Newline → Bool
 stops Go = false
 stops Stop = true
 
--- the class that a token reads as: the end, if a line feed before it ends what is open
-abbrev pub seen : Option Piece → Stack → Class
-seen next s = if s.line && stops s.newline then classes.End else class_of_next next
+-- the class that a token of a class reads as: the end, if a line feed before it ends what is open
+abbrev pub seen : Class → Stack → Class
+seen class s = if s.line && stops s.newline then classes.End else class
 
 -- whether a condition holds
 abbrev pub holds : Condition → Stack → Bool
 holds conditions.Always s = true
 holds conditions.Newline s = s.line
+holds conditions.Empty s = nat_le s.body s.top.start
 
 -- the first row that fits
 abbrev pub first_row : List Row → Stack → Option Row
 first_row [] s = None
 first_row (r ∷ rs) s = if holds r.condition s then Some r else first_row rs s
 
+-- the row for a token of a class, if there is one
+abbrev pub row_of_class : Table → Class → Stack → Option Row
+row_of_class t class s = first_row (t.rows s.top.state (seen class s)) s
+
 -- the row for the next token, if there is one
 abbrev pub row_for : Table → Option Piece → Stack → Option Row
-row_for t next s = first_row (t.rows s.top.state (seen next s)) s
+row_for t next s = row_of_class t (class_of_next next) s

@@ -1,11 +1,11 @@
 //! What actions do with the stack.
 ghost use Rattle.std.specs.Prelude.{◌≡◌, ◌+◌, ◌<◌, ◌^◌, false, if◌then◌else◌, OnOk, IsErrOf};
-ghost use Rattle.typst_machine.specs.Actions.{act, acts, as_unclosed, called, expected, is_error_kind, joined, own_levels, returned, unclosed, wrapped};
+ghost use Rattle.typst_machine.specs.Actions.{act, acts, as_unclosed, called, expected, is_error_kind, joined, returned, unclosed, wrapped};
 ghost use Rattle.typst_machine.specs.View.{stack_of};
 ghost use Rattle.typst_node.specs.Count.{SumsFit};
 ghost use Rattle.typst_node.specs.declared.node.build.InnerError.TheVariants.{Overflow};
 
-use crate::stack::{Stack, cut, greatest};
+use crate::stack::{Frame, Stack, cut};
 use std::alloc::{AllocError, Global};
 use typst_base::SyntaxKind;
 use typst_grammar::{Action, Call, Message, Newline};
@@ -44,7 +44,6 @@ impl Stack {
     }
 
     /// Ends the innermost frame, unless it is the outermost.
-    #[tactic(auto, using(crate::proofs::Links::popped))]
     fn end_frame(&mut self)
         ensures { stack_of self.new ≡ returned (stack_of self.old) }
     {
@@ -52,50 +51,38 @@ impl Stack {
         if let Some(frame) = self.below.pop() {
             self.newline = chosen(judges, frame.newline, self.newline);
             self.judge = self.judge.min(self.below.len());
-            self.top = frame;
+            self.top = Frame {
+                levels: frame.levels.max(self.top.levels),
+                ..frame
+            };
         }
-    }
-
-    /// How many levels the nodes of the innermost frame may have.
-    fn own_levels(&self) -> usize
-        ensures { result ≡ own_levels (stack_of self.now) }
-    {
-        let (own, _) = self.levels.split_at(self.body.min(self.levels.len()));
-        let (_, own) = own.split_at(self.top.start.min(own.len()));
-        greatest(own)
     }
 
     /// Puts an error without text before the white space before the next token.
     fn expect(&mut self, alloc: Global, message: Message) -> Result<(), AllocError>
         ensures { OnOk result (stack_of self.new ≡ expected message (stack_of self.old)) }
     {
-        let mut white = cut(&mut self.nodes, self.body)?;
-        let mut white_levels = cut(&mut self.levels, self.body)?;
-        self.nodes.push(SyntaxNode::error(alloc, message.text(), "")?)?;
-        self.levels.push(2)?;
+        let mut white = cut(alloc, &mut self.nodes, self.body)?;
+        self.nodes
+            .push(SyntaxNode::error(alloc, message.text(), "")?)?;
         self.body = self.nodes.len();
         self.nodes.append(&mut white)?;
-        self.levels.append(&mut white_levels)?;
         Ok(())
     }
 
-    /// Makes the nodes of the innermost frame one node. They have so many levels.
-    fn join(&mut self, alloc: Global, kind: SyntaxKind, levels: usize) -> Result<(), InnerError>
+    /// Makes the nodes of the innermost frame one node.
+    fn join(&mut self, alloc: Global, kind: SyntaxKind) -> Result<(), InnerError>
         requires proper { is_error_kind kind ≡ false }
-        requires levels { levels ≡ own_levels (stack_of self.old) }
-        requires more { levels + 1 < 2 ^ 64 }
+        requires more { self.old.top.levels + 1 < 2 ^ 64 }
         ensures joined { OnOk result (stack_of self.new ≡ joined kind (stack_of self.old)) }
         ensures overflow { IsErrOf result Overflow → ¬ (SumsFit (joined kind (stack_of self.old)).nodes) }
     {
-        let mut white = cut(&mut self.nodes, self.body)?;
-        let mut white_levels = cut(&mut self.levels, self.body)?;
-        let children = cut(&mut self.nodes, self.top.start)?;
-        self.levels.truncate(self.top.start);
+        let mut white = cut(alloc, &mut self.nodes, self.body)?;
+        let children = cut(alloc, &mut self.nodes, self.top.start)?;
         self.nodes.push(SyntaxNode::inner(alloc, kind, children)?)?;
-        self.levels.push(levels + 1)?;
+        self.top.levels += 1;
         self.body = self.nodes.len();
         self.nodes.append(&mut white)?;
-        self.levels.append(&mut white_levels)?;
         Ok(())
     }
 
@@ -107,9 +94,8 @@ impl Stack {
         if kind.is_error() {
             return Ok(());
         }
-        let levels = self.own_levels();
-        if levels < most {
-            return self.join(alloc, kind, levels);
+        if self.top.levels < most {
+            return self.join(alloc, kind);
         }
         Ok(self.expect(alloc, Message::TooTall)?)
     }

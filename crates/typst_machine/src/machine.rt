@@ -1,18 +1,17 @@
 //! What tokens do with the stack.
-ghost use Rattle.std.specs.Option.{option_map};
 ghost use Rattle.std.specs.Prelude.{◌≡◌, ◌≤◌, List, IfOk, OnOk, IsErrOf};
 ghost use Rattle.typst_grammar.specs.Row.{row_of};
 ghost use Rattle.typst_lexer.specs.Tokens.{Piece, joined, piece_of};
 ghost use Rattle.typst_machine.specs.Depth.{AreWithin};
 ghost use Rattle.typst_machine.specs.Rows.{Table as AnyTable, row_for};
 ghost use Rattle.typst_machine.specs.Steps.{after_row, eaten, finished, has_line_feed, is_done, is_too_deep, is_white, looked, looks, refused, step, taken, trees_of};
-ghost use Rattle.typst_machine.specs.View.{next_of, stack_of, table_of};
+ghost use Rattle.typst_machine.specs.View.{found_of, next_of, stack_of, table_of};
 ghost use Rattle.typst_node.specs.Count.{SumsFit};
 ghost use Rattle.typst_node.specs.Text.{text_of_all};
 ghost use Rattle.typst_node.specs.declared.node.build.InnerError.TheVariants.{Overflow};
 
 use crate::stack::Stack;
-use crate::table::Table;
+use crate::table::{Table, class_of_next};
 use crate::token_node::token_node;
 use std::alloc::{AllocError, Global};
 use typst_grammar::{Call, Message, Row};
@@ -27,8 +26,8 @@ fn is_white(kind: TokenKind) -> bool
 }
 
 /// Whether a row that was found is the last look at the token.
-fn is_done(row: Option<Row>, stack: &Stack) -> bool
-    ensures { result ≡ is_done (option_map row_of row) (stack_of stack.now) }
+fn is_done(row: Option<&'static Row>, stack: &Stack) -> bool
+    ensures { result ≡ is_done (found_of row.entry) (stack_of stack.now) }
 {
     match row {
         Some(row) => stack.is_too_deep(row.call) || row.takes,
@@ -86,11 +85,16 @@ impl Stack {
         ensures overflow { IsErrOf result Overflow
             → ¬ (SumsFit (after_row (table_of table.now) (row_of row.now) (next_of next.entry) (stack_of self.old)).nodes) }
     {
-        self.acts(alloc, row.before, table.most_levels)?;
+        // Most rows have no actions on one of the sides.
+        if !row.before.is_empty() {
+            self.acts(alloc, row.before, table.most_levels)?;
+        }
         if row.takes {
             self.eat(alloc, next)?;
         }
-        self.acts(alloc, row.after, table.most_levels)?;
+        if !row.after.is_empty() {
+            self.acts(alloc, row.after, table.most_levels)?;
+        }
         if let Some(call) = row.call {
             self.call(call)?;
         }
@@ -102,19 +106,19 @@ impl Stack {
         &mut self,
         alloc: Global,
         table: &Table,
-        row: Option<Row>,
+        row: Option<&'static Row>,
         next: Option<Token<'_>>,
     ) -> Result<(), InnerError>
         ensures looked { OnOk result
-            (stack_of self.new ≡ looked (table_of table.now) (option_map row_of row) (next_of next.entry) (stack_of self.old)) }
+            (stack_of self.new ≡ looked (table_of table.now) (found_of row.entry) (next_of next.entry) (stack_of self.old)) }
         ensures overflow { IsErrOf result Overflow
-            → ¬ (SumsFit (looked (table_of table.now) (option_map row_of row) (next_of next.entry) (stack_of self.old)).nodes) }
+            → ¬ (SumsFit (looked (table_of table.now) (found_of row.entry) (next_of next.entry) (stack_of self.old)).nodes) }
     {
         match row {
             Some(row) if self.is_too_deep(row.call) => {
                 Ok(self.refuse(alloc, Message::TooDeep, next)?)
             }
-            Some(row) => self.run(alloc, table, &row, next),
+            Some(row) => self.run(alloc, table, row, next),
             None => Ok(self.refuse(alloc, Message::Unexpected, next)?),
         }
     }
@@ -131,8 +135,9 @@ impl Stack {
         ensures overflow { IsErrOf result Overflow
             → ¬ (SumsFit (looks table.now.most_looks (table_of table.now) (next_of next.entry) (stack_of self.old)).nodes) }
     {
+        let class = class_of_next(next);
         for _ in 0..table.most_looks {
-            let row = self.row_for(table, next);
+            let row = self.row_of_class(table, class);
             let done = is_done(row, self);
             self.look(alloc, table, row, next)?;
             if done {

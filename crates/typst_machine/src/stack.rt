@@ -1,6 +1,6 @@
 //! The nodes so far, and the open frames.
 ghost use Rattle.std.specs.Prelude.{◌≡◌, take, drop, IfOk, OnOk, suc};
-ghost use Rattle.typst_machine.specs.Actions.{called, expected, greatest, inherited, joined, led, opened_frame, own_levels, pushed, returned, whitened};
+ghost use Rattle.typst_machine.specs.Actions.{inherited, opened_frame, pushed, whitened};
 ghost use Rattle.typst_machine.specs.Stack.{start};
 ghost use Rattle.typst_machine.specs.View.{stack_of};
 
@@ -9,6 +9,9 @@ use std::alloc::{AllocError, Global};
 use typst_grammar::{Call, Message, Newline, State};
 use typst_node::SyntaxNode;
 
+/// How many levels the node of a token may have: raw text has two.
+const LEAST: usize = 2;
+
 /// An open frame: where in the syntax it is, and where its nodes begin.
 #[derive(Clone, Copy)]
 pub struct Frame {
@@ -16,6 +19,8 @@ pub struct Frame {
     pub(crate) state: State,
     /// The index of its first node.
     pub(crate) start: usize,
+    /// How many levels its nodes may have.
+    pub(crate) levels: usize,
     /// Whether white space before its first token is in it.
     pub(crate) enters: bool,
     /// How many more deep frames may open in it.
@@ -27,9 +32,8 @@ pub struct Frame {
 /// The nodes so far, and the open frames.
 #[derive(Drop)]
 pub struct Stack {
-    // All nodes so far, those of the outermost frame first, and how many levels each may have.
+    // All nodes so far, those of the outermost frame first.
     pub(crate) nodes: Vec<SyntaxNode>,
-    pub(crate) levels: Vec<usize>,
     // How many of the nodes are before the white space before the next token.
     pub(crate) body: usize,
     // Whether a line feed is in that white space, and what it does.
@@ -43,23 +47,18 @@ pub struct Stack {
 }
 
 /// Cuts a list in two.
-pub(crate) fn cut<T: Drop>(items: &mut Vec<T>, at: usize) -> Result<Vec<T>, AllocError>
+pub(crate) fn cut<T: Drop>(
+    alloc: Global,
+    items: &mut Vec<T>,
+    at: usize,
+) -> Result<Vec<T>, AllocError>
     ensures front { OnOk result (items.new.items ≡ take at items.old.items) }
     ensures back { IfOk result (λ back. back.items ≡ drop at items.old.items) }
 {
-    let at = at.min(items.len());
-    items.split_off(at)
-}
-
-/// The greatest of some numbers, or 0.
-pub(crate) fn greatest(numbers: &[usize]) -> usize
-    ensures { result ≡ greatest numbers.now }
-{
-    let mut most = 0usize;
-    for number in numbers {
-        most = most.max(*number);
+    if at >= items.len() {
+        return Ok(Vec::new(alloc));
     }
-    most
+    items.split_off(at)
 }
 
 /// What a line feed does in a frame that opens in another one.
@@ -79,13 +78,13 @@ impl Stack {
     {
         Stack {
             nodes: Vec::new(alloc),
-            levels: Vec::new(alloc),
             body: 0,
             line: false,
             newline: Newline::Go,
             top: Frame {
                 state: State::Document,
                 start: 0,
+                levels: LEAST,
                 enters: true,
                 room: table.most_deep,
                 newline: Newline::Go,
@@ -100,7 +99,6 @@ impl Stack {
         ensures { OnOk result (stack_of self.new ≡ pushed node (stack_of self.old)) }
     {
         self.nodes.push(node)?;
-        self.levels.push(2)?;
         self.body = self.nodes.len();
         self.line = false;
         self.newline = self.top.newline;
@@ -114,7 +112,6 @@ impl Stack {
     {
         let leads = !self.top.enters && self.nodes.len() <= self.top.start;
         self.nodes.push(node)?;
-        self.levels.push(2)?;
         if leads {
             self.top.start = self.nodes.len();
         }
@@ -133,6 +130,7 @@ impl Stack {
             } else {
                 self.nodes.len()
             },
+            levels: LEAST,
             enters: call.enters,
             room: self.top.room.saturating_sub(usize::from(call.is_deep)),
             newline: inherited(call.newline, self.top.newline),

@@ -1,9 +1,8 @@
 //! The table, and which of its rows is done.
-ghost use Rattle.std.specs.Option.{option_map};
 ghost use Rattle.std.specs.Prelude.{◌≡◌};
-ghost use Rattle.typst_grammar.specs.Row.{row_of, rows_of};
-ghost use Rattle.typst_machine.specs.Rows.{class_of, class_of_next, first_row, holds, row_for, seen, stops};
-ghost use Rattle.typst_machine.specs.View.{next_of, stack_of, table_of};
+ghost use Rattle.typst_grammar.specs.Row.{rows_of};
+ghost use Rattle.typst_machine.specs.Rows.{class_of, class_of_next, first_row, holds, row_of_class, seen, stops};
+ghost use Rattle.typst_machine.specs.View.{found_of, next_of, stack_of, table_of};
 
 use crate::stack::Stack;
 use typst_grammar::rows::rows;
@@ -37,7 +36,7 @@ fn class_of(kind: TokenKind) -> Class
 }
 
 /// The class of the next token, or of the end of all tokens.
-fn class_of_next(next: Option<Token<'_>>) -> Class
+pub(crate) fn class_of_next(next: Option<Token<'_>>) -> Class
     ensures { result ≡ class_of_next (next_of next.entry) }
 {
     match next {
@@ -54,14 +53,14 @@ fn stops(newline: Newline) -> bool
 }
 
 impl Stack {
-    /// The class that the next token reads as.
-    fn seen(&self, next: Option<Token<'_>>) -> Class
-        ensures { result ≡ seen (next_of next.entry) (stack_of self.now) }
+    /// The class that a token of a class reads as.
+    fn seen(&self, class: Class) -> Class
+        ensures { result ≡ seen class (stack_of self.now) }
     {
         if self.line && stops(self.newline) {
             Class::End
         } else {
-            class_of_next(next)
+            class
         }
     }
 
@@ -72,25 +71,26 @@ impl Stack {
         match condition {
             Condition::Always => true,
             Condition::Newline => self.line,
+            Condition::Empty => self.body <= self.top.start,
         }
     }
 
     /// The first of some rows that fits.
-    fn first_row(&self, rows: &[Row]) -> Option<Row>
-        ensures { option_map row_of result ≡ first_row (rows_of rows.now) (stack_of self.now) }
+    fn first_row(&self, rows: &'static [Row]) -> Option<&'static Row>
+        ensures { found_of result ≡ first_row (rows_of rows.now) (stack_of self.now) }
     {
         for row in rows {
             if self.holds(row.condition) {
-                return Some(*row);
+                return Some(row);
             }
         }
         None
     }
 
-    /// The row for the next token.
-    pub(crate) fn row_for(&self, table: &Table, next: Option<Token<'_>>) -> Option<Row>
-        ensures { option_map row_of result ≡ row_for (table_of table.now) (next_of next.entry) (stack_of self.now) }
+    /// The row for a token of a class.
+    pub(crate) fn row_of_class(&self, table: &Table, class: Class) -> Option<&'static Row>
+        ensures { found_of result ≡ row_of_class (table_of table.now) class (stack_of self.now) }
     {
-        self.first_row(rows(self.top.state, self.seen(next)))
+        self.first_row(rows(self.top.state, self.seen(class)))
     }
 }

@@ -36,12 +36,7 @@ fn bounds() -> Table
 }
 
 /// A block, once all its tokens have come.
-fn block(
-    alloc: Global,
-    table: &Table,
-    stack: Stack,
-    len: usize,
-) -> Result<ParsedBlock, InnerError>
+fn block(alloc: Global, table: &Table, stack: Stack, len: usize) -> Result<ParsedBlock, InnerError>
     requires { len + 10 < 2 ^ 64 }
     ensures len { IfOk result (λ parsed. parsed.len ≡ len) }
     ensures reach { IfOk result (λ parsed. parsed.reach ≡ len + 10) }
