@@ -245,7 +245,7 @@ def call_in_code(table, call):
 
 
 def row_in_code(table, number, row):
-    return f"""/// Row {number}.
+    return f"""/// The row that `rows` finds under the number {number}.
 const ROW_{number}: Row = Row {{
     condition: Condition::{CONDITIONS[row.condition] if row.condition else "Always"},
 {list_in_code("    ", "before: ", [action_in_code(a) for a in row.before], ",")}

@@ -61,7 +61,7 @@ pub enum State {
     ItemRest2,
 }
 
-/// Row 0.
+/// The row that `rows` finds under the number 0.
 const ROW_0: Row = Row {
     condition: Condition::Always,
     before: &[],
@@ -70,7 +70,7 @@ const ROW_0: Row = Row {
     call: None,
 };
 
-/// Row 1.
+/// The row that `rows` finds under the number 1.
 const ROW_1: Row = Row {
     condition: Condition::Always,
     before: &[],
@@ -84,7 +84,7 @@ const ROW_1: Row = Row {
     }),
 };
 
-/// Row 2.
+/// The row that `rows` finds under the number 2.
 const ROW_2: Row = Row {
     condition: Condition::Always,
     before: &[],
@@ -98,7 +98,7 @@ const ROW_2: Row = Row {
     }),
 };
 
-/// Row 3.
+/// The row that `rows` finds under the number 3.
 const ROW_3: Row = Row {
     condition: Condition::Always,
     before: &[],
@@ -112,7 +112,7 @@ const ROW_3: Row = Row {
     }),
 };
 
-/// Row 4.
+/// The row that `rows` finds under the number 4.
 const ROW_4: Row = Row {
     condition: Condition::Always,
     before: &[],
@@ -126,7 +126,7 @@ const ROW_4: Row = Row {
     }),
 };
 
-/// Row 5.
+/// The row that `rows` finds under the number 5.
 const ROW_5: Row = Row {
     condition: Condition::Always,
     before: &[],
@@ -140,7 +140,7 @@ const ROW_5: Row = Row {
     }),
 };
 
-/// Row 6.
+/// The row that `rows` finds under the number 6.
 const ROW_6: Row = Row {
     condition: Condition::Always,
     before: &[Action::Wrap(SyntaxKind::Markup), Action::Return],
@@ -149,7 +149,7 @@ const ROW_6: Row = Row {
     call: None,
 };
 
-/// Row 7.
+/// The row that `rows` finds under the number 7.
 const ROW_7: Row = Row {
     condition: Condition::Always,
     before: &[
@@ -162,7 +162,7 @@ const ROW_7: Row = Row {
     call: None,
 };
 
-/// Row 8.
+/// The row that `rows` finds under the number 8.
 const ROW_8: Row = Row {
     condition: Condition::Always,
     before: &[
@@ -175,7 +175,7 @@ const ROW_8: Row = Row {
     call: None,
 };
 
-/// Row 9.
+/// The row that `rows` finds under the number 9.
 const ROW_9: Row = Row {
     condition: Condition::Always,
     before: &[],
@@ -184,7 +184,7 @@ const ROW_9: Row = Row {
     call: None,
 };
 
-/// Row 10.
+/// The row that `rows` finds under the number 10.
 const ROW_10: Row = Row {
     condition: Condition::Always,
     before: &[],
@@ -198,7 +198,7 @@ const ROW_10: Row = Row {
     }),
 };
 
-/// Row 11.
+/// The row that `rows` finds under the number 11.
 const ROW_11: Row = Row {
     condition: Condition::Always,
     before: &[
@@ -211,7 +211,7 @@ const ROW_11: Row = Row {
     call: None,
 };
 
-/// Row 12.
+/// The row that `rows` finds under the number 12.
 const ROW_12: Row = Row {
     condition: Condition::Always,
     before: &[],
@@ -220,7 +220,7 @@ const ROW_12: Row = Row {
     call: None,
 };
 
-/// Row 13.
+/// The row that `rows` finds under the number 13.
 const ROW_13: Row = Row {
     condition: Condition::Always,
     before: &[],
@@ -234,7 +234,7 @@ const ROW_13: Row = Row {
     }),
 };
 
-/// Row 14.
+/// The row that `rows` finds under the number 14.
 const ROW_14: Row = Row {
     condition: Condition::Newline,
     before: &[Action::Wrap(SyntaxKind::Markup), Action::Return],
@@ -243,7 +243,7 @@ const ROW_14: Row = Row {
     call: None,
 };
 
-/// Row 15.
+/// The row that `rows` finds under the number 15.
 const ROW_15: Row = Row {
     condition: Condition::Empty,
     before: &[
@@ -256,7 +256,7 @@ const ROW_15: Row = Row {
     call: None,
 };
 
-/// Row 16.
+/// The row that `rows` finds under the number 16.
 const ROW_16: Row = Row {
     condition: Condition::Always,
     before: &[],
@@ -270,7 +270,7 @@ const ROW_16: Row = Row {
     }),
 };
 
-/// Row 17.
+/// The row that `rows` finds under the number 17.
 const ROW_17: Row = Row {
     condition: Condition::Always,
     before: &[],
@@ -284,7 +284,7 @@ const ROW_17: Row = Row {
     }),
 };
 
-/// Row 18.
+/// The row that `rows` finds under the number 18.
 const ROW_18: Row = Row {
     condition: Condition::Always,
     before: &[Action::Wrap(SyntaxKind::Heading), Action::Return],
@@ -293,7 +293,7 @@ const ROW_18: Row = Row {
     call: None,
 };
 
-/// Row 19.
+/// The row that `rows` finds under the number 19.
 const ROW_19: Row = Row {
     condition: Condition::Always,
     before: &[Action::Wrap(SyntaxKind::ListItem), Action::Return],
@@ -302,7 +302,7 @@ const ROW_19: Row = Row {
     call: None,
 };
 
-/// Row 20.
+/// The row that `rows` finds under the number 20.
 const ROW_20: Row = Row {
     condition: Condition::Always,
     before: &[Action::Wrap(SyntaxKind::EnumItem), Action::Return],
