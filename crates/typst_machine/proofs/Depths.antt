@@ -21,7 +21,7 @@ use Rattle.typst_machine.specs.Last.{last_of, last_was}
 use Rattle.typst_machine.specs.Raw.{some_leaf, line_trees, lines, open_len, close_at, lang_len, head_len, tail_at, trimmed_behind, trimmed, block_parts, parts, closed_parts}
 use Rattle.typst_machine.specs.Rows.{Table, row_for}
 use Rattle.typst_machine.specs.Stack.{Stack, start}
-use Rattle.typst_machine.specs.Steps.{after_row, eaten, finished, has_line_feed, is_done, is_too_deep, is_white, looked, looks, opened, refused, step, steps, taken, trees_of}
+use Rattle.typst_machine.specs.Steps.{after_row, eaten, has_line_feed, is_done, is_too_deep, is_white, looked, looks, opened, refused, step, steps, taken, trees_of}
 use Rattle.typst_machine.specs.TokenNodes.{node_of_kind, node_of}
 use Rattle.typst_machine.specs.declared.stack.Frame.{Frame}
 use Rattle.typst_node.specs.Converted.{as_error}

@@ -1,6 +1,5 @@
 -- What each step of the machine keeps: the text, whatever the table says.
 use Rattle.std.proofs.Common.{◌≡◌, ℕ, zero, suc, ◌||◌, nat_lt, Bool, true, false, cond, List, [], ◌∷◌, ◌++◌, take, drop, Option, Some, None, refl, sym, ap, subst, ◌∙◌, append_assoc, take-append-drop, arith}
-use Rattle.std.specs.List.{flat_map}
 use Rattle.std.proofs.lemmas.List.{append-nil}
 use Rattle.typst_base.specs.declared.kind.SyntaxKind.{SyntaxKind}
 use Rattle.typst_grammar.specs.Messages.{message_text}

@@ -1,16 +1,14 @@
 -- Texts and counts of lists of trees.
-use Rattle.std.proofs.Common.{◌≡◌, ℕ, zero, suc, ◌==◌, ◌≤◌, ◌||◌, Bool, true, false, cond, List, [], ◌∷◌, ◌++◌, length, refl, sym, ap, ◌∙◌, append_assoc, length-append, arith}
+use Rattle.std.proofs.Common.{◌≡◌, ℕ, zero, suc, ◌==◌, ◌≤◌, Bool, true, false, cond, List, [], ◌∷◌, ◌++◌, length, refl, sym, ap, ◌∙◌, append_assoc, length-append, arith}
 use Rattle.std.proofs.lemmas.Bool.{eqb-true}
 use Rattle.std.proofs.lemmas.List.{append-nil}
 use Rattle.typst_base.specs.declared.kind.SyntaxKind.{SyntaxKind}
-use Rattle.typst_node.specs.Converted.{as_error, content_of_kind, of_kind}
+use Rattle.typst_node.specs.Converted.{as_error}
 use Rattle.typst_node.specs.Count.{count, count_of_all, SumsFit}
 use Rattle.typst_node.specs.Diagnosis.{is_error}
 use Rattle.typst_node.specs.Hints.{error_tree, hinted}
-use Rattle.typst_node.specs.Preorder.{preorder}
-use Rattle.typst_node.specs.Text.{content_text, joined, text, text_of_all}
-use Rattle.typst_node.specs.Tree.{Content, AsLeaf, AsError, AsInner, Tree, inner_tree}
-use Rattle.typst_node.specs.Views.{node_kind}
+use Rattle.typst_node.specs.Text.{text, text_of_all}
+use Rattle.typst_node.specs.Tree.{Tree, inner_tree}
 use Rattle.typst_node.proofs.Opens.{count_append}
 use Rattle.typst_node.proofs.Trees.{count_of_all-cons, text_of_all-cons}
 use Rattle.typst_grammar.specs.Messages.{message_text}

@@ -1,5 +1,5 @@
 -- What one token more does to a block.
-use Rattle.std.proofs.Common.{◌≡◌, ℕ, ◌+◌, ◌≤◌, true, false, cond, List, [], ◌∷◌, length, map, Result, Ok, Err, refl, sym, ap, subst, ◌∙◌, arith, length-append, length-take-le}
+use Rattle.std.proofs.Common.{◌≡◌, ℕ, ◌+◌, ◌≤◌, true, false, cond, List, [], ◌∷◌, length, map, Result, Ok, Err, sym, ap, subst, ◌∙◌, arith, length-append, length-take-le}
 use Rattle.std.specs.Prelude.{IfOk}
 use Rattle.typst_lexer.specs.Blocks.{is_parbreak, up_to_parbreak, block_len}
 use Rattle.typst_lexer.specs.Tokens.{Piece, joined, tokens}

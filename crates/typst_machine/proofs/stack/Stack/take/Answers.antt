@@ -1,4 +1,4 @@
-use Rattle.std.proofs.Common.{rules, arith, ◌≡◌, ◌∙◌, true, false, sym, ap, subst}
+use Rattle.std.proofs.Common.{rules, arith, ◌∙◌, sym, ap, subst}
 use Rattle.typst_node.specs.Count.{SumsFit}
 use Rattle.typst_machine.specs.Rows.{row_of_class}
 use Rattle.typst_machine.specs.Steps.{is_done, looked, looks}

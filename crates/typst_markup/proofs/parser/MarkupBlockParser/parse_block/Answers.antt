@@ -4,7 +4,7 @@ use Rattle.typst_lexer.specs.Left.{left}
 use Rattle.typst_lexer.specs.Tokens.{joined, piece_of, tokens}
 use Rattle.typst_lexer.proofs.FirstBlocks.{block_within}
 use Rattle.typst_machine.specs.Stack.{start}
-use Rattle.typst_machine.specs.Steps.{finished, steps}
+use Rattle.typst_machine.specs.Steps.{steps}
 use Rattle.typst_machine.specs.View.{stack_of, table_of}
 use Rattle.typst_markup.proofs.OneToken.{first_fits, last_one, len_fits, len_last, made, step_fits, tokens_len}
 use Rattle.typst_markup.proofs.parser.MarkupBlockParser.parse_block.Goals as goal
