@@ -23,7 +23,7 @@ abbrev pub IsKept : Session → Session → Type 0
 IsKept old new = HasStack old.stack.items old new
 
 -- the new session has this stack, holds this, and keeps these moves of the last edit
-pub record Holds (nodes : List Tree) (tree : Held) (moves : Option NumberMoves) (new : Session) : Type 0 where
+pub record Holds (nodes : List Tree) (tree : Held) (kept : Option NumberMoves) (new : Session) : Type 0 where
   pub stack : new.stack.items ≡ nodes
   pub held : new.held ≡ tree
-  pub moves : new.moves ≡ moves
+  pub moves : new.moves ≡ kept
