@@ -244,8 +244,15 @@ def call_in_code(table, call):
     }}),"""
 
 
+def written(row):
+    """A row as the table writes it, in the order in which the machine does it."""
+    call = f"{'enter ' * row.call[1]}{row.call[0]}" if row.call else ""
+    actions = [*map(" ".join, row.before), "eat" * row.takes, *map(" ".join, row.after), call]
+    return f"{'if ' * bool(row.condition)}{row.condition} | {'; '.join(filter(None, actions))}".strip()
+
+
 def row_in_code(table, number, row):
-    return f"""/// The row that `rows` finds under the number {number}.
+    return f"""/// `{written(row)}`
 const ROW_{number}: Row = Row {{
     condition: Condition::{CONDITIONS[row.condition] if row.condition else "Always"},
 {list_in_code("    ", "before: ", [action_in_code(a) for a in row.before], ",")}

@@ -61,7 +61,7 @@ pub enum State {
     ItemRest2,
 }
 
-/// The row that `rows` finds under the number 0.
+/// `| eat`
 const ROW_0: Row = Row {
     condition: Condition::Always,
     before: &[],
@@ -70,7 +70,7 @@ const ROW_0: Row = Row {
     call: None,
 };
 
-/// The row that `rows` finds under the number 1.
+/// `| strong`
 const ROW_1: Row = Row {
     condition: Condition::Always,
     before: &[],
@@ -84,7 +84,7 @@ const ROW_1: Row = Row {
     }),
 };
 
-/// The row that `rows` finds under the number 2.
+/// `| emph`
 const ROW_2: Row = Row {
     condition: Condition::Always,
     before: &[],
@@ -98,7 +98,7 @@ const ROW_2: Row = Row {
     }),
 };
 
-/// The row that `rows` finds under the number 3.
+/// `| heading`
 const ROW_3: Row = Row {
     condition: Condition::Always,
     before: &[],
@@ -112,7 +112,7 @@ const ROW_3: Row = Row {
     }),
 };
 
-/// The row that `rows` finds under the number 4.
+/// `| item`
 const ROW_4: Row = Row {
     condition: Condition::Always,
     before: &[],
@@ -126,7 +126,7 @@ const ROW_4: Row = Row {
     }),
 };
 
-/// The row that `rows` finds under the number 5.
+/// `| eat; -> strong.close; enter strong.body`
 const ROW_5: Row = Row {
     condition: Condition::Always,
     before: &[],
@@ -140,7 +140,7 @@ const ROW_5: Row = Row {
     }),
 };
 
-/// The row that `rows` finds under the number 6.
+/// `| wrap Markup; return`
 const ROW_6: Row = Row {
     condition: Condition::Always,
     before: &[Action::Wrap(SyntaxKind::Markup), Action::Return],
@@ -149,7 +149,7 @@ const ROW_6: Row = Row {
     call: None,
 };
 
-/// The row that `rows` finds under the number 7.
+/// `| flush; wrap Markup; return`
 const ROW_7: Row = Row {
     condition: Condition::Always,
     before: &[
@@ -162,7 +162,7 @@ const ROW_7: Row = Row {
     call: None,
 };
 
-/// The row that `rows` finds under the number 8.
+/// `| unclosed; wrap Strong; return`
 const ROW_8: Row = Row {
     condition: Condition::Always,
     before: &[
@@ -175,7 +175,7 @@ const ROW_8: Row = Row {
     call: None,
 };
 
-/// The row that `rows` finds under the number 9.
+/// `| eat; wrap Strong; return`
 const ROW_9: Row = Row {
     condition: Condition::Always,
     before: &[],
@@ -184,7 +184,7 @@ const ROW_9: Row = Row {
     call: None,
 };
 
-/// The row that `rows` finds under the number 10.
+/// `| eat; -> emph.close; enter emph.body`
 const ROW_10: Row = Row {
     condition: Condition::Always,
     before: &[],
@@ -198,7 +198,7 @@ const ROW_10: Row = Row {
     }),
 };
 
-/// The row that `rows` finds under the number 11.
+/// `| unclosed; wrap Emph; return`
 const ROW_11: Row = Row {
     condition: Condition::Always,
     before: &[
@@ -211,7 +211,7 @@ const ROW_11: Row = Row {
     call: None,
 };
 
-/// The row that `rows` finds under the number 12.
+/// `| eat; wrap Emph; return`
 const ROW_12: Row = Row {
     condition: Condition::Always,
     before: &[],
@@ -220,7 +220,7 @@ const ROW_12: Row = Row {
     call: None,
 };
 
-/// The row that `rows` finds under the number 13.
+/// `| eat; -> heading.rest; heading.body`
 const ROW_13: Row = Row {
     condition: Condition::Always,
     before: &[],
@@ -234,7 +234,7 @@ const ROW_13: Row = Row {
     }),
 };
 
-/// The row that `rows` finds under the number 14.
+/// `if newline | wrap Markup; return`
 const ROW_14: Row = Row {
     condition: Condition::Newline,
     before: &[Action::Wrap(SyntaxKind::Markup), Action::Return],
@@ -243,7 +243,7 @@ const ROW_14: Row = Row {
     call: None,
 };
 
-/// The row that `rows` finds under the number 15.
+/// `if empty | flush; wrap Markup; return`
 const ROW_15: Row = Row {
     condition: Condition::Empty,
     before: &[
@@ -256,7 +256,7 @@ const ROW_15: Row = Row {
     call: None,
 };
 
-/// The row that `rows` finds under the number 16.
+/// `| eat; -> item.rest1; item.body`
 const ROW_16: Row = Row {
     condition: Condition::Always,
     before: &[],
@@ -270,7 +270,7 @@ const ROW_16: Row = Row {
     }),
 };
 
-/// The row that `rows` finds under the number 17.
+/// `| eat; -> item.rest2; item.body`
 const ROW_17: Row = Row {
     condition: Condition::Always,
     before: &[],
@@ -284,7 +284,7 @@ const ROW_17: Row = Row {
     }),
 };
 
-/// The row that `rows` finds under the number 18.
+/// `| wrap Heading; return`
 const ROW_18: Row = Row {
     condition: Condition::Always,
     before: &[Action::Wrap(SyntaxKind::Heading), Action::Return],
@@ -293,7 +293,7 @@ const ROW_18: Row = Row {
     call: None,
 };
 
-/// The row that `rows` finds under the number 19.
+/// `| wrap ListItem; return`
 const ROW_19: Row = Row {
     condition: Condition::Always,
     before: &[Action::Wrap(SyntaxKind::ListItem), Action::Return],
@@ -302,7 +302,7 @@ const ROW_19: Row = Row {
     call: None,
 };
 
-/// The row that `rows` finds under the number 20.
+/// `| wrap EnumItem; return`
 const ROW_20: Row = Row {
     condition: Condition::Always,
     before: &[Action::Wrap(SyntaxKind::EnumItem), Action::Return],
