@@ -1,0 +1,19 @@
+use Rattle.std.proofs.Common.{◌∙◌, refl, subst}
+use Rattle.typst_markup.specs.Block.{first}
+use Rattle.typst_source.specs.Edited.{IsEdited}
+use Rattle.typst_session.proofs.session.Session.edit.Goals as goal
+
+pub returns : goal.returns
+returns c =
+    let with = c.in_ok-with.ensures.ok in
+    record {
+      utf8 = with.1;
+      tree = c.in-Document.document;
+      after = c.edit.new.self;
+      done = c.in_ok-done.done;
+      was = c.in-Document.is;
+      edited = subst (λ w. IsEdited first c.in-Document.document c.args.range w c.in_ok-done.done c.edit.new.self) with.0 c.in_ok-done.ensures;
+      reparsed = refl;
+      change = record { depth = c.len.ensures ∙ c.in_ok-done.done.path.ok.0; touched_is = refl };
+      holds = record { stack = refl; held = refl; moves = refl };
+    }
