@@ -1,4 +1,5 @@
-use Rattle.std.proofs.Common.{◌≡◌, ◌∙◌, ◌-◌, ℕ, List, ap, arith, drop, length, refl, subst, take}
+use Rattle.std.proofs.Common.{◌≡◌, ◌∙◌, ◌-◌, ℕ, List, ap, arith, drop, length, length-drop, refl, subst, take}
+use Rattle.std.proofs.lemmas.List.{take_all}
 use Rattle.typst_node.specs.Reconciled.{IsReconciled}
 use Rattle.typst_node.specs.Tree.{Tree}
 use Rattle.typst_session.proofs.session.Session.reconcile.Goals as goal
@@ -7,7 +8,7 @@ pub returns-in-Ok : goal.returns-in-Ok
 returns-in-Ok c =
     let old = c.args.self.now.stack.items in
     let start : c.in-Some.start ≡ length old - c.args.count = omega (arith, c.in-Some.ensures, c.len.ensures) in
-    let nodes : c.in_ok-nodes.nodes.items ≡ drop (length old - c.args.count) old = c.in_ok-nodes.ensures ∙ ap (drop c.in-Some.start) c.deref.ensures.value ∙ ap (λ (n : ℕ). drop n old) start in
+    let nodes : c.in_ok-nodes.nodes.items ≡ drop (length old - c.args.count) old = c.in_ok-nodes.ensures ∙ take_all (length c.deref.result.now - c.in-Some.start) (drop c.in-Some.start c.deref.result.now) (omega (arith, length-drop c.in-Some.start c.deref.result.now)) ∙ ap (drop c.in-Some.start) c.deref.ensures.value ∙ ap (λ (n : ℕ). drop n old) start in
     record {
       root = c.in-Tree.tree;
       after = c.reconcile.new.self;
