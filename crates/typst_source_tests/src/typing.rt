@@ -3,8 +3,8 @@ use std::alloc::Global;
 use std::process::Abort;
 use std::test::Fail;
 use typst_base::{FileId, Span, SpanNumber, SyntaxKind};
+use typst_linked::LinkedNode;
 use typst_markup::Markup;
-use typst_node::SyntaxNode;
 use typst_source::{Edited, Outcome, Source, TextEdit};
 
 /// An edit: where the bytes that go begin and end, and the text that comes.
@@ -167,16 +167,14 @@ const ROWS: [Row; 19] = [
 ];
 
 /// The span of the first node of a kind, in preorder.
-fn first_of(node: &SyntaxNode, kind: SyntaxKind) -> Option<Span> {
-    if node.kind() == kind {
-        return Some(node.span());
-    }
-    for child in node.children() {
-        if let Some(span) = first_of(child, kind) {
-            return Some(span);
+fn first_of(alloc: Global, source: &Source<Markup>, kind: SyntaxKind) -> Result<Span, Fail> {
+    for node in LinkedNode::new(source.root()).preorder(alloc)? {
+        let node = node?;
+        if node.get().kind() == kind {
+            return Ok(node.get().span());
         }
     }
-    None
+    Err("no such node")?
 }
 
 /// Makes an edit.
@@ -195,7 +193,7 @@ fn edit(alloc: Global, source: &mut Source<Markup>, edit: &Edit) -> Result<Edite
 /// Where the node of a row is after its edits.
 fn followed(alloc: Global, row: &Row) -> Result<String, Fail> {
     let mut source = Source::new(alloc, FileId::FIRST, row.text, Markup)?;
-    let first = first_of(source.root(), row.kind).ok_or("no such node")?;
+    let first = first_of(alloc, &source, row.kind)?;
     let mut span = first;
     for each in row.edits {
         match edit(alloc, &mut source, each)?.follow(span) {
