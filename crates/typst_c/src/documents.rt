@@ -1,5 +1,5 @@
 //! Documents: texts that are edited together with their trees.
-ghost use Rattle.std.specs.Prelude.{Result};
+ghost use Rattle.std.specs.Prelude.{◌≡◌, Result};
 ghost use Rattle.typst_c.specs.Calls.{Changes, Does};
 ghost use Rattle.typst_c.specs.Told.{TellsEdit, range_from};
 ghost use Rattle.typst_session.specs.Documents.{Opens, EditsText};

@@ -1,5 +1,5 @@
 //! Numbering and editing the tree that a handle holds.
-ghost use Rattle.std.specs.Prelude.{Result};
+ghost use Rattle.std.specs.Prelude.{◌≡◌, Result};
 ghost use Rattle.typst_c.specs.Calls.{Changes, Does};
 ghost use Rattle.typst_c.specs.Told.{TellsWindow};
 ghost use Rattle.typst_node.specs.declared.node.replace.Renumbered.{Renumbered as Done};
