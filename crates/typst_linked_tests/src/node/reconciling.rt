@@ -5,6 +5,7 @@ use std::ops::Range;
 use std::test::Fail;
 use typst_base::{FileId, Span, SpanNumber};
 use typst_drawn::{DrawingError, drawn_all, labels, numbered};
+use typst_linked::LinkedNode;
 use typst_node::{Moves, Reconciled, Renumbered, SyntaxNode, Touched};
 
 /// A tree that is numbered from 2 on, other nodes in place of some children, and what comes of it.
@@ -212,18 +213,19 @@ fn answer(alloc: Global, done: &Reconciled) -> Result<String, DrawingError> {
 }
 
 /// The numbers that the nodes of a tree have after its edit, in preorder.
-fn push_moves(node: &SyntaxNode, moves: &Moves, said: &mut String) -> Result<(), DrawingError> {
-    if !said.is_empty() {
-        said.push_str(" ")?;
+fn moved(alloc: Global, old: &SyntaxNode, moves: &Moves) -> Result<String, DrawingError> {
+    let mut said = String::new(alloc);
+    for node in LinkedNode::new(old).preorder(alloc)? {
+        let node = node?;
+        if !said.is_empty() {
+            said.push_str(" ")?;
+        }
+        match moves.follow(node.get().span().number()) {
+            Some(number) => write!(said, "{number}")?,
+            None => said.push_str("-")?,
+        }
     }
-    match moves.follow(node.span().number()) {
-        Some(number) => write!(said, "{number}")?,
-        None => said.push_str("-")?,
-    }
-    for child in node.children() {
-        push_moves(child, moves, said)?;
-    }
-    Ok(())
+    Ok(said)
 }
 
 /// What comes of an edit, in words.
@@ -231,13 +233,13 @@ fn reconciled(alloc: Global, row: &Row) -> Result<String, DrawingError> {
     let mut tree = numbered(alloc, row.tree, 2..row.end)?;
     let old = tree.clone()?;
     let others = drawn_all(alloc, row.others)?;
-    let mut moves = String::new(alloc);
-    let answer = match tree.reconcile_at(alloc, row.path, row.range.start..row.range.end, others) {
-        Ok(done) => {
-            push_moves(&old, &done.moves, &mut moves)?;
-            answer(alloc, &done)?
-        }
-        Err(error) => format!(in alloc; "{error:?}")?,
+    let range = row.range.start..row.range.end;
+    if !tree.edit_fits(row.path, row.range.start..row.range.end) || !tree.is_numbered() {
+        return Err(DrawingError::Misplaced);
+    }
+    let (answer, moves) = match tree.reconcile_at(alloc, row.path, range, others) {
+        Ok(done) => (answer(alloc, &done)?, moved(alloc, &old, &done.moves)?),
+        Err(error) => (format!(in alloc; "{error:?}")?, String::new(alloc)),
     };
     let labels = labels(alloc, &tree)?;
     let ordered = tree.is_numbered();
@@ -336,6 +338,9 @@ fn spans_are_followed(rt: HostRuntime) -> Result<(), Fail> {
     let alloc = rt.alloc();
     let mut tree = numbered(alloc, "Markup[ Text:ab Text:c ]", 2..14)?;
     let others = drawn_all(alloc, "Text:x")?;
+    if !tree.edit_fits(&[], 1..1) || !tree.is_numbered() {
+        return Err("the edit doesn't fit")?;
+    }
     let done = tree.reconcile_at(alloc, &[], 1..1, others)?;
     are_followed(&rt, &done.moves);
     Ok(())

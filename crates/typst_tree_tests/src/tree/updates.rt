@@ -193,7 +193,7 @@ fn place(alloc: Global, path: &[usize], touched: &Touched) -> Result<String, All
 }
 
 /// What a change answers, in words, and its moves if it was done.
-fn change(
+fn answered(
     alloc: Global,
     tree: &mut NumberedTree,
     change: &Change,
@@ -241,7 +241,7 @@ fn follow(alloc: Global, moves: &Moves, numbers: &[u64]) -> Result<String, Drawi
 fn assert_row(rt: &(impl Abort + AllocGlobal), row: &Row) -> Result<(), Fail> {
     let alloc = rt.alloc();
     let mut tree = kept(alloc, row.tree, 2..row.end)?;
-    let (answer, moves) = change(alloc, &mut tree, &row.change)?;
+    let (answer, moves) = answered(alloc, &mut tree, &row.change)?;
     assert_text(rt, row.shows, "answer", &answer, row.answer);
     if let Some(moves) = moves {
         let said = follow(alloc, &moves, row.numbers)?;
