@@ -441,7 +441,8 @@ static typst_status update(void)
     model.tree = node;
     WANT(change.root <= 1, true);
     if (change.root) WANT(change.depth == 0 && change.window.start == 0 && change.window.end == 0 && change.window.tried == 0, true);
-    follow_all(changes);
+    /* A root whose numbers just suffice for its nodes doesn't go on, even if the same tree comes. */
+    follow_all(changes || change.root);
     return status;
 }
 
@@ -835,7 +836,7 @@ static typst_status diagnostics(void)
 {
     static typst_diagnostic out[REMARKS];
     static char texts[REMARKS * 64];
-    size_t path[DEPTH], depth, room = once_in(4) ? draw(8) : REMARKS, texts_room = once_in(4) ? draw(60) : sizeof texts;
+    size_t path[DEPTH], depth = 0, room = once_in(4) ? draw(8) : REMARKS, texts_room = once_in(4) ? draw(60) : sizeof texts;
     typst_diagnostic_sizes sizes = {77, 77};
     remarks.count = remarks.len = 0;
     for (uint32_t severity = TYPST_SEVERITY_ERROR; severity <= TYPST_SEVERITY_WARNING && model.tree; severity++)
