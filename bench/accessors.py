@@ -5,7 +5,7 @@
     bench/accessors.py --check    says which differ from what it would write, and changes nothing
 
 These are the enums of typst_accessors and the numbers that their contracts cite, the constants of bindings/c, the enum of
-bindings/rust, and docs/ACCESSORS.md. The code is laid out as `rt fmt` and `cargo fmt` lay it out.
+bindings/rust, and docs/internal/ACCESSORS.md. The code is laid out as `rt fmt` and `cargo fmt` lay it out.
 """
 import argparse
 import sys
@@ -309,16 +309,16 @@ def page(found):
     lines = [f"<!-- {WRITTEN} -->", "# The accessors of typed views, by numbers", ""]
     lines += ["A program in C or Rust reads a node by the number of an accessor (`docs/C.md`, `docs/RUST.md`). `Heading.depth` is"]
     lines += ["`TYPST_VIEW_HEADING_DEPTH` in C and `Accessor::HeadingDepth` in Rust, and so on. Each accessor belongs to the nodes of one"]
-    lines += ["kind, its view. Of any other node it answers nothing.", ""]
+    lines += ["kind, its view. For any other node it returns nothing.", ""]
     lines += ["A `flag` is true or false, a `natural` is a natural number or none, and a `string` is a text that the call makes. A program in"]
     lines += ["C gets a `string` as `TYPST_ANSWER_TEXT`, like a `text` of the tree.", ""]
-    lines += ["An accessor of the form `node` answers the number of a node of the tree, or nothing if the tree lacks it. One of the form"]
-    lines += ["`nodes` has several answers, which are asked by an index: the number of the node with the index, counted from 0, or nothing"]
-    lines += ["after the last one. Each other accessor has one answer, with the index 0.", ""]
+    lines += ["An accessor of the form `node` returns the number of a node of the tree, or nothing if the tree lacks it. One of the form"]
+    lines += ["`nodes` has several results, by an index: the number of the node with the index, counted from 0, or nothing"]
+    lines += ["after the last one. Each other accessor has one result, with the index 0.", ""]
     lines += ["Not here are `Raw.block` and `ModuleImport.bare_name`, which ask the caller what newlines and names are; `bindings`, which would"]
-    lines += ["make its list of names anew for each answer; and `ends_in_semicolon` of an argument in math, which the semicolon after it tells"]
+    lines += ["make its list of names anew for each result; and `ends_in_semicolon` of an argument in math, which the semicolon after it shows"]
     lines += ["among `MathArgs.content_items`. An item of an import is read by the accessors of its own kind.", ""]
-    lines += ["| number | accessor | form | what it answers |", "|---|---|---|---|"]
+    lines += ["| number | accessor | form | what it returns |", "|---|---|---|---|"]
     lines += [f"| {one.number} | `{one.called()}` | {one.form} | {one.doc} |" for one in found]
     return "\n".join([*lines, ""])
 
@@ -333,7 +333,7 @@ def files():
         "crates/typst_accessors/specs/NodeAccessors.antt": node_accessor_specs(found),
         "bindings/c/typst_accessors.h": header(found),
         "bindings/rust/src/accessor.rs": rust(found),
-        "docs/ACCESSORS.md": page(found),
+        "docs/internal/ACCESSORS.md": page(found),
     }
 
 

@@ -1,13 +1,14 @@
 #!/usr/bin/env python3
-"""Writes docs/API.md: every public name of the libraries with the first sentence of its doc comment.
+"""Writes docs/API.md: every public name of the libraries with the first sentence of its doc comment. Writes into
+docs/internal/DEFINITIONS.md, after its last heading, each file of specs/ with the first sentence of its comment.
 
-    bench/api.py            writes the page
-    bench/api.py --check    says whether the page is what it would write
+    bench/api.py            writes the pages
+    bench/api.py --check    says whether the pages are what it would write
 
 The names are those that a crate's `lib.rt` gives out by `pub use`, and for the facade `typst_tree` also those of its
 modules. The rows of a type are its public fields, functions and constants. A trait has rows for its own, and an enum has
-rows for its variants too. A function is written as `name(arguments) -> answer`, without the types of its arguments. A
-`Result` or an `Option` shows what it holds.
+rows for its variants too. A function is written as `name(arguments) -> result`, without the types of its arguments. A
+`Result` or an `Option` shows what it holds. What docs/KINDS.md says of each kind isn't said again.
 """
 import re
 import sys
@@ -16,6 +17,8 @@ from pathlib import Path
 
 TOP = Path(__file__).resolve().parent.parent
 PAGE = TOP / "docs/API.md"
+KINDS = TOP / "docs/KINDS.md"
+DEFINITIONS, FILES = TOP / "docs/internal/DEFINITIONS.md", "\n## Each file of `specs/`\n"
 CRATES = ("typst_tree", "typst_source", "typst_lines", "typst_markup", "typst_session")
 BELOW = ("typst_base", "typst_node", "typst_linked", "typst_atoms", "typst_ast")
 ITEM = re.compile(r"^( *)pub (?:const )?(struct|enum|trait|fn|const|type) (\w+)")
@@ -79,12 +82,12 @@ def split_args(text):
 
 
 def shown(text):
-    """A function as `name(arguments) -> answer`."""
+    """A function as `name(arguments) -> result`."""
     name = re.search(r"fn (\w+)", text)[1]
     args, rest = split_args(text[text.index(name) + len(name) :])
     names = [it.split(":")[0].removeprefix("mut ").strip("_ ") for it in args if not re.fullmatch(r"&?(?:'\w+ )?(?:mut )?self", it)]
-    answer = re.match(r"-> (.*?);?$", rest)
-    return f"{name}({', '.join(names)})" + (f" -> {answer[1]}" if answer else "")
+    result = re.match(r"-> (.*?);?$", rest)
+    return f"{name}({', '.join(names)})" + (f" -> {result[1]}" if result else "")
 
 
 def items_of(path):
@@ -151,6 +154,19 @@ def named_in(crates):
     return items, rows
 
 
+def of_kinds(names, items, rows):
+    """Leaves out what docs/KINDS.md says: the variants that are kinds, and what a view's kind is. Returns the views that have no rows."""
+    kinds = dict(re.findall(r"^\| \d+ \| `(\w+)` .*\| (.*?) \|$", KINDS.read_text(), re.M))
+    for it in ("SyntaxKind", "Expr"):
+        if it in names and it in items and any(text in kinds for text, _ in rows[it]):
+            rows[it] = [row for row in rows[it] if row[0] not in kinds]
+            items[it].doc += " Its variants are kinds of [`KINDS.md`](KINDS.md)."
+    for it in names:
+        if it in kinds and it in items and kinds[it].startswith(items[it].doc):
+            items[it].doc = ""
+    return [it for it in names if it in kinds and it in items and not rows[it]]
+
+
 def page():
     """The whole page."""
     lines = [HEAD]
@@ -163,13 +179,17 @@ def page():
             names = names_of(path)
             lines += [f"## {title}", ""]
             if title == "typst_tree::ast":
-                lines += ["Views of nodes. A view is made by `from_untyped(node)`, of `AstNode`, and reads its node.", ""]
-            plain = [(items[it].text, items[it].doc) for it in names if it in items and not rows[it]]
+                lines += ["Views of nodes. A view is made by `from_untyped(node)`, of `AstNode`, and reads its node. A view of one kind has"]
+                lines += ["the name of the kind; [`KINDS.md`](KINDS.md) says what it is.", ""]
+            bare = of_kinds(names, items, rows)
+            if bare:
+                lines += [f"Without accessors: {', '.join(f'`{it}`' for it in bare)}.", ""]
+            plain = [(items[it].text, items[it].doc) for it in names if it in items and not rows[it] and it not in bare]
             if plain:
                 lines += [*table(plain), ""]
             for it in names:
                 if it in items and rows[it]:
-                    lines += [f"### {it}", "", items[it].doc, "", *table(rows[it]), ""]
+                    lines += [f"### {it}", "", *([items[it].doc, ""] if items[it].doc else []), *table(rows[it]), ""]
         if crate == "typst_tree":
             here, there = items_of(TOP / "crates/typst_tree/src/session.rt")
             lines += ["## typst_tree::session", "", *table([(it.text, it.doc) for it in here.values() if not there[it.name]]), ""]
@@ -179,13 +199,32 @@ def page():
     return "\n".join(lines).rstrip() + "\n"
 
 
+def defined(path):
+    """What a file of specs/ defines: the first sentence of its comment."""
+    lines = [it[3:] for it in path.read_text().split("\nuse ")[0].split("\n\n")[0].split("\n") if it.startswith("-- ")]
+    return sentence([it for it in lines if not it.startswith("Written by ")])
+
+
+def definitions():
+    """The page of definitions, with the table of all files of specs/ after its last heading."""
+    lines = []
+    for crate in re.findall(r"^(\w+)\b.*:", (TOP / "crates.txt").read_text(), re.M):
+        files = sorted(it for it in (TOP / "crates" / crate / "specs").glob("*.antt") if it.stem != "Lib")
+        rows = "".join(f"| `{it.stem}` | {defined(it)} |\n" for it in files)
+        lines += [f"\n`{crate}`:\n\n| | |\n|---|---|\n{rows}"] if files else []
+    head, heading, _ = DEFINITIONS.read_text().partition(FILES)
+    return head + heading + "".join(lines)
+
+
 def main():
-    made = page()
-    if "--check" not in sys.argv[1:]:
-        PAGE.write_text(made)
-    elif not PAGE.is_file() or PAGE.read_text() != made:
-        sys.exit("docs/API.md isn't what bench/api.py writes: run it")
-    print(f"docs/API.md: {made.count(chr(10) + '| `')} names")
+    made = {PAGE: page(), DEFINITIONS: definitions()}
+    for path, text in made.items():
+        name = path.relative_to(TOP)
+        if "--check" not in sys.argv[1:]:
+            path.write_text(text)
+        elif not path.is_file() or path.read_text() != text:
+            sys.exit(f"{name} isn't what bench/api.py writes: run it")
+        print(f"{name}: {text.count(chr(10) + '| `')} names")
 
 
 if __name__ == "__main__":

@@ -1,28 +1,17 @@
-#!/usr/bin/env python3
-"""Writes the kinds of the C header and of the Rust crate, from crates/kinds.txt.
-
-    bench/bindings.py            writes them, and tells which changed
-    bench/bindings.py --check    tells which differ from what it would write, and changes nothing
-"""
-import argparse
+"""The kinds of the C header and of the Rust crate, for bench/kinds.py."""
 import re
-import sys
-from pathlib import Path
 
-from kinds import TABLE, Table
-
-TOP = Path(__file__).resolve().parent.parent
-HEADER = TOP / "bindings/c/typst_kinds.h"
-RUST = TOP / "bindings/rust/src/kind.rs"
-WRITTEN = f"Written by bench/bindings.py from {TABLE}: change that and run it."
-
-
-def kinds():
-    """The variant, the name that messages use and the comment of each kind, in the order of their numbers."""
-    table = Table((TOP / TABLE).read_text())
-    return [(kind.name, kind.printed, kind.doc) for kind in table.kinds]
-
-
+HEADER = "bindings/c/typst_kinds.h"
+RUST = "bindings/rust/src/kind.rs"
+# What the Rust crate asks of a kind, by the name of its class.
+QUESTIONS = {
+    "grouping": "Whether this is a bracket, a brace or a parenthesis.",
+    "terminator": "Whether this ends an expression.",
+    "block": "Whether this is a block of code or of content.",
+    "stmt": "Whether this is a statement.",
+    "keyword": "Whether this is a keyword.",
+    "trivia": "Whether a parser skips this: a space, a comment or the like.",
+}
 def constant(variant):
     """LINE_COMMENT for LineComment."""
     return re.sub(r"(?<=[a-z])(?=[A-Z])", "_", variant).upper()
@@ -40,26 +29,38 @@ def in_c(comment):
     return re.sub(r"`([^`]*)`", escaped, comment).replace("/*", "/ *").replace("*/", "* /")
 
 
-def header(kinds):
-    lines = [f"/* The kinds of nodes, by number. {WRITTEN} */"]
+def header(kinds, written):
+    """The kinds in C."""
+    lines = [f"/* The kinds of nodes, by number. {written} */"]
     lines += ["#ifndef TYPST_KINDS_H", "#define TYPST_KINDS_H", "", "enum {"]
-    for number, (variant, _, comment) in enumerate(kinds):
-        lines += [f"    /** {in_c(comment)} */"]
-        lines += [f"    TYPST_KIND_{constant(variant)} = {number},"]
+    for kind in kinds:
+        lines += [f"    /** {in_c(kind.doc)} */"]
+        lines += [f"    TYPST_KIND_{constant(kind.name)} = {kind.number},"]
     lines += ["    /** The number of kinds. */", f"    TYPST_KINDS = {len(kinds)}", "};", "", "#endif", ""]
     return "\n".join(lines)
 
 
-def rust(kinds):
-    lines = [f"//! The kinds of nodes. {WRITTEN}", ""]
+def question(name, variants):
+    """The method of the Rust crate that tells whether a kind is in a class."""
+    lines = ["", f"    /// {QUESTIONS[name]}", f"    pub fn is_{name}(self) -> bool {{"]
+    variants = [f"SyntaxKind::{variant}" for variant in variants]
+    if len(variants) < 3:
+        return lines + [f"        matches!(self, {' | '.join(variants)})", "    }"]
+    lines += ["        matches!(", "            self,", f"            {variants[0]}"]
+    return lines + [f"                | {variant}" for variant in variants[1:]] + ["        )", "    }"]
+
+
+def rust(kinds, written):
+    """The kinds in Rust, with the questions for their classes."""
+    lines = [f"//! The kinds of nodes. {written}", ""]
     lines += ["/// The kind of a node of the syntax tree: a token, an expression, a piece of markup and so on."]
     lines += ["#[derive(Clone, Copy, Debug, PartialEq, Eq, PartialOrd, Ord, Hash)]", "#[repr(u8)]"]
     lines += ["#[non_exhaustive]", "pub enum SyntaxKind {"]
-    for variant, _, comment in kinds:
-        lines += [f"    /// {comment}", f"    {variant},"]
+    for kind in kinds:
+        lines += [f"    /// {kind.doc}", f"    {kind.name},"]
     lines += ["}", "", "/// The kinds, in the order of their numbers."]
     lines += [f"const KINDS: [SyntaxKind; {len(kinds)}] = ["]
-    lines += [f"    SyntaxKind::{variant}," for variant, _, _ in kinds]
+    lines += [f"    SyntaxKind::{kind.name}," for kind in kinds]
     lines += ["];", "", "impl SyntaxKind {", "    /// All kinds, in the order of their numbers."]
     lines += ["    pub fn all() -> &'static [SyntaxKind] {", "        &KINDS", "    }", ""]
     lines += ["    /// The kind's number."]
@@ -69,23 +70,9 @@ def rust(kinds):
     lines += ["        KINDS.get(usize::from(number)).copied()", "    }", ""]
     lines += ["    /// The kind's name, as messages to a user write it."]
     lines += ["    pub fn name(self) -> &'static str {", "        match self {"]
-    lines += [f'            SyntaxKind::{variant} => "{name}",' for variant, name, _ in kinds]
-    lines += ["        }", "    }", "}", ""]
+    lines += [f'            SyntaxKind::{kind.name} => "{kind.printed}",' for kind in kinds]
+    lines += ["        }", "    }"]
+    for name in QUESTIONS:
+        lines += question(name, [kind.name for kind in kinds if name in kind.classes])
+    lines += ["}", ""]
     return "\n".join(lines)
-
-
-def main():
-    parser = argparse.ArgumentParser(description=__doc__, formatter_class=argparse.RawDescriptionHelpFormatter)
-    parser.add_argument("--check", action="store_true", help="change nothing")
-    check = parser.parse_args().check
-    written = {HEADER: header(kinds()), RUST: rust(kinds())}
-    stale = [file for file, text in written.items() if not file.is_file() or file.read_text() != text]
-    for file in stale:
-        print(f"{file.relative_to(TOP)} {'differs from' if check else 'is written anew after'} the kinds")
-        if not check:
-            file.write_text(written[file])
-    sys.exit(int(check and bool(stale)))
-
-
-if __name__ == "__main__":
-    main()

@@ -5,7 +5,7 @@
     bench/bodies.py --goals CRATE..                              also prints the goals at which each edit falls; a goal's name
                                                                  tells the clause, as `returns-clause-looks` does
     bench/bodies.py --times --jobs 1 CRATE..                     also prints which functions took the prover longest
-    bench/bodies.py --turn commit CRATE..                        judges all edits of must-fail/, and an eighth of the others
+    bench/bodies.py --turn commit CRATE..                        judges the edits of every turn, and an eighth of the others
     bench/bodies.py --beside LOG CRATE..                         judges each crate once the `rt ci` that writes LOG has proved the
                                                                  crates below it, and builds on what that run made of them
     bench/bodies.py --apply                                      makes no check: says whether each edit of each crate can be placed,
@@ -13,7 +13,8 @@
     bench/bodies.py --test                                       judges a small made-up crate whose verdicts are known
 
 Turns. The name of an edit, with its crate's, says in which of eight turns it is judged. The turn of a commit is the number of commits up
-to it, along first parents, modulo eight. So eight commits in a row try all edits. `--turn 3` names a turn.
+to it, along first parents, modulo eight. So eight commits in a row try all edits. `--turn 3` names a turn. An edit with the line
+`turn: every` is judged in each of them, and so is one in must-fail/.
 
 What an edit is. It has the lines `file: src/node/x.rt`, `in: Type::method`, `old: TEXT` and `new: TEXT`, and each text is one line.
 The line `in:` names a function (`in: function`, `in: Type::method`, `in: Trait for Type::method`, or `in: From<u8> for ..` where a
@@ -69,7 +70,21 @@ from pathlib import Path
 
 from bodies_forms import change_of_form, right_bodies
 from bodies_public import without_body
-from bodies_sources import Edit, Hunk, blanked, calls_itself, copied, edit_files, edits_of, functions, in_copy, placed, reach, types
+from bodies_sources import (
+    Edit,
+    Hunk,
+    blanked,
+    calls_itself,
+    copied,
+    edit_files,
+    edits_of,
+    functions,
+    in_copy,
+    is_in_every_turn,
+    placed,
+    reach,
+    types,
+)
 from dearest import seconds_of, table
 
 TOP = Path(__file__).resolve().parent.parent
@@ -81,7 +96,7 @@ GOAL = "`search` did not prove `"
 NAMED = re.compile(r"`search` did not prove `([^`]+)`|error: `([^`]+)`")  # a goal, or a declaration of a proof file
 VANISHED = re.compile(r"has no field|is not in scope|has no `|was not admitted")  # the edit took a name away: it says little
 MANY = 100  # a crate with more edits takes longest
-TURNS = 8  # in how many turns the edits outside must-fail/ are judged
+TURNS = 8  # in how many turns the other edits than those of every turn are judged
 REFUSED = ("goal", "proof file")  # the two ways of a failure of its own
 OF_CLAUSE = re.compile(r"\breturns\b|loop-.*-(?:preserved|init)|invariant_of|-bits")  # goals of what the function promises
 UNSEEN = re.compile(r"[=!<>]=|[?+*/<>-]|\bfor\b")  # what may call a method of a trait that the body doesn't name
@@ -228,13 +243,13 @@ class Room:
 
 
 def turn_of(crate, name):
-    """The turn in which an edit outside must-fail/ is judged."""
+    """The turn in which an edit is judged that isn't judged in every turn."""
     return zlib.crc32(f"{crate}/{name}".encode()) % TURNS
 
 
 def judged_in(turn, crate):
     """The names of the edits of a crate that are judged in this turn. Without one all are."""
-    return {it.stem for it in edit_files(crate) if turn is None or it.parent.name == "must-fail" or turn_of(crate.name, it.stem) == turn}
+    return {it.stem for it in edit_files(crate) if turn is None or is_in_every_turn(it) or turn_of(crate.name, it.stem) == turn}
 
 
 def turn_of_commit(top=TOP):
@@ -737,7 +752,7 @@ def judge_all(given):
     edits = {it: len(edit_files(TOP / "crates" / it)) for it in given.crates}
     if given.how:
         count = sum(len(judged_in(given.turn, TOP / "crates" / it)) for it in given.crates)
-        print(f"{given.how}: {count} of {sum(edits.values())} wrong bodies are judged, with all of must-fail/", flush=True)
+        print(f"{given.how}: {count} of {sum(edits.values())} wrong bodies are judged, with those of every turn", flush=True)
     names = sorted(edits, key=lambda it: -edits[it])
     with tempfile.TemporaryDirectory(prefix="proved-") as place, ThreadPoolExecutor(given.lanes) as pool:
         proved = Proved(given.beside, place) if given.beside else None
@@ -771,7 +786,7 @@ def main():
     words = argparse.ArgumentParser(description=__doc__, formatter_class=argparse.RawDescriptionHelpFormatter)
     words.add_argument("crates", nargs="*")
     words.add_argument("--only", default="", help="judge only the edits with this word in their names; commas separate several words")
-    words.add_argument("--turn", metavar="commit|N", help="judge all edits of must-fail/, and of the others those of this turn")
+    words.add_argument("--turn", metavar="commit|N", help="judge the edits of every turn, and of the others those of this turn")
     words.add_argument("--beside", metavar="LOG", default="", help="build on what the run of rt ci with this log proves")
     words.add_argument("--jobs", type=int, default=2, help="how many jobs a check gets at most; it gets one if no processor is idle")
     words.add_argument("--further", type=int, default=16, help="how many further checks a crate gets for what the first ones leave open")

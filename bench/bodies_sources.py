@@ -365,6 +365,11 @@ def edit_files(crate):
     return [*sorted((crate / "must-fail").glob("*.edit")), *sorted((crate / "wrong-bodies").rglob("*.edit"))]
 
 
+def is_in_every_turn(file):
+    """Whether an edit is judged in every turn."""
+    return file.parent.name == "must-fail" or "turn: every" in file.read_text().split("\n")
+
+
 def look_at_place(crate, file, changes):
     """Raises an error unless the edit has changes, each names its function, and the file is in the right folder."""
     if not changes:

@@ -4,7 +4,7 @@ import tempfile
 from collections import Counter
 from pathlib import Path
 
-from bodies import TOP, TURNS, edit_files, judged, judged_in, turn_of, turn_of_commit
+from bodies import TOP, TURNS, edit_files, is_in_every_turn, judged, judged_in, turn_of, turn_of_commit
 
 LIB = """#![tactic(auto)]
 
@@ -303,14 +303,14 @@ def written(top, edits):
 
 
 def turns_of_edits():
-    """What is wrong with the turns of the repository's edits: each is judged in one of them, and each of must-fail/ in all."""
+    """What is wrong with the turns of the repository's edits: each is judged in one of them, and those of every turn in all."""
     wrong = []
     # The checksum of `made_up/an_edit` in the trailer that gzip writes is 676615665.
     if turn_of("made_up", "an_edit") != 676615665 % TURNS:
         wrong.append("the turn of an edit isn't the CRC-32 of its name, modulo the number of turns")
     for crate in sorted((TOP / "crates").iterdir()):
         counts = Counter(name for turn in range(TURNS) for name in judged_in(turn, crate))
-        known = {it.stem: TURNS if it.parent.name == "must-fail" else 1 for it in edit_files(crate)}
+        known = {it.stem: TURNS if is_in_every_turn(it) else 1 for it in edit_files(crate)}
         wrong += [f"{crate.name}/{it}: judged in {counts[it]} turns" for it in sorted(known | counts) if counts[it] != known.get(it)]
         if judged_in(None, crate) != known.keys():
             wrong.append(f"{crate.name}: without a turn not all are judged")

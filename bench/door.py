@@ -6,7 +6,7 @@
     bench/door.py --declared       only compares the declarations, in a second
     bench/door.py --speed          times calls from C, next to the same work in Rattle where bench/speed.py has a row for it
 
-1. The kinds of the header and of the Rust crate must be those that bench/bindings.py writes, and the accessors those of
+1. The kinds of the header and of the Rust crate must be those that bench/kinds.py writes, and the accessors those of
    bench/accessors.py.
 2. The exports of crates/typst_c, the functions of bindings/c/typst.h and those of bindings/rust/src/raw.rs must be the same, with
    the same names, numbers and widths of arguments. So must the fields of the structs that are passed, and the functions of the
@@ -20,7 +20,8 @@
 4. gcc compiles the examples and the tests in C with all warnings. They run under the sanitizers of addresses and of undefined
    behavior. One test makes calls that are drawn at random: a million, or as many as --calls says. Another refuses each request for
    memory in turn. A third makes each call that only reads on sessions in memory that can't be written, and a fourth passes null
-   pointers. A program that doesn't look at a status must not compile. Each example must print what the file `.stdout` next to it
+   pointers. Where valgrind is there, it counts the instructions of an edit, of a read at the end of a chain of nodes and of a walk over
+   the chain at two sizes. A program that doesn't look at a status must not compile. Each example must print what the file `.stdout` next to it
    says. clang, if it is there, reads the comments of the headers.
 5. cargo, offline, runs the tests, the lints and the documentation of the Rust crate. Its examples must print what the files
    `.stdout` next to them say. One of them carries out scripts: the vectors of scripts and the scripts in examples/.
@@ -36,6 +37,7 @@ import sys
 import tempfile
 from pathlib import Path
 
+import growth
 import speed
 from bodies import Proved, Room, below, needs_of
 
@@ -70,6 +72,13 @@ BESIDE = {"all nodes by typst_preorder, a node": speed.over("", "preorder", "doc
           "a node by its number": speed.Row("", f"find document {speed.HUNDRED_THOUSAND} 50000"),
           "a leaf by one as long": speed.Row("", f"replace document {speed.HUNDRED_THOUSAND} 20000"),
           "a letter in a text of 1,000 lines": speed.Row("", "letter 1000 1000", 2)}
+# The calls whose instructions growth.c lets count, each with two sizes and the most instructions that it may take at each. An edit isn't
+# in proportion to the text, and the two reads of a chain are in proportion to its levels.
+COUNTED = {"edit": [(1_000, 30_000), (16_000, 60_000)],
+           "node": [(250, 6_500), (1_000, 25_000)],
+           "preorder": [(250, 25_000), (1_000, 95_000)]}
+# How often a call is made to be counted.
+TIMES = 32
 # What an export calls a handle, a caller calls a session.
 HANDLE = ("session", POINTER)
 
@@ -177,12 +186,15 @@ def status_differences(header):
 
 
 def version_differences(header):
-    """Whether the library, the header and the Rust crate have one version."""
+    """Whether the library, the header and the Rust crate have the version of the file VERSION."""
+    numbered = lambda written: sum(int(it) * scale for it, scale in zip(written.split("."), (10_000, 100, 1), strict=True))
+    wanted = numbered((TOP / "VERSION").read_text().strip())
     inside = int(re.search(r"pub const VERSION: u32 = (\d+);", (EXPORTS / "src/life.rt").read_text())[1])
     in_c = int(re.search(r"#define TYPST_TREE_VERSION (\d+)", header)[1])
-    first, second, third = map(int, re.search(r'^version = "(\d+)\.(\d+)\.(\d+)"', (RUST / "Cargo.toml").read_text(), re.M).groups())
-    in_rust = 10_000 * first + 100 * second + third
-    return [] if inside == in_c == in_rust else [f"the version is {inside} in the library, {in_c} in C and {in_rust} in Rust"]
+    in_rust = numbered(re.search(r'^version = "([\d.]+)"', (RUST / "Cargo.toml").read_text(), re.M)[1])
+    if wanted == inside == in_c == in_rust:
+        return []
+    return [f"the version is {wanted} in VERSION, {inside} in the library, {in_c} in C and {in_rust} in Rust"]
 
 
 def severity_differences(header):
@@ -326,6 +338,29 @@ def time_calls(folder, archive, turns):
         print(speed.lined([name, speed.digits(min(times)), speed.digits(min(inside)) if inside else ""]), flush=True)
 
 
+def count_calls(folder, archive):
+    """Whether each call of growth.c takes at most its bound of instructions."""
+    if not shutil.which("valgrind"):
+        print("there is no valgrind here, so no instructions of calls from C were counted")
+        return
+    program = folder / "growth"
+    run(["gcc", *STRICT, "-O2", C / "tests/growth.c", C / "heap.c", archive, "-o", program])
+    pattern = growth.INSTRUCTIONS[1]
+
+    def counted(call, size, times):
+        ran = subprocess.run(["valgrind", *growth.INSTRUCTIONS[0], program, call, str(size), str(times)], capture_output=True, text=True, check=False)
+        if ran.returncode:
+            raise Differs(f"growth.c: {call} {size} ends with {ran.returncode}: {ran.stderr[-2000:]}")
+        return int(re.search(pattern, ran.stderr)[1])
+
+    for call, bounds in COUNTED.items():
+        for size, most in bounds:
+            taken = (counted(call, size, TIMES) - counted(call, size, 0)) // TIMES
+            if taken > most:
+                raise Differs(f"typst_{call} takes {taken} instructions at the size {size}, and {most} are the most")
+    print(f"{len(COUNTED)} calls from C counted at two sizes")
+
+
 def run_scripts(program):
     """Carries out each script of the vectors and of the examples, and compares standard output, standard error and the status."""
     count = 0
@@ -368,7 +403,7 @@ def main():
     parser.add_argument("--declared", action="store_true", help="compare the declarations, and build nothing")
     asked = parser.parse_args()
     try:
-        run([TOP / "bench/bindings.py", "--check"])
+        run([TOP / "bench/kinds.py", "--check"])
         run([TOP / "bench/accessors.py", "--check"])
         wanted = compare_declarations()
         if asked.declared:
@@ -387,6 +422,7 @@ def main():
                 print("there is no gcc here, so no program in C or Rust ran with the library")
             else:
                 programs_in_c(folder, archive, asked.calls)
+                count_calls(folder, archive)
                 if shutil.which("cargo"):
                     crate_in_rust(folder, archive)
                 else:

@@ -20,7 +20,7 @@ WRITTEN = f"Written by bench/grammar.py from {TABLE}: change that and run it."
 WIDTH = 100  # of a line of code
 START = "document"  # the state of the outermost frame
 CONDITIONS = {"newline": "Newline", "empty": "Empty"}
-LINE_FEEDS = {"stop": "Stop", "go": "Go"}
+LINE_FEEDS = {"stop": "Stop", "go": "Go", "par": "Par"}
 
 
 def camel(name):

@@ -58,18 +58,6 @@ def tokens(nodes):
             yield ("White" if node.kind in ("Space", "Parbreak") else "Leaf"), node
 
 
-def blocks(tokens_of_text):
-    """The tokens of each block."""
-    block = []
-    for name, node in tokens_of_text:
-        block.append((name, node))
-        if node.kind == "Parbreak":
-            yield block
-            block = []
-    if block:
-        yield block
-
-
 @dataclass
 class Frame:
     state: str
@@ -88,15 +76,35 @@ class Machine:
     nodes: list = field(default_factory=list)
     body: int = 0
     line: bool = False
+    blank: bool = False
     judge: int = 0
-    frames: list = field(default_factory=lambda: [Frame(START, 0, True, MOST_DEEP, "go")])
+    frames: list = field(default_factory=lambda: [Frame(START, 0, True, MOST_DEEP, "par")])
 
-    def block(self, tokens_of_block):
-        for name, node in tokens_of_block:
-            if name == "White":
-                self.white(node)
-            else:
-                self.take(name, node)
+    def step(self, name, node):
+        if name == "White":
+            self.white(node)
+        else:
+            self.take(name, node)
+
+    def reads_as_end(self):
+        newline = self.frames[self.judge].newline
+        return newline == "stop" and self.line or newline == "par" and self.blank
+
+    def is_over(self):
+        return self.line and len(self.frames) == 1
+
+    def close(self):
+        """Ends the frames that the line feed before the next token ends."""
+        while self.reads_as_end() and not self.is_over():
+            row = self.row("End")
+            if row is None or row.takes:
+                return
+            self.acts(row.before)
+            if row.call:
+                self.call(*row.call, self.table.states[row.call[0]].words)
+
+    def end(self):
+        """The nodes, once all tokens have come."""
         self.take("End", None)
         return self.nodes
 
@@ -106,21 +114,24 @@ class Machine:
             top.start = len(self.nodes) + 1
         self.nodes.append(node)
         self.line |= "\n" in node.text
+        self.blank |= node.kind == "Parbreak"
 
     def put(self, node):
         if node:
             self.nodes.append(node)
-            self.body, self.line, self.judge = len(self.nodes), False, len(self.frames) - 1
+            self.body, self.line, self.blank, self.judge = len(self.nodes), False, False, len(self.frames) - 1
+
+    def row(self, name):
+        cell = self.cells[self.frames[-1].state, "End" if self.reads_as_end() else name]
+        return next((row for row in cell if self.holds(row.condition)), None)
 
     def take(self, name, node):
         for _ in range(MOST_LOOKS):
-            top = self.frames[-1]
-            ends = self.line and self.frames[self.judge].newline == "stop"
-            row = next((row for row in self.cells[top.state, "End" if ends else name] if self.holds(row.condition)), None)
+            row = self.row(name)
             if row is None:
                 return self.put(node and Node("Error", node.text, "unexpected token"))
             words = self.table.states[row.call[0]].words if row.call else ()
-            if "deep" in words and top.room == 0:
+            if "deep" in words and self.frames[-1].room == 0:
                 return self.put(node and Node("Error", node.text, "too many open delimiters"))
             self.acts(row.before)
             if row.takes:
@@ -171,9 +182,21 @@ def cells_of(table):
     return {(state.name, it.name): table.rows_for(state, it.sign) for state in table.frames for it in table.classes}
 
 
+def trees_of(table, cells, tokens_of_text):
+    """The trees of a text. A block ends where a line feed leaves only the outermost frame open."""
+    machine, nodes = Machine(table, cells), []
+    for name, node in tokens_of_text:
+        machine.close()
+        if machine.is_over():
+            nodes += machine.end()
+            machine = Machine(table, cells)
+        machine.step(name, node)
+    machine.close()
+    return nodes + machine.end()
+
+
 def trees(table, cells, texts):
-    """The trees of texts, each of which is a list of blocks."""
-    return [[node for block in text for node in Machine(table, cells).block(block)] for text in texts]
+    return [trees_of(table, cells, text) for text in texts]
 
 
 def main():
@@ -181,7 +204,7 @@ def main():
     sys.setrecursionlimit(10_000)
     names = sorted(path.stem for path in DATA.glob("*.tree"))
     wanted = [list(read((DATA / f"{name}.tree").read_text().splitlines())[0].children) for name in names]
-    texts = [list(blocks(tokens(nodes))) for nodes in wanted]
+    texts = [list(tokens(nodes)) for nodes in wanted]
     cells = cells_of(table)
     other = [name for name, made, tree in zip(names, trees(table, cells, texts), wanted) if made != tree]
     untried = []

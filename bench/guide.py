@@ -3,9 +3,9 @@
 
     bench/guide.py
 
-Pages are README.md, docs/GUIDE.md and examples/README.md. The documents of a crate are what `//!` and `///` say in its
-sources. An example is the text between fences, or in a page the text that is indented by four blanks. It is one of
-these:
+Pages are README.md, docs/GUIDE.md and examples/README.md, and the code in C and Rust of docs/C.md and docs/RUST.md. The
+documents of a crate are what `//!` and `///` say in its sources. An example is the text between fences, or in a page the
+text that is indented by four blanks. It is one of these:
 
 - code: its lines follow one another in a test of `crates/*_tests`, in `crates/example_*`, in another program or in what
   the programs of ./show share, however far they are indented there. A line `..` means lines that are left out. The
@@ -24,9 +24,11 @@ from pathlib import Path
 
 TOP = Path(__file__).resolve().parent.parent
 PAGES = ("README.md", "docs/GUIDE.md", "examples/README.md")
+OF_BINDINGS = ("docs/C.md", "docs/RUST.md")
 GUIDE = ("crates/typst_tree_tests/src/guide/*.rt", "crates/example_*/src/*.rt", "bindings/*/examples/*.c", "bindings/*/examples/*.rs")
 SHARED = ("crates/typst_shown/src/*.rt", "crates/typst_page/src/*.rt")
 FENCED = re.compile(r"^```\w*\n(.*?)^```$", re.M | re.S)
+IN_C_OR_RUST = re.compile(r"^```(?:c|rust)\n(.*?)^```$", re.M | re.S)
 INDENTED = re.compile(r"(?:(?<=\n\n)|\A)((?: {4,}.*\n|\n(?= {4}))+)")
 DOCUMENT = re.compile(r"(?:^[ \t]*//[/!].*\n)+", re.M)
 
@@ -114,6 +116,12 @@ def of_page(name, guide, answers):
     return fenced + indented, strange
 
 
+def of_bindings(name, guide):
+    """The code in C and Rust of a page, and what of it is taken from nowhere."""
+    pieces = IN_C_OR_RUST.findall((TOP / name).read_text())
+    return pieces, [piece for piece in pieces if not stands_in_any(piece, guide)]
+
+
 def of_source(text, sources, answers):
     """The examples in the documents of a source, and those that are taken from nowhere."""
     documents = "".join(re.sub(r"^[ \t]*//[/!] ?", "", it, flags=re.M) + "\n" for it in DOCUMENT.findall(text))
@@ -130,7 +138,7 @@ def main():
     shared = {it for pattern in SHARED for it in TOP.glob(pattern)}
     sources = [code_of(it.read_text()) for it in sorted(tests | programs | shared)]
     answers = examples()
-    told = {name: of_page(name, guide, answers) for name in PAGES}
+    told = {name: of_page(name, guide, answers) for name in PAGES} | {name: of_bindings(name, guide) for name in OF_BINDINGS}
     for file in sorted(TOP.glob("crates/*/src/**/*.rt")):
         pieces, strange = of_source(file.read_text(), sources, answers)
         if pieces:
@@ -139,7 +147,7 @@ def main():
         for piece in strange:
             print(f"{name}: this is in no program, no test and no example:\n{piece}")
     count, lost = (sum(len(it[part]) for it in told.values()) for part in (0, 1))
-    is_well = not lost and all(told[name][0] for name in PAGES)
+    is_well = not lost and all(told[name][0] for name in (*PAGES, *OF_BINDINGS))
     print(f"{count} examples in {len(told)} pages and sources, {lost} of them found nowhere else")
     return 0 if is_well else 1
 

@@ -1,5 +1,5 @@
 #!/usr/bin/env python3
-"""Refuses each request for memory of each call in turn, and compares how calls end with the table of docs/MEMORY.md.
+"""Refuses each request for memory of each call in turn, and compares how calls end with the table of docs/internal/REFUSED.md.
 
     bench/hostile.py             compares, and fails if anything differs
     bench/hostile.py --found     prints the rows as they are found, with no comparison
@@ -25,7 +25,7 @@ from pathlib import Path
 
 TOP = Path(__file__).resolve().parent.parent
 CRATE = TOP / "crates/typst_hostile"
-TABLE = TOP / "docs/MEMORY.md"
+TABLE = TOP / "docs/internal/REFUSED.md"
 # Which request of a run is refused: one after all that any call needs and makes. A drawing asks for memory with each of its words.
 REFUSED = 4000
 # How many passes there are past the requests of a call, and how many there are for --found.

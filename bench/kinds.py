@@ -6,6 +6,7 @@
 
 Each such file has a template in bench/templates, which is the file without its tables. In a template, `@NAME@` is the
 place of the table that `tables` below makes under that name. The tables are laid out as `rt fmt` lays them out.
+bench/bindings.py has the two files of bindings/, which are tables alone.
 """
 import argparse
 import re
@@ -13,6 +14,8 @@ import sys
 import textwrap
 from dataclasses import dataclass
 from pathlib import Path
+
+import bindings
 
 TOP = Path(__file__).resolve().parent.parent
 TABLE = "crates/kinds.txt"
@@ -248,6 +251,8 @@ def files(table):
             sys.exit(f"{template.relative_to(TOP)}: no table is called @{'@, @'.join(sorted(unknown))}@")
         path = TOP / (name if name.startswith("docs/") else f"crates/{name}")
         yield path, NAME.sub(lambda at: made[at[1]], text)
+    yield TOP / bindings.HEADER, bindings.header(table.kinds, WRITTEN)
+    yield TOP / bindings.RUST, bindings.rust(table.kinds, WRITTEN)
 
 
 def main():

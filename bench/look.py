@@ -1,6 +1,6 @@
 #!/usr/bin/env python3
-"""Says whether docs/LOOK.md tells what crates/typst_look/stdout has: a form for each accessor of each view, and how many lines each
-mark has.
+"""Says whether the pages have what crates/typst_look/stdout has: docs/SCRIPT.md a form for each accessor of each view, and
+docs/internal/GATE.md how many lines each mark has.
 
     bench/look.py
 """
@@ -10,7 +10,8 @@ from collections import Counter
 from pathlib import Path
 
 TOP = Path(__file__).resolve().parent.parent
-PAGE = TOP / "docs/LOOK.md"
+PAGE = TOP / "docs/SCRIPT.md"
+COUNTS = TOP / "docs/internal/GATE.md"
 WANTED = TOP / "crates/typst_look/stdout"
 # Lines of answers that are no accessor of a view: of each expression or pattern, and of what an accessor answers.
 OTHERS = {"hash", "is_literal", "bindings"}
@@ -44,12 +45,12 @@ def counted(lines):
 
 
 def faults():
-    page, lines = PAGE.read_text(), WANTED.read_text().split("\n")[:-1]
-    told, has = forms(page), answered(lines)
+    page, lines = COUNTS.read_text(), WANTED.read_text().split("\n")[:-1]
+    told, has = forms(PAGE.read_text()), answered(lines)
     for view in sorted(told.keys() | has.keys()):
         for name in sorted(told.get(view, set()) ^ has.get(view, set())):
             yield f"{view}.{name} is in {'a row of the page' if name in told.get(view, ()) else 'stdout'} alone"
-    total = re.search(r"([\d,]+) lines", page[page.index("builds ") :])[1]
+    total = re.search(r"([\d,]+) lines", page[page.index("/stdin` builds ") :])[1]
     if total != f"{len(lines):,}":
         yield f"the page tells {total} lines, and stdout has {len(lines):,}"
     for mark, number in counted(lines).items():
@@ -60,7 +61,7 @@ def faults():
 
 def main():
     found = [f"look: {it}" for it in faults()]
-    print("\n".join(found) or "docs/LOOK.md tells the accessors and the lines of crates/typst_look/stdout")
+    print("\n".join(found) or "docs/SCRIPT.md has the accessors, and docs/internal/GATE.md the lines, of crates/typst_look/stdout")
     return 1 if found else 0
 
 

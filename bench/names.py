@@ -3,18 +3,20 @@
 
     bench/names.py
 
-In docs/PROVED.md a name in code is a function (`name`, `Type::name`), a type, a variant, a word of a specification, a
-file or a test. In parentheses, a name in small letters is a clause of a function that the same paragraph names. In the
-first table it is a clause of `session::run`. In the tables on texts, the second cell names clauses of the functions
-that the row names. After a colon it names words of specifications. A row of the table of wrong bodies names those
-first, then the functions that they change, then clauses of these.
+In docs/PROVED.md and docs/internal/CLAUSES.md a name in code is a function (`name`, `Type::name`), a type, a variant, a
+definition, a file or a test. In parentheses, a name in small letters is a clause of a function that the same paragraph
+names. In the tables of theorems, the last cell names clauses of the functions that the row names, and in the one on runs
+of edits also of `session::run`. After a colon it names definitions. A row of the table of wrong bodies names those first,
+then the functions that they change, then clauses of these. They are judged in every turn (bench/bodies.py).
 
-In docs/WORKED.md the second cell of a row names tests by their modules. A name alone is in the module of the name
+In docs/internal/WORKED.md the second cell of a row names tests by their modules. A name alone is in the module of the name
 before it. A name in capitals is a table of that module. A name in quotes is a row, which is in that module as a text.
 The names after "look" are trees of crates/typst_look/stdin and, after a colon, what `stdout` says about them.
 
 In every page, a name in code occurs in a file that isn't a page, and what looks like a file or a folder is there. The
-script leaves out placeholders, which are in capitals, commands of the kit, and pages that name things elsewhere.
+script leaves out placeholders, which are in capitals, commands of the kit, and pages that name things elsewhere. Each link
+of a page leads to a file, and to a heading of that page if it names one. README.md has the version of the file VERSION,
+and docs/internal/ARCHITECTURE.md each crate.
 """
 import os
 import re
@@ -22,9 +24,10 @@ import sys
 from functools import cache
 from pathlib import Path
 
-from bodies_sources import blanked, edits_of, functions
+from bodies_sources import blanked, edit_files, edits_of, functions, is_in_every_turn
 
 TOP = Path(__file__).resolve().parent.parent
+PROVED = ("docs/PROVED.md", "docs/internal/CLAUSES.md")
 CRATES = sorted(it.parent.name for it in (TOP / "crates").glob("*/src"))
 TESTS = {
     "typst_linked_tests": ("base", "node", "linked"),
@@ -32,14 +35,20 @@ TESTS = {
     "typst_tree_tests": ("tree", "memory"),
     "typst_script_tests": ("script",),
 }
-HOLDERS = {"What holds over any run": "typst_tree", "What holds of a text": "typst_source", "What holds of the lines": "typst_lines"}
+# The tables of theorems, by how their sections begin, and the crates whose functions they name.
+HOLDERS = {
+    "Ten theorems": CRATES,
+    "What holds over any run": ["typst_tree"],
+    "What holds of a text": ["typst_source"],
+    "What holds of the lines": ["typst_lines"],
+}
 LISTED = set(re.findall(r"\w+", (TOP / "crates.txt").read_text()))  # crates, those of the kit among them
 OF_TRAITS = {"goes", "steps"}  # clauses that a method has by its trait in std
 SPAN = re.compile(r"`([^`\n]+)`")
 CLAUSE = re.compile(r"\b(?:ensures|requires)\*? (\w+) \{")
 WORD = re.compile(r"[A-Za-z_]\w*")
 # Pages that name things of the Rust crate or of Typst; docs/API.md is compared whole.
-ELSEWHERE = ("docs/API.md", "docs/DIFFERENCES.md", "docs/KINDS.md")
+ELSEWHERE = ("docs/API.md", "docs/DIFFERENCES.md", "docs/KINDS.md", "docs/SYNTAX.md")
 OUTSIDE = {"FIRST_PROOFS.md", "SHORTER_PROOFS.md", "Send"}  # names of the kit and of Rust
 UNTRACKED = {".git", "out", "target", "__pycache__"}
 FENCED = re.compile(r"^```.*?^```$", re.M | re.S)
@@ -104,8 +113,7 @@ def paragraphs(text):
             part.append(line)
 
 
-def of_proved(wrong):
-    page = TOP / "docs/PROVED.md"
+def of_proved(page, wrong):
     seen = 0
     for section in re.split(r"^## ", page.read_text(), flags=re.M)[1:]:
         title, _, text = section.partition("\n")
@@ -120,11 +128,11 @@ def of_proved(wrong):
             bold = re.match(r"- \*\*`(\w+)`\*\*", part)
             crates = [bold[1]] if bold else crates
             holder = next((it for start, it in HOLDERS.items() if title.startswith(start)), None)
-            owners = [found for it in spans for found in named(it, [holder] if holder else crates)]
+            owners = [found for it in spans for found in named(it, holder or crates)]
             groups = re.findall(r"\(([^()]*)\)", part)
             if holder:
-                owners += named("session::run", [holder])
-                groups = [re.split(r"[:,] its fields|: ", it)[0] for it in part.split("|")[2:3]]
+                owners += named("session::run", ["typst_tree"]) if holder == ["typst_tree"] else []
+                groups = [re.split(r"[:,] its fields|: ", it)[0] for it in part.split("|")[2:-1][-1:]]
             clauses = set().union(*(it[2] for it in owners))
             for group in groups:
                 for it in SPAN.findall(group.replace("\n", " ")):
@@ -146,6 +154,12 @@ def bodies():
     return found
 
 
+@cache
+def of_every_turn():
+    """The names of the wrong bodies that are judged in every turn."""
+    return {it.stem for crate in CRATES for it in edit_files(TOP / "crates" / crate) if is_in_every_turn(it)}
+
+
 def of_bodies(page, row, wrong):
     cells = row.split("|")[1:-1]
     if len(cells) != 3:
@@ -161,6 +175,8 @@ def of_bodies(page, row, wrong):
         changed = bodies().get(name)
         if changed is None:
             wrong.append(f"{page.name}: `{name}` is no wrong body")
+        elif name not in of_every_turn():
+            wrong.append(f"{page.name}: `{name}` isn't judged in every turn")
         elif not changed & {it[1] for it in owners}:
             wrong.append(f"{page.name}: `{name}` changes {sorted(changed)}, and not {cells[1].strip()}")
 
@@ -176,7 +192,7 @@ def file_of(module):
 
 
 def of_worked(wrong):
-    page = TOP / "docs/WORKED.md"
+    page = TOP / "docs/internal/WORKED.md"
     trees = (TOP / "crates/typst_look/stdin").read_bytes().decode(errors="replace")
     told = (TOP / "crates/typst_look/stdout").read_bytes().decode(errors="replace")
     marks = set(re.findall(r"^mark (.*?)(?: \d+)?$", trees, re.M)) | {"hollow"}
@@ -267,10 +283,29 @@ def is_known(name):
     return all(len(word) == 1 or word in vocabulary() for word in WORD.findall(name))
 
 
+@cache
+def anchors(page):
+    """What links may name in a page: its headings, as browsers of Markdown spell them."""
+    headings = re.findall(r"^#+ (.*)$", FENCED.sub("", page.read_text()), re.M)
+    return {re.sub(r"[^\w -]", "", it).strip().lower().replace(" ", "-") for it in headings}
+
+
+def of_links(page, wrong):
+    for name, _, anchor in re.findall(r"\]\(([^()#\s:]*)(#([^()\s]+))?\)", FENCED.sub("", page.read_text())):
+        to = page.parent / name if name else page
+        if not to.exists() or anchor and anchor not in anchors(to):
+            wrong.append(f"{page.name}: the link to {name}{anchor and '#'}{anchor} leads nowhere")
+
+
 def of_pages(wrong):
-    pages = [TOP / it for it in ("README.md", "CONTRIBUTING.md", "examples/README.md")] + sorted((TOP / "docs").glob("*.md"))
-    seen = 0
+    pages = [TOP / it for it in ("README.md", "CHANGELOG.md", "CONTRIBUTING.md", "examples/README.md")] + sorted((TOP / "docs").rglob("*.md"))
+    seen, version = 0, (TOP / "VERSION").read_text().strip()
+    if f"**Version {version}**" not in pages[0].read_text():
+        wrong.append(f"{pages[0].name}: it doesn't say **Version {version}**, as the file VERSION does")
+    chart = (TOP / "docs/internal/ARCHITECTURE.md").read_text()
+    wrong += [f"ARCHITECTURE.md: there is no `{it}`" for it in CRATES if f"`{it}`" not in chart]
     for page in pages:
+        of_links(page, wrong)
         if str(page.relative_to(TOP)) not in ELSEWHERE:
             spans = SPAN.findall(FENCED.sub("", page.read_text()))
             seen += len(spans)
@@ -280,10 +315,12 @@ def of_pages(wrong):
 
 def main():
     wrong = []
-    proved, worked, all_pages = of_proved(wrong), of_worked(wrong), of_pages(wrong)
+    proved = [of_proved(TOP / it, wrong) for it in PROVED]
+    worked, all_pages = of_worked(wrong), of_pages(wrong)
     print(*wrong, sep="\n", end="\n" if wrong else "")
-    print(f"{proved} names in docs/PROVED.md, {worked} in docs/WORKED.md and {all_pages} in all pages, {len(wrong)} of them wrong")
-    return 0 if proved and worked and all_pages and not wrong else 1
+    told = ", ".join(f"{count} in {page}" for count, page in zip((*proved, worked, all_pages), (*PROVED, "docs/internal/WORKED.md", "all pages")))
+    print(f"names: {told}; {len(wrong)} of them wrong")
+    return 0 if all(proved) and worked and all_pages and not wrong else 1
 
 
 if __name__ == "__main__":

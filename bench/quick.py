@@ -7,17 +7,19 @@ It works in a clean clone, four parts at a time, the longest first:
 
 - the checks of bench/seconds;
 - the tests of each crate that has some, by `rt try --test`;
-- the programs of examples/README.md and the trees of markup in typst_markup_tests, by `rt try`: each must print its `stdout`;
-- the scripts and the looks in examples/, and the letter with its edit by ./show: each must print its `NAME.stdout`.
+- the programs of examples/README.md, by `rt try`, and the trees of texts in typst_markup_tests, which takes some 70,000 edits, by a build
+  of which nothing is tested: each must print its `stdout`;
+- the scripts and the looks in examples/ by ./run and ./look, and the text with a mistake and its edit by ./show: each must print its
+  `NAME.stdout`.
 
-`rt try` builds without a proof, and tests while a program runs what the proof would show. It tests no contract.
+`rt try` builds without a proof, and tests while a program runs what the proof would show. It tests no contract. ./run, ./look and
+./show make builds of which nothing is tested or proved, as they do for a user (bench/start).
 
 The last line is 'N passed, M failed'. Each check, each test and each program, script or look counts.
 """
 import os
 import re
 import shlex
-import shutil
 import subprocess
 import sys
 import tempfile
@@ -26,6 +28,8 @@ from concurrent.futures import ThreadPoolExecutor, as_completed
 from itertools import zip_longest
 from pathlib import Path
 
+import unproved
+
 TOP = Path(__file__).resolve().parent.parent
 CRATES, EXAMPLES = TOP / "crates", TOP / "examples"
 LANES = min(4, len(os.sched_getaffinity(0)))
@@ -33,10 +37,10 @@ LANES = min(4, len(os.sched_getaffinity(0)))
 TRY = ["rt", "try", "--seconds", "600"]
 # What the names of tests begin with that `rt try` can't run: they take all memory, and its allocator keeps some for itself.
 WITH_ALL_MEMORY = "memory::refused::"
-# The program that compares trees of markup.
+# The program that compares trees of texts.
 AGREEMENT = "typst_markup_tests"
-# The programs that read scripts and looks.
-READERS = {".script": "typst_tree_main", ".look": "typst_look"}
+# The starters of the programs that read scripts and looks.
+STARTERS = {".script": "./run", ".look": "./look"}
 LEFT_OUT = """Left out, and in ./gate: every proof, and so whether contracts hold; the wrong bodies that the prover must refuse; the tests that take
 all memory; the answers of typst_look; words, pages and inputs of ./show; refused memory and failing reads; the C header and the Rust
 crate; bounds of work."""
@@ -73,12 +77,22 @@ def tests(name):
 def program(name):
     """A program that must print its `stdout` and end with its `status`."""
     folder = CRATES / name
-    args = (folder / "args").read_text().split("\n")[:-1] if (folder / "args").exists() else []
-    data = [word for it in sorted(folder.glob("data/*")) for word in ("--data", f"{it.name}={it}")]
     stdin = folder / "stdin" if (folder / "stdin").exists() else None
-    done = ran([*TRY, *data, "--", *args], folder, stdin)
+    done = ran(TRY, folder, stdin)
     status = int((folder / "status").read_text()) if (folder / "status").exists() else 0
     return compared(done, folder / "stdout", status)
+
+
+def agreement():
+    """The trees of texts, which must print its `stdout`."""
+    folder = CRATES / AGREEMENT
+    with tempfile.TemporaryDirectory() as room:
+        made = Path(room, AGREEMENT)
+        try:
+            unproved.build(folder, made)
+        except unproved.Unbuilt as error:
+            return 0, 1, str(error)
+        return compared(ran([made, *(folder / "args").read_text().split()], folder / "data"), folder / "stdout")
 
 
 def compared(done, wanted, status=0):
@@ -92,31 +106,25 @@ def compared(done, wanted, status=0):
 
 
 def scripts(ending):
-    """The scripts or the looks of examples/, by one build. Its last line counts those that ended, whatever their output."""
-    files = sorted(EXAMPLES.glob(f"*{ending}"))
-    with tempfile.TemporaryDirectory() as room:
-        for it in files:
-            shutil.copy(it, Path(room, it.stem))
-            shutil.copy(it.with_suffix(".stdout"), room)
-        done = ran([*TRY, "--cases", room], CRATES / READERS[ending])
-    passed = len(re.findall(rb"^case=\S+ run=ended status=0 .*output=expected", done.stdout + done.stderr, re.M))
-    return passed, len(files) - passed or int(done.returncode != 0 or not files), told(done)
+    """The scripts or the looks of examples/, one by one. The first makes the build."""
+    done = [compared(ran([STARTERS[ending], it], TOP), it.with_suffix(".stdout")) for it in sorted(EXAMPLES.glob(f"*{ending}"))]
+    return sum(it[0] for it in done), sum(it[1] for it in done) or int(not done), "".join(it[2] for it in done if it[1])
 
 
-def letter():
-    """The letter and its edit, by ./show."""
-    done = ran(["./show", "examples/letter.typ", "--edits", "examples/letter.edits"], TOP)
-    return compared(done, EXAMPLES / "letter.stdout")
+def mistake():
+    """The text with a mistake and the edit that mends it, by ./show."""
+    done = ran(["./show", "examples/mistake.typ", "--edits", "examples/mistake.edits"], TOP)
+    return compared(done, EXAMPLES / "mistake.stdout")
 
 
 def parts():
     """What is run, the longest first: a name, a call, and its arguments."""
-    yield AGREEMENT, program, AGREEMENT
+    yield AGREEMENT, agreement
     for file in sorted(CRATES.glob("*/src"), key=lambda it: -sum(source.stat().st_size for source in it.rglob("*.rt"))):
         if any("#[test]" in source.read_text() for source in file.rglob("*.rt")):
             yield f"tests of {file.parent.name}", tests, file.parent.name
-    yield "the letter by ./show", letter
-    for ending in READERS:
+    yield "the mistake by ./show", mistake
+    for ending in STARTERS:
         yield f"examples/*{ending}", scripts, ending
     for name in sorted(it.name for it in CRATES.glob("example_*")):
         yield name, program, name

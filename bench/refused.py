@@ -1,14 +1,14 @@
 #!/usr/bin/env python3
 """Refuses each request for memory of ./show in turn, and compares what it prints with what it prints otherwise.
 
-    bench/refused.py [--programs FOLDER]
+    bench/refused.py [--program FILE]
 
-A run in which one request was refused must end with status 0 and print all, where the program can do without the
-memory. Otherwise it must end with status 1, with a beginning of all on standard output and `out of memory` on standard
-error. Both programs of a run get each request refused: typst_show_words, and the program that it names.
+A run in which one request was refused must end as the run with all memory does, where the program can do without the
+memory. Otherwise it must end with status 3, with a beginning of all on standard output and `out of memory` on standard
+error.
 
-The script runs the proved builds over a malloc that refuses one request, or the programs in the given folder. The C
-compiler makes that malloc. Where there is no compiler, the script says so and runs nothing.
+The script runs the proved build over a malloc that refuses one request, or the given program. The C compiler makes that
+malloc. Where there is no compiler, the script says so and runs nothing.
 """
 import os
 import shutil
@@ -18,6 +18,7 @@ import tempfile
 from pathlib import Path
 
 TOP = Path(__file__).resolve().parent.parent
+PROVED = TOP / "crates/typst_show/out/typst_show"
 MALLOC = r"""
 #include <errno.h>
 #include <stdlib.h>
@@ -51,6 +52,8 @@ RUNS = [
     ["text.typ"],
     ["text.typ", "--views"],
     ["text.typ", "--edits", "e"],
+    ["text.typ", "--kind", "text", "--places"],
+    ["text.typ", "--depth", "1", "--lines", "1-2", "--places"],
     ["text.typ", "--edits", "e", "--plain"],
     ["text.typ", "--edits", "e", "--page", "-"],
     ["long.typ", "--page", "-"],
@@ -67,53 +70,38 @@ FILES = {
 }
 
 
-def commands_of(words, folder, room):
-    """What ./show runs for these words: typst_show_words, and then the program that it names, with a file of its parts."""
-    read = [program_of("typst_show_words", folder), *words]
-    name, _, parts = subprocess.run(read, cwd=room, capture_output=True, check=True).stdout.partition(b"\0")
-    if not parts:
-        return [read]
-    Path(room, "parts").write_bytes(parts)
-    return [read, [program_of(name.decode(), folder), "parts", "."]]
-
-
-def program_of(name, folder):
-    """The proved build of a program, or the one in the folder."""
-    return folder / name if folder else TOP / f"crates/{name}/out/{name}"
-
-
 def run(command, room, **settings):
     env = {"PATH": os.environ["PATH"], "LD_PRELOAD": str(Path(room, "refusing.so")), **settings}
     return subprocess.run(command, cwd=room, env=env, capture_output=True, check=False)
 
 
 def requests_of(command, room):
-    """How many requests a run makes, and what it prints with memory at hand."""
+    """How many requests a run makes, what it prints with memory at hand, and its status."""
     ours, theirs = os.pipe()
     env = {"PATH": os.environ["PATH"], "LD_PRELOAD": str(Path(room, "refusing.so")), "REQUESTS": str(theirs)}
     ran = subprocess.run(command, cwd=room, env=env, capture_output=True, check=False, pass_fds=[theirs])
     os.close(theirs)
     with os.fdopen(ours) as told:
-        return int(told.read() or 0), ran.stdout
+        return int(told.read() or 0), ran.stdout, ran.returncode
 
 
-def differences(words, command, room):
-    """How many requests a command makes for these words, and what differs where one of them is refused."""
-    count, whole = requests_of(command, room)
-    name = f"{words}, {command[0].name}"
-    wrong = [] if count and whole else [f"{name}: {count} requests, and {len(whole)} bytes are printed"]
+def differences(program, words, room):
+    """How many requests the program makes for these words, and what differs where one of them is refused."""
+    command = [program, *words]
+    count, whole, status = requests_of(command, room)
+    wrong = [] if count and whole and status in (0, 1) else [f"{words}: {count} requests, {len(whole)} bytes are printed, and the status is {status}"]
     for at in range(1, count + 1):
         ran = run(command, room, REFUSED=str(at))
         said = ran.stderr.decode()
-        is_whole = (ran.returncode, said, ran.stdout) == (0, "", whole)
-        is_cut = ran.returncode == 1 and "out of memory" in said and said.count("\n") == 1 and whole.startswith(ran.stdout)
+        is_whole = (ran.returncode, said, ran.stdout) == (status, "", whole)
+        is_cut = ran.returncode == 3 and "out of memory" in said and said.count("\n") == 1 and whole.startswith(ran.stdout)
         if not is_whole and not is_cut:
-            wrong.append(f"{name}, request {at}: status {ran.returncode}, {said!r}, {ran.stdout[-80:]!r}")
+            wrong.append(f"{words}, request {at}: status {ran.returncode}, {said!r}, {ran.stdout[-80:]!r}")
     return count, wrong
 
 
 def main():
-    folder = Path(sys.argv[2]).resolve() if sys.argv[1:2] == ["--programs"] else None
+    program = Path(sys.argv[2]).resolve() if sys.argv[1:2] == ["--program"] else PROVED
     compiler = shutil.which("cc")
     if not compiler:
         print("no C compiler is here, so no request was refused")
@@ -124,7 +112,7 @@ def main():
         subprocess.run([compiler, "-O1", "-w", "-shared", "-fPIC", "-o", Path(room, "refusing.so"), source], check=True)
         for name, text in FILES.items():
             Path(room, name).write_text(text)
-        found = [differences(words, command, room) for words in RUNS for command in commands_of(words, folder, room)]
+        found = [differences(program, words, room) for words in RUNS]
     wrong = [line for _, lines in found for line in lines]
     print("\n".join([*wrong, f"{sum(count for count, _ in found)} requests of ./show refused in turn, {len(wrong)} differences"]))
     return 1 if wrong else 0

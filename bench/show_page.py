@@ -8,75 +8,96 @@ import shown
 NODE_CHARS, BESIDE, MOST = 48, 2, 60
 # The width of a child's place in the drawing of numbers, and where the first one begins.
 WIDTH, LEFT = 130, 10
+TRIVIA = {"Shebang", "LineComment", "BlockComment", "Space", "Parbreak"}
 # The elements of a page, and those that have no end.
-KNOWN = "html head meta title style body h1 h2 p div pre span details summary i ul li b br svg line circle text rect script".split()
-VOID = {"meta", "br", "line", "circle", "rect"}
+KNOWN = "html head meta title style body h1 h2 p div pre span details summary i b s u a ul li table tbody tr td label input button br svg line circle text rect script".split()
+VOID = {"meta", "br", "line", "circle", "rect", "input"}
+# The least contrast of letters, and the colours that are compared: letters on what is behind them.
+CONTRAST = 4.5
+LETTERS, BEHIND = ["ink", "told", "kept", "moved", "new", "bad", "warning", "faint"], ["paper"]
+MARKED, MARKS = ["ink", "kept", "moved", "new", "bad"], ["hit", "above", "pin"]
 
 
 class Page(HTMLParser):
     """The steps of a page: of each its title, its text in leaves, its nodes, its reports, and the shapes of its drawing.
 
-    The children of a node are in the `div` directly after it.
+    A node is a `details` with its row, what is told of it, and its children.
     """
 
     def __init__(self, page):
         super().__init__()
         self.steps, self.title, self.open, self.wrong = [], None, [], []
-        # In a tree, each open div: the node whose children are in it, and the last of them that was read.
+        # The nodes of a tree that are open.
         self.within = []
         self.feed(page)
         self.close()
         if self.open:
             self.wrong.append(f"{self.open} don't end")
 
+    def begin_step(self):
+        if not self.steps or self.steps[-1]["is_whole"]:
+            step = {"title": self.title, "text": "", "leaves": [], "nodes": [], "lines": [], "reports": [], "shapes": []}
+            self.steps.append(step | {"left_out": "", "anchors": {}, "numbered": 0, "is_whole": False, "has_tree": False})
+        return self.steps[-1]
+
     def handle_starttag(self, tag, attrs):
         attrs = dict(attrs)
+        classes = (attrs.get("class") or "").split()
+        is_placed = "pre" in self.open or self.is_in_tree()
         if tag not in KNOWN or any(it.startswith("on") for it in attrs):
             self.wrong.append(f"<{tag} {attrs}> is of the text")
-        if (self.within or "pre" in self.open) and set(attrs) - {"class"}:
-            self.wrong.append(f"<{tag} {attrs}> has more than a class")
-        classes = (attrs.get("class") or "").split()
+        if is_placed and set(attrs) - ({"id"} if tag == "a" else {"class", "open"} if tag == "details" else {"class"}):
+            self.wrong.append(f"<{tag} {attrs}> has attributes of no use")
         if tag == "h2":
             self.title = ""
-        elif "numbers" in classes or ("pair" in classes and (not self.steps or self.steps[-1]["nodes"] is not None)):
-            self.steps.append({"title": self.title, "text": "", "leaves": [], "nodes": None, "reports": [], "shapes": [], "left_out": ""})
-        if "pair" in classes:
-            self.steps[-1]["nodes"] = []
+        if {"numbers", "reports", "pair"} & set(classes):
+            self.begin_step()
         step = self.steps[-1] if self.steps else None
+        if tag == "div" and "tree" in classes:
+            step["has_tree"] = True
         if tag == "details":
-            self.begin_node(step, classes)
-        elif tag == "div" and ("tree" in classes or self.within):
-            self.begin_children(step)
+            self.begin_node(step, classes, "open" in attrs)
+        elif tag == "p" and "cut" in classes:
+            step["lines"].append(("cut", self.parent()))
+            step.setdefault("cuts", []).append("")
+        elif tag == "a" and "id" in attrs:
+            step["anchors"][attrs["id"]] = len(step["leaves"]) - 1 if "pre" in self.open else len(step["lines"]) - 1
         elif tag == "span" and "pre" in self.open:
             step["leaves"].append({"text": "", "classes": classes})
+        elif tag == "s" and "pre" in self.open:
+            step["numbered"] += 1
         elif tag == "li":
-            step["reports"].append("")
+            step["reports"].append({"told": "", "links": []})
+        elif tag == "a" and "li" in self.open:
+            step["reports"][-1]["links"].append(attrs.get("href"))
         elif tag in ("circle", "rect", "text"):
             step["shapes"].append({"tag": tag, "told": "", **attrs})
         if tag not in VOID:
             self.open.append(tag)
 
-    def begin_node(self, step, classes):
-        if not self.within or "details" in self.open:
-            self.wrong.append(f"node {len(step['nodes'])} is in no list of children")
-        parent = self.within[-1][0] if self.within else None
-        step["nodes"].append({"classes": classes, "parent": parent, "is_inner": False, "summary": "", "told": ""})
-        if self.within:
-            self.within[-1][1] = len(step["nodes"]) - 1
+    def is_in_tree(self):
+        return bool(self.steps) and self.steps[-1]["has_tree"] and not self.steps[-1]["is_whole"] and "pre" not in self.open
 
-    def begin_children(self, step):
-        node = self.within[-1][1] if self.within else None
-        if self.within and (node is None or step["nodes"][node]["is_inner"]):
-            self.wrong.append(f"children after node {node} are of no node")
-        elif self.within:
-            step["nodes"][node]["is_inner"] = True
-        self.within.append([node, None])
+    def parent(self):
+        return self.within[-1] if self.within else None
+
+    def begin_node(self, step, classes, is_open):
+        if step is None or not step["has_tree"] or "summary" in self.open:
+            self.wrong.append("a node is in no tree")
+        form, *marks = classes
+        if is_open != (form == "i"):
+            self.wrong.append(f"a node of the form {form} is folded, or can't be")
+        step["nodes"].append({"form": form, "marks": marks, "parent": self.parent(), "summary": "", "told": ""})
+        step["lines"].append(("node", len(step["nodes"]) - 1))
+        self.within.append(len(step["nodes"]) - 1)
 
     def handle_endtag(self, tag):
         if tag in VOID:
             return
-        if tag == "div" and self.within:
+        if tag == "details":
             self.within.pop()
+        if tag == "pre":
+            self.steps[-1]["is_whole"] = True
         if not self.open or self.open.pop() != tag:
             self.wrong.append(f"</{tag}> ends nothing")
 
@@ -86,19 +107,21 @@ class Page(HTMLParser):
             self.title += data
         elif "pre" in within:
             self.steps[-1]["text"] += data
-            if within[-1] == "span":
+            if "span" in within:
                 self.steps[-1]["leaves"][-1]["text"] += data
             else:
                 self.wrong.append(f"the text {data!r} is in no leaf")
-        elif "details" in within:
+        elif "details" in within and ("summary" in within or "p" in within) and self.steps[-1]["lines"][-1][0] == "node":
             self.steps[-1]["nodes"][-1]["summary" if "summary" in within else "told"] += data
-        elif self.within and data.strip():
+        elif self.is_in_tree() and "p" in within:
+            self.steps[-1]["cuts"][-1] += data
+        elif self.is_in_tree() and data.strip():
             self.wrong.append(f"the text {data!r} is in no node")
         elif "li" in within:
-            self.steps[-1]["reports"][-1] += data
+            self.steps[-1]["reports"][-1]["told"] += data
         elif "text" in within:
             self.steps[-1]["shapes"][-1]["told"] += data
-        elif "p" in within and self.steps and self.steps[-1]["nodes"] is None:
+        elif "p" in within and self.steps and not self.steps[-1]["is_whole"]:
             self.steps[-1]["left_out"] += data
 
 
@@ -114,50 +137,90 @@ def signed(text):
     return "".join(map(sign, text))
 
 
-def nodes_of(root, answers=None):
-    """What a page must tell of each node, with its answers where they are given: the node above it by its index, whether it has a list
-    of children, its classes, what is seen, and what is told once it is opened."""
-    found, indices = [], {}
-    for index, (path, node) in enumerate(root.preorder()):
-        indices[path] = index
-        told = f"{node.kind} {node.start}..{node.end} #{node.number}  {shown.beginning(node.characters(), NODE_CHARS)}"
+def lines_of(root, has, file=None, answers=None):
+    """What a page must tell of a tree, line by line: of each node its form, its marks, the line of its parent, what is seen, and what is
+    told once it is pinned, with its answers where they are given; and what is said of nodes that are left out. If a file is given, they
+    are left out since the page is full, so that it says how to see them."""
+    found, text = [], root.text()
+
+    def add(node, path, parent):
+        if path is None:
+            first, last = (shown.place_of(text, it.start)[0] for it in (node.nodes[0], [*node.nodes[-1].preorder()][-1][1]))
+            found.append(("cut", parent, signed(node.told()) + (f"; to see them: ./show {file} --lines {first}-{last}" if file else "")))
+            return
+        line = len(found)
+        form = "i" if node.children is not None else "bad" if node.kind == "Error" else "t" if node.kind in TRIVIA else "l"
+        place = "{}:{}".format(*shown.place_of(text, node.start))
+        mark = " " * bool(node.mark) + node.mark
+        seen = f"{node.kind} {node.start}..{node.end} {place} #{node.number}{mark}  {shown.beginning(node.characters(), NODE_CHARS)}"
         bound = f", bound {node.upper}" if node.children is not None else ""
-        place = f"at {'.'.join(map(str, path)) or '-'}{bound}"
-        items = [place, *map(signed, answers.get(path, []))] if answers is not None else [place]
-        classes = ["bad"] * (node.kind == "Error") + [node.mark] * bool(node.mark)
-        found.append((indices[path[:-1]] if path else None, node.children is not None, classes, told, items))
+        told = [f"at {'.'.join(map(str, path)) or '-'}{bound}", *(map(signed, answers.get(path, [])) if answers is not None else [])]
+        found.append((form, [node.mark] * bool(node.mark), parent, seen, told))
+        for below, child in shown.shown_children(node, path, has):
+            add(child, below, line)
+
+    add(root, (), None)
     return found
 
 
-def differing_nodes(step, root, answers=None):
-    got = []
-    for it in step["nodes"]:
-        items = it["told"].removesuffix("\n").split("\n")
-        items = items if answers is not None else items[:1]
-        got.append((it["parent"], it["is_inner"], it["classes"], it["summary"], items))
-    wanted = nodes_of(root, answers)
-    return [f"{ours}, and should have {theirs}" for ours, theirs in zip(got, wanted) if ours != theirs][:1] + (
-        [f"{len(got)} nodes, and should have {len(wanted)}"] if len(got) != len(wanted) else []
-    )
+def lines_in(step, answers=None):
+    """The same, as a page has it."""
+    found, lines, cuts = [], {None: None}, iter(step.get("cuts", []))
+    for what, at in step["lines"]:
+        if what == "cut":
+            found.append(("cut", lines[at], next(cuts)))
+            continue
+        node = step["nodes"][at]
+        lines[at] = len(found)
+        told = node["told"].removesuffix("\n").split("\n")
+        found.append((node["form"], node["marks"], lines[node["parent"]], node["summary"], told if answers is not None else told[:1]))
+    return found
 
 
-def differing_leaves(step, root):
-    """The leaves of a text come in the order of the leaves of the tree, so that the script can pair them."""
+def differing_leaves(step, root, has):
+    """The leaves of a text, and what is left out of it, come in the order of the lines of the tree, so that the script can pair them."""
+    wanted = []
+
+    def add(node, path):
+        if path is None:
+            wanted.append((signed("".join(it.text() for it in node.nodes)), ["cut"]))
+        elif node.children is None:
+            wanted.append((signed(node.text()), ["bad"] * (node.kind == "Error")))
+        for below, child in shown.shown_children(node, path, has) if path is not None else []:
+            add(child, below)
+
+    add(root, ())
     got = [(it["text"], it["classes"]) for it in step["leaves"]]
-    leaves = [node for _, node in root.preorder() if node.children is None]
-    wanted = [(signed(node.text()), ["bad"] * (node.kind == "Error")) for node in leaves]
-    return [] if got == wanted else [f"the leaves {got}, and should have {wanted}"]
+    return [] if got == wanted else [f"the leaves {got[:9]}, and should have {wanted[:9]}"]
 
 
 def reported(root):
-    """The errors that a page tells, without hints."""
-    found = []
+    """The errors that a page tells, without hints: what is said, and the index of the node."""
+    found, nodes = [], [node for _, node in root.preorder()]
     for line in shown.reports(root, ""):
         if line.startswith("error: "):
             found.append(["error", "", line[len("error: ") :]])
         elif "--> " in line:
             found[-1][1] = line.partition("--> :")[2]
-    return [signed(" ".join(it)) for it in found]
+    rows = [at for at, node in enumerate(nodes) if node.message is not None]
+    return [(signed(" ".join(it)), row) for it, row in zip(found, rows)]
+
+
+def differing_reports(step, root, number):
+    """What differs in the reports and in what their links lead to."""
+    wanted = reported(root)
+    got = [it["told"].rstrip("\n") for it in step["reports"]]
+    wrong = [] if got == [told for told, _ in wanted] else [f"the reports {got}, and should have {wanted}"]
+    nodes = [node for _, node in root.preorder()]
+    leaves = [node for node in nodes if node.children is None]
+    for it, (_, row) in zip(step["reports"], wanted):
+        names = [f"t{number}-{row}", f"n{number}-{row}"]
+        if it["links"] != [f"#{name}" for name in names]:
+            wrong.append(f"the links {it['links']}, and should have {names}")
+        elif step["leaves"] and len(step["lines"]) == len(nodes):
+            places = [step["anchors"].get(name) for name in names]
+            wrong += [] if places == [leaves.index(nodes[row]), row] else [f"the links of row {row} lead to {places}"]
+    return wrong
 
 
 def drawing_of(change):
@@ -200,16 +263,45 @@ def differing_drawing(step, change):
     return [] if got == wanted else [f"the drawing {got}, and should have {wanted}"]
 
 
-def differing_step(step, root, answers=None):
-    """What differs between a step and a tree."""
-    wrong = differing_nodes(step, root, answers) + differing_leaves(step, root)
+def differing_step(step, number, root, answers=None, has=lambda node, path: True, file=None):
+    """What differs between the step with a number and a tree, of which a part may be shown."""
+    got, wanted = lines_in(step, answers), lines_of(root, has, file, answers)
+    wrong = [f"{ours}, and should have {theirs}" for ours, theirs in zip(got, wanted) if ours != theirs][:1]
+    wrong += [f"{len(got)} lines, and should have {len(wanted)}"] if len(got) != len(wanted) else []
+    wrong += differing_leaves(step, root, has)
     if step["text"] != signed(root.text()):
         wrong.append(f"the text {step['text']!r}, and should have {signed(root.text())!r}")
-    if answers is None and [it.rstrip("\n") for it in step["reports"]] != reported(root):
-        wrong.append(f"the reports {step['reports']}, and should have {reported(root)}")
-    return wrong
+    begun = [0, *shown.line_ends(root.text())]
+    if step["numbered"] != sum(it < root.end for it in begun):
+        wrong.append(f"{step['numbered']} numbers of lines")
+    return wrong + (differing_reports(step, root, number) if answers is None else [])
 
 
 def scripts_in(page):
     """How many scripts a page has, and whether something is read from elsewhere."""
-    return len(re.findall(r"<script", page)), re.search(r"(src|href)=|url\(|@import|https?://", re.sub(r"<(span|details)[^>]*>.*?</\1>", "", page, flags=re.S))
+    bare = re.sub(r"<(span|summary|p|b)[^>]*>.*?</\1>", "", page, flags=re.S)
+    return len(re.findall(r"<script", page)), re.search(r"src=|href=(?!\"#)|url\(|@import|https?://", bare)
+
+
+def contrasts(page):
+    """The letters of a page that are hard to read, in both modes."""
+    light, dark = (dict(re.findall(r"--(\w+): (#\w+);", it.partition("}")[0])) for it in page.split(":root {")[1:3])
+    for mode, colours in (("light", light), ("dark", dark)):
+        pairs = [(one, other) for one in LETTERS for other in BEHIND] + [(one, other) for one in MARKED for other in MARKS]
+        for one, other in pairs:
+            found = contrast(colours[one], colours[other])
+            if found < CONTRAST:
+                yield f"{one} on {other} has the contrast {found:.2f} in {mode} mode"
+
+
+def contrast(one, other):
+    """The contrast of two colours, by the rule of the accessibility guidelines of the Web."""
+    bright, less = sorted((brightness(one), brightness(other)), reverse=True)
+    return (bright + 0.05) / (less + 0.05)
+
+
+def brightness(colour):
+    digits = colour[1:] if len(colour) == 7 else "".join(2 * it for it in colour[1:])
+    parts = [int(digits[at : at + 2], 16) / 255 for at in (0, 2, 4)]
+    linear = [it / 12.92 if it <= 0.04045 else ((it + 0.055) / 1.055) ** 2.4 for it in parts]
+    return 0.2126 * linear[0] + 0.7152 * linear[1] + 0.0722 * linear[2]

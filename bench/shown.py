@@ -1,4 +1,4 @@
-"""What ./show must print, worked out apart from it: from plain trees, by the rules of docs/SHOW.md and docs/LOOK.md.
+"""What ./show must print, worked out apart from it: from plain trees, by the rules of docs/SHOW.md and docs/SCRIPT.md.
 
 A plain tree comes from a `.tree` file or from the lines of a look. The numbers are those of typst-syntax's `numberize`
 and `replace_children`, as far down as nodes go on. Their rules are written here again.
@@ -215,23 +215,94 @@ def beginning(characters, most=1 << 32):
     return '"' + "".join(form for _, form in characters[:most]) + '"' + "…" * (len(characters) > most)
 
 
-def drawn(root, answers=None):
-    """The lines of a tree, with the answers for a path below the node's line where they are given."""
+class Cut:
+    """Siblings side by side that aren't shown."""
+
+    def __init__(self, nodes):
+        self.nodes, self.count = nodes, sum(node.count() for node in nodes)
+
+    def told(self):
+        return f"… {self.count} node{'s' * (self.count != 1)} {self.nodes[0].start}..{self.nodes[-1].end}"
+
+
+def shown_children(node, path, has):
+    """The children of a node that are shown, each with its path, and a Cut for those side by side that aren't."""
+    hidden = []
+    for index, child in enumerate(node.children or []):
+        if not has(child, (*path, index)):
+            hidden.append(child)
+            continue
+        if hidden:
+            yield None, Cut(hidden)
+            hidden = []
+        yield (*path, index), child
+    if hidden:
+        yield None, Cut(hidden)
+
+
+def within(root, depth=None, lines=None):
+    """Which nodes are shown if a depth or lines, from 1, are asked for. A node without text is shown between two that are."""
+    begins = [0, *line_ends(root.text()), root.end]
+    start, stop = (begins[min(it, len(begins) - 1)] for it in (lines[0] - 1, lines[1])) if lines else (0, root.end + 1)
+
+    def has(node, path):
+        is_touched = node.start < stop and node.end > start if node.start < node.end else start <= node.start <= stop
+        return is_touched and (depth is None or len(path) <= depth)
+
+    return has
+
+
+def line_ends(text):
+    """The bytes at which the lines after the first begin."""
+    return [it.end() for it in re.finditer(rb"\r\n|\n|\v|\f|\r|\xc2\x85|\xe2\x80[\xa8\xa9]", text.encode())]
+
+
+def place_of(text, byte):
+    """The line and the column of a byte, both from 1."""
+    begins = [0, *line_ends(text)]
+    line = sum(it <= byte for it in begins)
+    return line, len(text.encode()[begins[line - 1] : byte].decode()) + 1
+
+
+def row(node, text=None):
+    """The line of a node without its branches, with its place where the text is given."""
+    most = len(node.characters()) if node.children is None else INNER_CHARS
+    place = "{}:{} ".format(*place_of(text, node.start)) if text is not None else ""
+    return f"{node.kind} {node.start}..{node.end} {place}#{node.number}{' ' * bool(node.mark)}{node.mark}  {beginning(node.characters(), most)}"
+
+
+def drawn(root, answers=None, has=lambda node, path: True, text=None):
+    """The lines of a tree, with the answers for a path below the node's line where they are given, and with places where the text is."""
     lines = []
 
     def draw(node, path, before, branch, beside):
-        most = len(node.characters()) if node.children is None else INNER_CHARS
-        told = f"{node.kind} {node.start}..{node.end} #{node.number}{' ' * bool(node.mark)}{node.mark}  {beginning(node.characters(), most)}"
-        lines.append(before + branch + told)
+        lines.append(before + branch + (node.told() if path is None else row(node, text)))
+        if path is None:
+            return
         inside = before + beside
         for answer in (answers or {}).get(path, []):
             lines.append(inside + ("│  " if node.children else "   ") + answer)
-        for index, child in enumerate(node.children or []):
-            is_last = index + 1 == len(node.children)
-            draw(child, (*path, index), inside, "└─ " if is_last else "├─ ", "   " if is_last else "│  ")
+        children = list(shown_children(node, path, has))
+        for index, (below, child) in enumerate(children):
+            is_last = index + 1 == len(children)
+            draw(child, below, inside, "└─ " if is_last else "├─ ", "   " if is_last else "│  ")
 
     draw(root, (), "", "", "")
     return lines
+
+
+def coloured(printed):
+    """What is printed of a text, with the colours that a terminal gets."""
+    printed = re.sub(r"^((?:│  |   )*(?:├─ |└─ )?)(\w+)( \d+\.\.\d+ (?:\d+:\d+ )?)(#\d+)( new| moved)?", coloured_row, printed, flags=re.M)
+    printed = re.sub(r"^((?:│  |   )*(?:├─ |└─ ))(… .*)$", "\\1\033[2m\\2\033[0m", printed, flags=re.M)
+    return re.sub(r"^(error|warning)(?=: )", lambda it: f"\033[1;{31 if it[1] == 'error' else 33}m{it[1]}\033[0m", printed, flags=re.M)
+
+
+def coloured_row(row):
+    branches, kind, between, number, mark = row.groups()
+    ink = "1;31" if kind == "Error" else "1"
+    told = f"\033[{32 if mark == ' new' else 35}m{mark}\033[0m" if mark else ""
+    return f"{branches}\033[{ink}m{kind}\033[0m{between}\033[36m{number}\033[0m{told}"
 
 
 def width(text):
@@ -251,12 +322,11 @@ def visible(text):
 
 def pointed(text, file, start, end):
     """The lines that point to some bytes of a text."""
-    whole = text.encode()
-    ends = [it.end() for it in re.finditer(rb"\r\n|\n|\v|\f|\r|\xc2\x85|\xe2\x80[\xa8\xa9]", whole)]
+    whole, ends = text.encode(), line_ends(text)
     line = sum(it <= start for it in ends)
     begins = ends[line - 1] if line else 0
     stops = ends[line] if line < len(ends) else len(whole)
-    before, rest = whole[begins:start].decode(), whole[start:stops].decode().rstrip("\r\n")
+    before, rest = whole[begins:start].decode(), whole[start:stops].decode().rstrip("\n\r\v\f\x85\u2028\u2029")
     part = rest.encode()[: end - start].decode()
     behind = rest[len(part) :]
     shown = visible(before[-BEFORE:]) if len(before) <= BEFORE else "…" + visible(before[-BEFORE:])
@@ -326,7 +396,7 @@ def kinds():
 def forms():
     """The form of the answer of each accessor."""
     found = {}
-    for line in FORMS.search((TOP / "docs/LOOK.md").read_text())[1].splitlines():
+    for line in FORMS.search((TOP / "docs/SCRIPT.md").read_text())[1].splitlines():
         kind, _, accessors = line.partition(": ")
         for accessor in accessors.split():
             name, _, form = accessor.partition("=")

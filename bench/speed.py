@@ -23,8 +23,8 @@ What an operation needs is built, copied or parsed before, in memory that the pr
 to keep what is given back, so that later rounds take that memory.
 
 A document has paragraphs `some words *bold*.`, fifty in a section. Leaves are `ab`. Places are spread over the tree, and are the same in
-each run. A text has paragraphs of a heading, a line with strong and emphasized words, an item with raw text, and an empty line. Its
-edits are made in the middle and taken back. A replacement includes making the new leaf and testing that its path and range fit.
+each run. A text has paragraphs of a heading, a line with strong and emphasized words, an item with raw text, and an empty line. A list
+has items with raw text. Edits are made in the middle and taken back. A replacement includes making the new leaf and testing that its path and range fit.
 """
 import argparse
 import os
@@ -52,9 +52,12 @@ PARTS = [(0, INNER), (0, LEAF), (4, TRIVIA), (5, LEAF), (10, TRIVIA), (11, INNER
 PARTS += [(11, LEAF), (12, INNER), (12, LEAF), (16, LEAF), (17, LEAF), (18, TRIVIA)]
 # How many of its leaves a walk from leaf to leaf visits. The walk passes over blanks and line ends.
 SOLID = sum(sort == LEAF for _, sort in PARTS)
-# The line of a text that is one block, and a paragraph of four lines.
-LINE = "Some *strong* words, _emphasis_ and a line.\n"
+# The line of a text that is one block between `_`, an item of a list without blank lines, and a paragraph of four lines.
+LINE = "Some *strong* words, no emphasis and a line.\n"
+ITEM = "- an item with `raw text`\n"
 LINES = "= A heading\nSome *strong* words, _emphasis_ and a line.\n- an item with `raw text`\n\n"
+# The second line of a paragraph, and its last block: an item with the empty line after it.
+SECOND, LAST = LINES.splitlines(keepends=True)[1], ITEM + "\n"
 
 
 def place(turn, size):
@@ -135,9 +138,25 @@ def resized(_shape, size, rounds):
     return lengths + len(come)
 
 
-def typed(come):
-    """How many bytes a pair of edits parses: the paragraph with what is inserted, and then the paragraph without it."""
-    return lambda _shape, _size, rounds: rounds * (2 * len(LINES) + come)
+def parsed(shape, size, rounds):
+    """How many bytes the trees of a text have in all rounds."""
+    each = {"list": len(ITEM), "stars": 1, "nested": 2}
+    return rounds * {"": size // 4 * len(LINES), "block": size * len(LINE) + 2}.get(shape, size * each.get(shape, 0))
+
+
+def letter(shape, _size, rounds):
+    """How many bytes a pair of edits parses: the line with a letter more, and then the line without it."""
+    return rounds * (2 * len(ITEM if shape == "list" else SECOND) + 1)
+
+
+def paragraph(_shape, _size, rounds):
+    """The same of a paragraph that comes and goes. The block before it is parsed, too, since it depends on the heading."""
+    return rounds * (2 * len(LAST) + len(LINES))
+
+
+def delimiter(_shape, _size, rounds):
+    """The same of a star that is open to the end of the paragraph."""
+    return rounds * (2 * len(LINES) + 1)
 
 
 def byte_to_line(_shape, size, rounds):
@@ -172,6 +191,7 @@ CHECKS = {
     "find": found,
     "leaf_at": leaf_at,
     "replace": replaced,
+    "reconcile": replaced,
     "resize": resized,
     "insert_front": lambda _shape, size, rounds: sum(2 * (size + turn + 1) for turn in range(rounds)) + rounds,
     "insert_end": lambda _shape, size, rounds: rounds * (2 * (size + 1) + 2 * size),
@@ -179,15 +199,15 @@ CHECKS = {
     "exprs": lambda _shape, size, rounds: rounds * 2 * size,
     "str": lambda _shape, size, rounds: rounds * len("abc") * size,
     **{verb: lambda _shape, size, rounds: rounds * size for verb in ("items", "arg_items", "math_shorthand", "binary")},
-    "parse": lambda shape, size, rounds: rounds * (size * len(LINE) if shape == "block" else size // 4 * len(LINES)),
-    "letter": typed(1),
-    "paragraph": typed(len(LINES)),
-    "delimiter": typed(1),
+    "parse": parsed,
+    "letter": letter,
+    "paragraph": paragraph,
+    "delimiter": delimiter,
     "lines": lambda _shape, size, _rounds: size // 4 * 4 + 1,
     "byte_to_line": byte_to_line,
     "line_column_to_byte": line_column_to_byte,
     "place_of": lambda _shape, _size, rounds: rounds,
-    "door": typed(1),
+    "door": letter,
 }
 
 
@@ -225,6 +245,7 @@ TABLES = {
         *typing("a letter in a text of", "letter", 1_000),
         *typing("a paragraph in a text of", "paragraph", 200),
         *typing("a delimiter in a text of", "delimiter", 50),
+        Row("a letter in a list of 10,000 items without a blank line", "letter list 10000 1000", 2),
         Row("a letter, followed by the lines of a text of 100,000", "lines letter 100000 2000", 2),
         Row("a paragraph, followed by them", "lines paragraph 100000 200", 2),
         Row("a letter in 1,000 lines, by a handle of the C interface", "door 1000 1000", 2),
@@ -236,6 +257,7 @@ TABLES = {
         Row("a leaf after 10^5 in one node, which is then removed", "insert_end wide 100000 50000"),
         Row("all nodes of a paragraph by equal ones, in the document", f"replace_equal document {HUNDRED_THOUSAND} 5000"),
         Row("the leaf under forty nodes, one in another", "replace chain 40 20000"),
+        *[Row(f"the leaf under {deep} nodes, by a new node in place of all of them", f"reconcile chain {deep} 5000") for deep in (10, 30, 100)],
     ],
     "A search": [
         Row("a node by its number, in the document", f"find document {HUNDRED_THOUSAND} 50000"),
@@ -397,8 +419,7 @@ def small():
 
 def is_current():
     """Whether there is a proved build and no source is newer than it. `rt run` would prove all libraries again after an `rt ci`."""
-    asked_of = [".", f"{TOP}/bench/builds", "&&", "is_current", CRATE.name]
-    return subprocess.run(["bash", "-c", " ".join(asked_of)], check=False).returncode == 0
+    return subprocess.run([TOP / "bench/start", "--is-current", CRATE.name], check=False).returncode == 0
 
 
 def proved():

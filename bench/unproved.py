@@ -1,56 +1,98 @@
 #!/usr/bin/env python3
-"""Builds a program without its proof, so that `bench/speed.py` can time a commit whose proof would take hours.
+"""Builds a program without its proof: for `bench/start`, and for `bench/speed.py` to time a commit whose proof would take hours.
 
-    bench/unproved.py FOLDER PROGRAM    builds the crate in FOLDER, such as crates/typst_bench of a clone, into PROGRAM
+    bench/unproved.py FOLDER PROGRAM    builds the crate in FOLDER, such as crates/typst_show, into PROGRAM
 
-`rt try` compiles a crate with tests of what a proof would show, and runs it. This script takes LLVM's module from
-there, drops the tests from it, and compiles it at -O3, as a proved crate is compiled. Nothing is proved of such a
-program, and nothing is tested while it runs: use it only to compare times.
+`rt try` compiles a crate with tests of what a proof would show, and runs it. This script takes LLVM's module from there and
+ends `rt try`. It drops the tests from the module, compiles it at -O3, as a proved crate is compiled, and links it. Nothing is
+proved of such a program, and nothing is tested while it runs. It has no limits on time or output, which `rt try` has.
+
+The program is made beside PROGRAM and then renamed, so a build that ends early leaves nothing, and several at once don't harm
+each other. Its time is that of the beginning, so a source that changes meanwhile is newer. While it works, standard error shows
+a clock, where that is a terminal. The status is 126 if it can't be built.
 """
 import argparse
 import os
 import re
 import shutil
+import signal
 import subprocess
 import sys
 import tempfile
+import threading
 import time
 from contextlib import suppress
 from pathlib import Path
 
-KIT = Path(shutil.which("rt") or sys.exit("unproved: there is no `rt`")).resolve().parent.parent
-CLANG = [KIT / "toolchain/bin/clang", "--target=x86_64-unknown-linux-gnu", "--no-default-config", "-x", "ir"]
-LIBRARIES = [KIT / "c" / name for name in ("libos_c.a", "liblibc_c.a")]
+TOP = Path(__file__).resolve().parent.parent
+NO_RT = "there is no command rt: install the Rattle kit that README.md names, and put the folder of rt into PATH"
 # A test is a call of one of these functions, which stop the program if what a proof would show doesn't hold.
 NAME = r"rattle-(?:llvm-checks::\w+|try::site-\d+)"
 TEST = re.compile(rf'^(define internal void @"{NAME}"\([^\n]*\{{)\n.*?^\}}$', re.MULTILINE | re.DOTALL)
+TESTS = b"rattle-llvm-checks"
 # `rt try` also fills each local that has no value yet.
 FILL = re.compile(r"^  call void @llvm\.memset\.p0\.i64\(ptr %r\d+, i8 -86, [^\n]*\n", re.MULTILINE)
+# The notes that `rt try` adds to what it says of a crate.
+NOTES = re.compile(r"^(checked: |run=|rt: |compiled: |interpreted: |interpreter: )")
+TARGET = "x86_64-unknown-linux-gnu"
 
 
-def run(*words, **how):
-    """Runs a command; where it fails, the script ends."""
-    ran = subprocess.run(words, capture_output=True, text=True, check=False, **how)
+class Unbuilt(Exception):
+    """Why a program can't be built, and what to do."""
+
+
+def kit():
+    """The folder of the kit."""
+    rt = shutil.which("rt")
+    if not rt:
+        raise Unbuilt(NO_RT)
+    return Path(rt).resolve().parent.parent
+
+
+def run(*words):
+    """Runs a command of the kit."""
+    ran = subprocess.run(words, capture_output=True, text=True, check=False)
     if ran.returncode:
-        sys.exit(f"unproved: {words[0]} failed: {ran.stdout[-500:]}{ran.stderr[-500:]}")
+        raise Unbuilt(ended(words[0].name, ran.returncode, ran.stdout[-500:] + ran.stderr[-500:]))
+
+
+def ended(name, status, said):
+    """Why a command ended."""
+    if status == -signal.SIGKILL:
+        return f"{name} was killed, as where memory runs out: a build takes up to 3 GB"
+    return f"{said.strip()}\n{name} ended with status {status}{other_kit()}"
+
+
+def other_kit():
+    """What is said where this isn't the kit that README.md names."""
+    here = subprocess.run(["rt", "version"], capture_output=True, text=True, check=False).stdout.split(" ")[0].strip()
+    named = re.search(r"rattle-kit-\w+", (TOP / "README.md").read_text())
+    return f"; this is {here}, and README.md names {named[0]}" if named and named[0] != here else ""
 
 
 def module(folder, room):
-    """The module of the crate, which is the largest that `rt try` makes. Links keep those that it removes."""
-    settings = {**os.environ, "TMPDIR": str(room)}
-    with open(folder / "stdin", "rb") as lines:
-        tried = subprocess.Popen(["rt", "try"], cwd=folder, stdin=lines, stdout=subprocess.DEVNULL, env=settings)
-    while tried.poll() is None:
-        with suppress(FileNotFoundError):
-            for made in room.glob("*/*/module.bc"):
-                kept = room / f"{made.parent.name}.bc"
-                if not kept.exists():
-                    os.link(made, kept)
-        time.sleep(0.01)
-    modules = sorted(room.glob("*.bc"), key=lambda made: made.stat().st_size)
-    if tried.returncode or not modules:
-        sys.exit(f"unproved: `rt try` in {folder} failed, or made no module")
-    return modules[-1]
+    """The module of the crate, as soon as `rt try` begins to compile it."""
+    settings, said = {**os.environ, "TMPDIR": str(room)}, room / "said"
+    with open(said, "wb") as errors:
+        tried = subprocess.Popen(
+            ["rt", "try"], cwd=folder, stdin=subprocess.DEVNULL, stdout=subprocess.DEVNULL, stderr=errors, env=settings, start_new_session=True
+        )
+    try:
+        while tried.poll() is None:
+            for machine in room.glob("*/*/module*.o*"):
+                with suppress(FileNotFoundError):
+                    made = (machine.parent / "module.bc").read_bytes()
+                    # `rt try` also makes a small module, without tests.
+                    if TESTS in made:
+                        (room / "module.bc").write_bytes(made)
+                        return room / "module.bc"
+            time.sleep(0.05)
+    finally:
+        # By this signal `rt` ends what it has begun.
+        tried.terminate()
+        tried.wait()
+    lines = said.read_text(errors="replace").splitlines(keepends=True)
+    raise Unbuilt(ended("rt try", tried.returncode, "".join(it for it in lines if not NOTES.match(it))))
 
 
 def without_tests(text):
@@ -58,8 +100,35 @@ def without_tests(text):
     text, tests = TEST.subn(r"\1\nstart:\n  ret void\n}", text)
     text, fills = FILL.subn("", text)
     if not tests or not fills:
-        sys.exit("unproved: the module has no tests; this kit writes them in another way")
+        raise Unbuilt(f"the module has no tests, which this kit writes in another way{other_kit()}")
     return text
+
+
+def build(folder, program):
+    """Builds the crate in a folder into a program."""
+    began, own = time.time(), kit()
+    clang = [own / "toolchain/bin/clang", f"--target={TARGET}", "--no-default-config", "-x", "ir"]
+    libraries = [own / "c" / name for name in ("libos_c.a", "liblibc_c.a")]
+    program.parent.mkdir(exist_ok=True)
+    with tempfile.TemporaryDirectory(prefix="unproved-") as name, tempfile.TemporaryDirectory(dir=program.parent) as beside:
+        room, made = Path(name), Path(beside, program.name)
+        text, bare, machine = room / "module.ll", room / "bare.ll", room / "module.o"
+        run(*clang, "-S", "-emit-llvm", "-O0", "-Xclang", "-disable-llvm-passes", module(folder, room), "-o", text)
+        bare.write_text(without_tests(text.read_text()))
+        run(*clang, "-c", "-O3", "-march=x86-64-v2", "-fPIE", bare, "-o", machine)
+        run(own / "bin/rattle-link", "--target", TARGET, "--toolchain", own / "toolchain", "-o", made, machine, *libraries)
+        made.chmod(0o755)
+        os.utime(made, (began, began))
+        made.rename(program)
+
+
+def ticks(is_done):
+    """Shows the seconds until it is done."""
+    began = time.monotonic()
+    while not is_done.wait(1):
+        sys.stderr.write(f"\r{time.monotonic() - began:.0f} s ")
+        sys.stderr.flush()
+    sys.stderr.write("\r        \r")
 
 
 def main():
@@ -67,15 +136,29 @@ def main():
     words.add_argument("folder", type=Path, metavar="FOLDER")
     words.add_argument("program", type=Path, metavar="PROGRAM")
     asked = words.parse_args()
-    with tempfile.TemporaryDirectory() as name:
-        room = Path(name)
-        text, bare, machine = room / "module.ll", room / "bare.ll", room / "module.o"
-        made = module(asked.folder, room)
-        run(*CLANG, "-S", "-emit-llvm", "-O0", "-Xclang", "-disable-llvm-passes", made, "-o", text)
-        bare.write_text(without_tests(text.read_text()))
-        run(*CLANG, "-c", "-O3", "-march=x86-64-v2", "-fPIE", bare, "-o", machine)
-        run("cc", machine, *LIBRARIES, "-pie", "-o", asked.program)
-    return 0
+    # So that what is begun is ended, and what is made is removed.
+    signal.signal(signal.SIGTERM, lambda *_: sys.exit(143))
+    is_done = threading.Event()
+    clock = threading.Thread(target=ticks, args=[is_done]) if sys.stderr.isatty() else None
+    if clock:
+        clock.start()
+    status, problem = 126, ""
+    try:
+        build(asked.folder, asked.program.absolute())
+        status = 0
+    except Unbuilt as error:
+        problem = str(error)
+    except OSError as error:
+        problem = f"{error}: make room, or change its rights"
+    except KeyboardInterrupt:
+        status = 130
+    finally:
+        is_done.set()
+        if clock:
+            clock.join()
+    if problem:
+        print(f"{asked.folder.name} can't be built without a proof: {problem}", file=sys.stderr)
+    return status
 
 
 if __name__ == "__main__":

@@ -1,12 +1,12 @@
 /** @file typst.h
- * The syntax tree layer under Typst, from C.
+ * The syntax tree of Typst documents, from C.
  *
  * A session holds a stack of nodes that are being built, and at most one tree. The tree is either a numbered tree that was built on
  * the stack, or the tree of a document. A document is a text of markup that is edited as a text.
  *
  * Most calls return a status. After any status other than TYPST_DONE the session holds what it held before the call, and the call has
  * written nothing to the memory that it was passed. There are two exceptions. With TYPST_SHORT_BUFFER a call writes the length that it
- * needs, and all that it tells beside the buffer. After `typst_new` without memory the session holds nothing.
+ * needs, and all that it returns beside the buffer. After `typst_new` without memory the session holds nothing.
  *
  * If several statuses fit, a call returns the first of them in its list. The two statuses of memory and size have no place in that
  * order: TYPST_NO_MEMORY comes as soon as memory is refused, and TYPST_TOO_LARGE as soon as a sum doesn't fit.
@@ -16,7 +16,7 @@
  * - A session comes from `typst_session_new`. Or it is a struct of the caller's own, which TYPST_SESSION_INIT makes all zero before
  *   the first call. After that only calls change it. It is never copied.
  * - Calls on one session come one at a time. They may come from different threads. Two sessions share nothing, so two threads may use
- *   two sessions at the same time. A call that takes two sessions uses both.
+ *   two sessions at the same time. A call that gets two sessions uses both.
  * - No call comes from a signal handler, or from the forked child of a process with threads.
  * - A text, a path or a buffer is a pointer to as many elements as the number after it says. No pointer is null, even if the number
  *   is 0. The functions `typst_try_` below test for null pointers, and accept a null pointer with the number 0.
@@ -43,7 +43,7 @@
 /** The version of this header, 0.2.0: 10,000 times the first number, 100 times the second number and the third number. */
 #define TYPST_TREE_VERSION 200
 
-/** Stands before a function whose result must be looked at. */
+/** Stands before a function whose result must be read. */
 #if defined(__GNUC__) || defined(__clang__)
 #define TYPST_NODISCARD __attribute__((warn_unused_result))
 #else
@@ -103,7 +103,7 @@ enum {
     TYPST_NOT_FOUND = 16,
     /** The buffer is too short. The call writes the length that is needed. */
     TYPST_SHORT_BUFFER = 17,
-    /** The last node of the stack takes no hints: it isn't an error, and has no warning. */
+    /** The last node of the stack can have no hints: it isn't an error, and has no warning. */
     TYPST_NO_HINTS = 18,
     /** The number is no set of kinds. */
     TYPST_BAD_SET = 19,
@@ -177,7 +177,7 @@ typedef struct typst_line_column {
     size_t column;
 } typst_line_column;
 
-/** What an accessor answers of a node. What the answer doesn't have is 0. */
+/** What an accessor returns for a node. Fields that its form doesn't use are 0. */
 typedef struct typst_answer {
     /** The natural number, 1 for true and 0 for false, the code of a character, or the number of a node. */
     uint64_t number;
@@ -230,6 +230,8 @@ typedef struct typst_change {
     /** Which of its children were numbered anew. If `tried` is 0, the child `start` was a leaf or an error that changed into another
      *  one of its kind. It kept its number, and so did all other nodes. */
     typst_window window;
+    /** How many nodes that stay were numbered anew. */
+    size_t moved;
     /** 1 if the root itself was changed, else 0. Only `typst_update` changes it. All other fields are then 0. */
     uint32_t root;
 } typst_change;
@@ -293,9 +295,9 @@ enum {
 /** The end from which children are counted. */
 enum { TYPST_FROM_FIRST = 0, TYPST_FROM_LAST = 1 };
 
-/** What an accessor of a view answers. */
+/** The forms of what an accessor of a view returns. */
 enum {
-    /** Nothing: the node isn't of the accessor's view, or has no such answer. */
+    /** Nothing: the node isn't of the accessor's view, or lacks what is asked for. */
     TYPST_ANSWER_NONE = 0,
     TYPST_ANSWER_FLAG = 1,
     /** A natural number. */
@@ -326,6 +328,14 @@ enum {
     TYPST_CHARACTERS = 1,
     /** Units of UTF-16, of which a character has one or two. */
     TYPST_UTF16 = 2
+};
+
+/** What ends a line of a document's text. A carriage return and a line feed after it end one line together. */
+enum {
+    /** A line feed, a vertical tab, a form feed, a carriage return, U+0085, U+2028 or U+2029. */
+    TYPST_LINE_ENDS_UNICODE = 0,
+    /** A line feed or a carriage return, as in the protocol between editors and language servers. */
+    TYPST_LINE_ENDS_EDITOR = 1
 };
 
 /** Whether the leaf at a cursor holds the byte before the cursor or the byte after it. */
@@ -361,8 +371,8 @@ TYPST_ASSERT(sizeof(typst_diagnostic) == 40, "typst_diagnostic");
 TYPST_ASSERT(sizeof(typst_diagnostic_sizes) == 16, "typst_diagnostic_sizes");
 TYPST_ASSERT(sizeof(typst_kind_info) == 6, "typst_kind_info");
 TYPST_ASSERT(sizeof(typst_window) == 24, "typst_window");
-TYPST_ASSERT(sizeof(typst_change) == 40, "typst_change");
-TYPST_ASSERT(sizeof(typst_edited) == 56, "typst_edited");
+TYPST_ASSERT(sizeof(typst_change) == 48, "typst_change");
+TYPST_ASSERT(sizeof(typst_edited) == 64, "typst_edited");
 #endif
 
 /** @name Life */
@@ -377,6 +387,15 @@ TYPST_NODISCARD typst_status typst_new(typst_session *session);
 
 /** Frees what a session holds. The session is then all zero, and can be made again. */
 void typst_free(typst_session *session);
+
+/**
+ * Makes a copy of what a session holds: the stack and the tree or document, with all numbers. No number can be followed into the copy
+ * (TYPST_NO_EDIT). The call takes time and memory in proportion to what is copied. The two sessions must be different ones: pass no
+ * session twice.
+ * @param copy a session, or a struct that is TYPST_SESSION_INIT. It receives the copy; what it held before is freed.
+ * @return TYPST_DONE, TYPST_NOT_MADE or TYPST_NO_MEMORY.
+ */
+TYPST_NODISCARD typst_status typst_copy(const typst_session *session, typst_session *copy);
 
 /** The version of the library, which should be TYPST_TREE_VERSION. */
 uint32_t typst_version(void);
@@ -462,7 +481,7 @@ TYPST_NODISCARD typst_status typst_pop(typst_session *session, size_t count);
 /** @{ */
 
 /**
- * Takes the last node of the stack, numbers the nodes of its tree for a file within `from .. to`, and holds it as the tree. The
+ * Removes the last node of the stack, numbers the nodes of its tree for a file within `from .. to`, and holds it as the tree. The
  * call frees the tree or document that was held before.
  * @param file the number of a file, not 0.
  * @param from the lowest number, at least TYPST_FIRST_NUMBER.
@@ -500,7 +519,7 @@ TYPST_NODISCARD typst_status typst_replace(typst_session *session, const size_t 
  * Makes the same edit as `typst_replace`, as far down in the tree as it can, so that the nodes that go on keep their numbers. While all
  * that changes is below one child, and that child and its new node are inner nodes of one kind with the same warnings, the child stays,
  * and its children are replaced instead. If a single leaf or error then changes into another one of its kind, it keeps its number.
- * `typst_follow` then answers what became of each number.
+ * `typst_follow` then says what became of each number.
  * @param change receives where children were replaced, and which were numbered anew.
  * @return TYPST_DONE, TYPST_NOT_MADE, TYPST_NO_TREE, TYPST_IS_DOCUMENT, TYPST_SHORT_STACK, TYPST_NO_NODE, TYPST_IS_LEAF,
  *     TYPST_BAD_RANGE, TYPST_TOO_LARGE, TYPST_UNNUMBERABLE or TYPST_NO_MEMORY.
@@ -509,7 +528,7 @@ TYPST_NODISCARD typst_status typst_reconcile(typst_session *session, const size_
                                              size_t to, size_t count, typst_change *change);
 
 /**
- * Takes the last node of the stack, and puts it in place of the whole tree. The nodes that go on keep their numbers, as after
+ * Removes the last node of the stack, and puts it in place of the whole tree. The nodes that go on keep their numbers, as after
  * `typst_reconcile` of all children of the root. So a parser that makes the whole tree anew after each edit of its text gets numbers
  * that can be kept. If the two roots differ in their kinds or warnings, or the old root has too few numbers for all nodes, then no
  * node goes on, and the new tree is numbered in TYPST_FIRST_NUMBER .. TYPST_END_NUMBER.
@@ -519,14 +538,24 @@ TYPST_NODISCARD typst_status typst_reconcile(typst_session *session, const size_
 TYPST_NODISCARD typst_status typst_update(typst_session *session, typst_change *change);
 
 /**
- * Tells which number a node has after the last edit by `typst_edit`, `typst_reconcile` or `typst_update`, by its number before that
+ * Writes the number that a node has after the last edit by `typst_edit`, `typst_reconcile` or `typst_update`, by its number before that
  * edit. Ask this once for each number that is kept, after each edit that was done. A number that isn't followed may belong to another
- * node after the edit. The call takes no memory, and hardly any time.
- * @param number the number of a node of the tree as it was before the edit. Any other number is answered as if a node had it.
+ * node after the edit. The call needs no memory, and hardly any time.
+ * @param number the number of a node of the tree as it was before the edit. Any other number is followed as if a node had it.
  * @param now receives the number that the node has now.
  * @return TYPST_DONE, TYPST_NOT_MADE, TYPST_NO_EDIT, or TYPST_NOT_FOUND if the node is gone.
  */
 TYPST_NODISCARD typst_status typst_follow(const typst_session *session, uint64_t number, uint64_t *now);
+
+/**
+ * Writes the path to the node whose children the last edit by `typst_edit`, `typst_reconcile` or `typst_update` changed, as it is in the
+ * tree after the edit. The path is empty if the root's children were changed, or the root itself.
+ * @param out receives the path, if it has room. A path of a document has at most TYPST_DOCUMENT_DEPTH indices.
+ * @param length receives the length of the path, even if the buffer is too short.
+ * @return TYPST_DONE, TYPST_NOT_MADE, TYPST_NO_EDIT or TYPST_SHORT_BUFFER.
+ */
+TYPST_NODISCARD typst_status typst_edited_path(const typst_session *session, size_t *out, size_t room,
+                                               typst_length *length);
 
 /** @} */
 /** @name Reading */
@@ -593,16 +622,16 @@ TYPST_NODISCARD typst_status typst_child_of_class(const typst_session *session, 
                                                   uint32_t node_class, size_t index, uint32_t from_end, size_t *child);
 
 /**
- * Asks what an accessor of a typed view answers of the node at a path, such as the depth of a heading, the value of a string or the
- * body of a loop. If the node isn't of the accessor's view, or the tree lacks what is asked for, the answer is TYPST_ANSWER_NONE. A
- * node is told by its number, and typst_find finds it. Only the value of a string takes memory, in proportion to its text. The call
- * takes time at most in proportion to the children and to that text.
+ * Reads the node at a path by an accessor of a typed view: the depth of a heading, for example, the value of a string or the body of a
+ * loop. If the node isn't of the accessor's view, or the tree lacks what is asked for, the form is TYPST_ANSWER_NONE. A node is given
+ * by its number, and typst_find finds it. Only the value of a string needs memory, in proportion to its text. The call takes time at
+ * most in proportion to the children and to that text.
  * @param accessor a TYPST_VIEW_ constant.
- * @param index which of its answers, counted from 0. An accessor of several nodes has as many answers, and any other has one. After
- *     the last one the answer is TYPST_ANSWER_NONE.
- * @param out receives the text, if the answer is one.
+ * @param index which of its results, counted from 0. An accessor of several nodes has as many results, and any other has one. After
+ *     the last one the form is TYPST_ANSWER_NONE.
+ * @param out receives the text, if the result is one.
  * @param room the number of bytes that `out` has room for.
- * @param answer receives the answer, even if the buffer is too short for its text.
+ * @param answer receives the result, even if the buffer is too short for its text.
  * @return TYPST_DONE, TYPST_NOT_MADE, TYPST_BAD_ACCESSOR, TYPST_NO_TREE, TYPST_NO_NODE, TYPST_NO_MEMORY or TYPST_SHORT_BUFFER.
  */
 TYPST_NODISCARD typst_status typst_view(const typst_session *session, const size_t *path, size_t depth, uint32_t accessor,
@@ -624,8 +653,8 @@ TYPST_NODISCARD typst_status typst_diagnostics(const typst_session *session, typ
                                                char *texts, size_t texts_room, typst_diagnostic_sizes *sizes);
 
 /**
- * Tells whether the subtrees at two paths of the tree are equal apart from numbers: they have the same kinds, texts, messages,
- * hints and warnings. The first path is looked at before the second one.
+ * Compares the subtrees at two paths of the tree. They are equal if they have the same kinds, texts, messages, hints and warnings,
+ * whatever their numbers are. The first path is read before the second one.
  * @param equal receives 1 if they are equal, else 0.
  * @return TYPST_DONE, TYPST_NOT_MADE, TYPST_NO_TREE or TYPST_NO_NODE.
  */
@@ -633,8 +662,8 @@ TYPST_NODISCARD typst_status typst_spanless_eq_within(const typst_session *sessi
                                                       const size_t *other_path, size_t other_depth, uint32_t *equal);
 
 /**
- * Tells whether the subtree at a path and a subtree of another session are equal apart from numbers. The two sessions must be
- * different ones: pass no session twice. The first session is looked at before the second one, after both are found to be made.
+ * Compares the subtree at a path with a subtree of another session, in the same way. The two sessions must be different ones: pass no
+ * session twice. The first session is read before the second one, after both are found to be made.
  * @return TYPST_DONE, TYPST_NOT_MADE, TYPST_NO_TREE or TYPST_NO_NODE, each also for the other session.
  */
 TYPST_NODISCARD typst_status typst_spanless_eq(const typst_session *session, const size_t *path, size_t depth,
@@ -646,7 +675,7 @@ TYPST_NODISCARD typst_status typst_spanless_eq(const typst_session *session, con
 /** @{ */
 
 /**
- * Finds the node with a number. It reads few other nodes. After an edit, `typst_follow` tells which number a node has now.
+ * Finds the node with a number. It reads few other nodes. After an edit, `typst_follow` says which number a node has now.
  * @param path receives the path, if it has room. A path of a document has at most TYPST_DOCUMENT_DEPTH indices.
  * @param place receives the length of the path and where the node's text begins, even if the buffer is too short.
  * @return TYPST_DONE, TYPST_NOT_MADE, TYPST_NO_TREE, TYPST_NOT_FOUND, TYPST_SHORT_BUFFER or TYPST_NO_MEMORY.
@@ -666,6 +695,17 @@ TYPST_NODISCARD typst_status typst_find_range(const typst_session *session, size
                                               size_t room, typst_place *place);
 
 /**
+ * Finds the smallest node whose text covers the bytes `from .. to` of the tree's text: no child of it covers them. The search goes down
+ * from the root, at each node to the first child whose text covers the range, as far as there is one.
+ * @param path receives the path, if it has room.
+ * @param place receives the length of the path and where the node's text begins, even if the buffer is too short.
+ * @return TYPST_DONE, TYPST_NOT_MADE, TYPST_NO_TREE, TYPST_NOT_FOUND if the whole text doesn't cover these bytes, TYPST_SHORT_BUFFER or
+ *     TYPST_NO_MEMORY.
+ */
+TYPST_NODISCARD typst_status typst_find_cover(const typst_session *session, size_t from, size_t to, size_t *path,
+                                              size_t room, typst_place *place);
+
+/**
  * Finds the node without children that holds the byte before a cursor (TYPST_BEFORE) or the byte after it (TYPST_AFTER). There is one
  * exception: for TYPST_BEFORE, if there is no such byte, it finds the last node without children if the text of that node begins at
  * the cursor.
@@ -677,7 +717,7 @@ TYPST_NODISCARD typst_status typst_leaf_at(const typst_session *session, size_t 
                                            size_t room, typst_place *place);
 
 /**
- * Tells which bytes of the text belong to the node at a path. The call takes memory for the node's parents.
+ * Writes which bytes of the text belong to the node at a path. The call needs memory for the node's parents.
  * @return TYPST_DONE, TYPST_NOT_MADE, TYPST_NO_TREE, TYPST_NO_NODE or TYPST_NO_MEMORY.
  */
 TYPST_NODISCARD typst_status typst_range_of(const typst_session *session, const size_t *path, size_t depth,
@@ -701,15 +741,15 @@ TYPST_NODISCARD typst_status typst_neighbor(const typst_session *session, const 
 /**
  * Parses a text of markup, numbers its tree for a file, and holds both. It frees the tree or document that was held before. The
  * stack stays as it is.
- * @param file the number of a file: any but 0. No call tells it.
+ * @param file the number of a file: any but 0. No call returns it.
  * @return TYPST_DONE, TYPST_NOT_MADE, TYPST_BAD_FILE, TYPST_BAD_TEXT, TYPST_TOO_LARGE, TYPST_UNNUMBERABLE or TYPST_NO_MEMORY.
  */
 TYPST_NODISCARD typst_status typst_open(typst_session *session, uint16_t file, const char *text, size_t text_len);
 
 /**
  * Replaces the bytes `from .. to` of the document's text by a text, and parses anew only the blocks that this can touch. The block before
- * them is one of these if the parser had looked at the bytes that go or at the place where others come.
- * The nodes that go on keep their numbers, as after `typst_reconcile`, and `typst_follow` answers what became of each number.
+ * them is one of these if the parser had read the bytes that go, or at the place where others come.
+ * The nodes that go on keep their numbers, as after `typst_reconcile`, and `typst_follow` says what became of each number.
  * @param edited receives which bytes were parsed, and which nodes were numbered anew.
  * @return TYPST_DONE, TYPST_NOT_MADE, TYPST_NO_DOCUMENT, TYPST_BAD_TEXT, TYPST_BAD_RANGE, TYPST_TOO_LARGE, TYPST_UNNUMBERABLE or
  *     TYPST_NO_MEMORY.
@@ -718,21 +758,28 @@ TYPST_NODISCARD typst_status typst_edit(typst_session *session, size_t from, siz
                                         typst_edited *edited);
 
 /**
- * Counts the lines of the document's text. There is one more line than there are line ends. A line end is a line feed, a vertical
- * tab, a form feed, a carriage return alone or with a line feed after it, U+0085, U+2028 or U+2029.
+ * Sets the line ends of the document's text, which the calls below then go by. A document that was just opened has
+ * TYPST_LINE_ENDS_UNICODE. Edits keep the line ends. The call takes time in proportion to the text.
+ * @param ends TYPST_LINE_ENDS_UNICODE; any other number is TYPST_LINE_ENDS_EDITOR.
+ * @return TYPST_DONE, TYPST_NOT_MADE, TYPST_NO_DOCUMENT or TYPST_NO_MEMORY.
+ */
+TYPST_NODISCARD typst_status typst_set_line_ends(typst_session *session, uint32_t ends);
+
+/**
+ * Counts the lines of the document's text. There is one more line than there are line ends.
  * @return TYPST_DONE, TYPST_NOT_MADE or TYPST_NO_DOCUMENT.
  */
 TYPST_NODISCARD typst_status typst_len_lines(const typst_session *session, size_t *count);
 
 /**
- * Tells which bytes of the document's text a line has, with its line end. Lines count from 0. The last line has no line end.
+ * Writes which bytes of the document's text a line has, with its line end. Lines count from 0. The last line has no line end.
  * @return TYPST_DONE, TYPST_NOT_MADE, TYPST_NO_DOCUMENT, or TYPST_NO_PLACE if there is no such line.
  */
 TYPST_NODISCARD typst_status typst_line_to_range(const typst_session *session, size_t line, typst_range *range);
 
 /**
  * Writes the bytes `from .. to` of the document's text. Both ends must lie between characters. No zero byte follows the text. The call
- * takes no memory, and time in proportion to these bytes.
+ * needs no memory, and time in proportion to these bytes.
  * @param length receives the length of the text, even if the buffer is too short.
  * @return TYPST_DONE, TYPST_NOT_MADE, TYPST_NO_DOCUMENT, TYPST_BAD_RANGE or TYPST_SHORT_BUFFER.
  */
@@ -740,7 +787,7 @@ TYPST_NODISCARD typst_status typst_text(const typst_session *session, size_t fro
                                         typst_length *length);
 
 /**
- * Tells the line and the column of a byte of the document's text. The call takes time in proportion to the line up to the byte.
+ * Writes the line and the column of a byte of the document's text. The call takes time in proportion to the line up to the byte.
  * @param byte a place between two characters, or either end of the text.
  * @param unit what columns count: TYPST_BYTES or TYPST_CHARACTERS; any other number is TYPST_UTF16.
  * @return TYPST_DONE, TYPST_NOT_MADE, TYPST_NO_DOCUMENT or TYPST_NO_PLACE.
@@ -749,13 +796,37 @@ TYPST_NODISCARD typst_status typst_byte_to_line_column(const typst_session *sess
                                                        typst_line_column *place);
 
 /**
- * Tells which byte of the document's text is at a line and a column, which both count from 0. The call takes time in proportion to
+ * Writes which byte of the document's text is at a line and a column, which both count from 0. The call takes time in proportion to
  * the line.
  * @param unit what columns count: TYPST_BYTES or TYPST_CHARACTERS; any other number is TYPST_UTF16.
  * @return TYPST_DONE, TYPST_NOT_MADE, TYPST_NO_DOCUMENT or TYPST_NO_PLACE.
  */
 TYPST_NODISCARD typst_status typst_line_column_to_byte(const typst_session *session, size_t line, size_t column,
                                                        uint32_t unit, size_t *byte);
+
+/**
+ * The same, but a column past the line's text means its end, which is before the line end. Editors ask for places in this way.
+ * @param unit what columns count: TYPST_BYTES or TYPST_CHARACTERS; any other number is TYPST_UTF16.
+ * @return TYPST_DONE, TYPST_NOT_MADE, TYPST_NO_DOCUMENT, or TYPST_NO_PLACE if there is no such line or the column is within a character.
+ */
+TYPST_NODISCARD typst_status typst_line_column_to_byte_clamped(const typst_session *session, size_t line, size_t column,
+                                                               uint32_t unit, size_t *byte);
+
+/**
+ * Writes how much of the document's text is before a byte. The call takes time in proportion to the text up to the byte.
+ * @param byte a place between two characters, or either end of the text.
+ * @param unit what is counted: TYPST_BYTES or TYPST_CHARACTERS; any other number is TYPST_UTF16.
+ * @return TYPST_DONE, TYPST_NOT_MADE, TYPST_NO_DOCUMENT or TYPST_NO_PLACE.
+ */
+TYPST_NODISCARD typst_status typst_byte_to_offset(const typst_session *session, size_t byte, uint32_t unit, size_t *offset);
+
+/**
+ * Writes which byte of the document's text has so much of the text before it. The call takes time in proportion to the text up to the
+ * byte.
+ * @param unit what is counted: TYPST_BYTES or TYPST_CHARACTERS; any other number is TYPST_UTF16.
+ * @return TYPST_DONE, TYPST_NOT_MADE, TYPST_NO_DOCUMENT, or TYPST_NO_PLACE if the text has less or the offset is within a character.
+ */
+TYPST_NODISCARD typst_status typst_offset_to_byte(const typst_session *session, size_t offset, uint32_t unit, size_t *byte);
 
 /** @} */
 
@@ -773,19 +844,19 @@ TYPST_NODISCARD typst_status typst_line_column_to_byte(const typst_session *sess
 TYPST_NODISCARD typst_status typst_kind_name(uint32_t kind, char *out, size_t room, typst_length *length);
 
 /**
- * Tells which kind has a name. No two kinds have the same name.
+ * Writes which kind has a name. No two kinds have the same name.
  * @return TYPST_DONE or TYPST_NOT_FOUND.
  */
 TYPST_NODISCARD typst_status typst_kind_of_name(const char *name, size_t name_len, uint32_t *kind);
 
 /**
- * Tells the classes of a kind.
+ * Writes the classes of a kind.
  * @return TYPST_DONE or TYPST_BAD_KIND.
  */
 TYPST_NODISCARD typst_status typst_kind_classes(uint32_t kind, typst_kind_info *classes);
 
 /**
- * Tells whether a set holds a kind.
+ * Writes whether a set holds a kind.
  * @param set a TYPST_SET_ constant.
  * @param held receives 1 if it does, else 0.
  * @return TYPST_DONE, TYPST_BAD_SET or TYPST_BAD_KIND.
@@ -847,6 +918,12 @@ static inline TYPST_NODISCARD typst_status typst_try_new(typst_session *session)
 {
     if (!session) return TYPST_NULL;
     return typst_new(session);
+}
+
+static inline TYPST_NODISCARD typst_status typst_try_copy(const typst_session *session, typst_session *copy)
+{
+    if (!session || !copy) return TYPST_NULL;
+    return typst_copy(session, copy);
 }
 
 static inline void typst_try_free(typst_session *session)
@@ -943,6 +1020,13 @@ static inline TYPST_NODISCARD typst_status typst_try_follow(const typst_session 
 {
     if (!session || !now) return TYPST_NULL;
     return typst_follow(session, number, now);
+}
+
+static inline TYPST_NODISCARD typst_status typst_try_edited_path(const typst_session *session, size_t *out, size_t room,
+        typst_length *length)
+{
+    if (!session || (!out && room) || !length) return TYPST_NULL;
+    return typst_edited_path(session, TYPST_OR_NOWHERE(out, size_t *), room, length);
 }
 
 static inline TYPST_NODISCARD typst_status typst_try_send(typst_session *session, typst_session *other)
@@ -1042,6 +1126,13 @@ static inline TYPST_NODISCARD typst_status typst_try_find_range(const typst_sess
     return typst_find_range(session, from, to, TYPST_OR_NOWHERE(path, size_t *), room, place);
 }
 
+static inline TYPST_NODISCARD typst_status typst_try_find_cover(const typst_session *session, size_t from, size_t to,
+        size_t *path, size_t room, typst_place *place)
+{
+    if (!session || (!path && room) || !place) return TYPST_NULL;
+    return typst_find_cover(session, from, to, TYPST_OR_NOWHERE(path, size_t *), room, place);
+}
+
 static inline TYPST_NODISCARD typst_status typst_try_leaf_at(const typst_session *session, size_t cursor, uint32_t side,
         size_t *path, size_t room, typst_place *place)
 {
@@ -1078,6 +1169,12 @@ static inline TYPST_NODISCARD typst_status typst_try_edit(typst_session *session
     return typst_edit(session, from, to, TYPST_OR_NOWHERE(with, const char *), with_len, edited);
 }
 
+static inline TYPST_NODISCARD typst_status typst_try_set_line_ends(typst_session *session, uint32_t ends)
+{
+    if (!session) return TYPST_NULL;
+    return typst_set_line_ends(session, ends);
+}
+
 static inline TYPST_NODISCARD typst_status typst_try_len_lines(const typst_session *session, size_t *count)
 {
     if (!session || !count) return TYPST_NULL;
@@ -1110,6 +1207,27 @@ static inline TYPST_NODISCARD typst_status typst_try_line_column_to_byte(const t
 {
     if (!session || !byte) return TYPST_NULL;
     return typst_line_column_to_byte(session, line, column, unit, byte);
+}
+
+static inline TYPST_NODISCARD typst_status typst_try_line_column_to_byte_clamped(const typst_session *session, size_t line,
+        size_t column, uint32_t unit, size_t *byte)
+{
+    if (!session || !byte) return TYPST_NULL;
+    return typst_line_column_to_byte_clamped(session, line, column, unit, byte);
+}
+
+static inline TYPST_NODISCARD typst_status typst_try_byte_to_offset(const typst_session *session, size_t byte,
+        uint32_t unit, size_t *offset)
+{
+    if (!session || !offset) return TYPST_NULL;
+    return typst_byte_to_offset(session, byte, unit, offset);
+}
+
+static inline TYPST_NODISCARD typst_status typst_try_offset_to_byte(const typst_session *session, size_t offset,
+        uint32_t unit, size_t *byte)
+{
+    if (!session || !byte) return TYPST_NULL;
+    return typst_offset_to_byte(session, offset, unit, byte);
 }
 
 static inline TYPST_NODISCARD typst_status typst_try_kind_name(uint32_t kind, char *out, size_t room, typst_length *length)

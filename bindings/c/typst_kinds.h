@@ -1,4 +1,4 @@
-/* The kinds of nodes, by number. Written by bench/bindings.py from crates/kinds.txt: change that and run it. */
+/* The kinds of nodes, by number. Written by bench/kinds.py from crates/kinds.txt: change that and run it. */
 #ifndef TYPST_KINDS_H
 #define TYPST_KINDS_H
 

@@ -284,10 +284,11 @@ bool is_boundary(const char *text, size_t len, size_t at)
 }
 
 /* Whether a line begins after these bytes. They end in a line end, and not between a carriage return and its line feed. */
-static bool ends_line(const unsigned char *text, size_t len, size_t at)
+static bool ends_line(const unsigned char *text, size_t len, uint32_t ends, size_t at)
 {
     unsigned char last = text[at - 1];
     if (last == '\r') return at == len || text[at] != '\n';
+    if (ends) return last == '\n';
     if ('\n' <= last && last <= '\f') return true;
     if (2 <= at && text[at - 2] == 0xc2 && last == 0x85) return true;
     return 3 <= at && text[at - 3] == 0xe2 && text[at - 2] == 0x80 && (last == 0xa8 || last == 0xa9);
@@ -301,11 +302,11 @@ static size_t column_width(unsigned char byte, uint32_t unit)
     return unit != 1 && 0xf0 <= byte ? 2 : 1;
 }
 
-bool spot_at(const char *text, size_t len, uint32_t unit, bool by_byte, struct spot *spot)
+bool spot_at(const char *text, size_t len, uint32_t ends, uint32_t unit, bool by_byte, struct spot *spot)
 {
     struct spot now = {0, 0, 0};
     for (;; now.byte++) {
-        if (now.byte && ends_line((const unsigned char *)text, len, now.byte)) {
+        if (now.byte && ends_line((const unsigned char *)text, len, ends, now.byte)) {
             now.line++;
             now.column = 0;
         }

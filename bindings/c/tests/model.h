@@ -93,6 +93,6 @@ struct spot {
 /* Walks over the places between the characters of a text, up to the place with the byte of a spot, or with its line and column. It
  * writes the byte, the line and the column of that place into the spot. Columns count bytes (0), characters (1) or units of UTF-16
  * (2). It returns false if there is no such place. */
-bool spot_at(const char *text, size_t len, uint32_t unit, bool by_byte, struct spot *spot);
+bool spot_at(const char *text, size_t len, uint32_t ends, uint32_t unit, bool by_byte, struct spot *spot);
 
 #endif

@@ -39,6 +39,8 @@ int main(void)
 
     if (typst_try_new(session) != TYPST_DONE || typst_try_new(other) != TYPST_DONE) return 1;
     IS_NULL(typst_try_new(NULL));
+    IS_NULL(typst_try_copy(NULL, other));
+    IS_NULL(typst_try_copy(session, NULL));
     IS_NULL(typst_try_push_leaf(NULL, TYPST_KIND_TEXT, "a", 1));
     IS_NULL(typst_try_push_leaf(session, TYPST_KIND_TEXT, NULL, 1));
     IS_PASSED(typst_try_push_leaf(session, TYPST_KIND_TEXT, NULL, 0));
@@ -73,6 +75,10 @@ int main(void)
     IS_NULL(typst_try_update(session, NULL));
     IS_NULL(typst_try_follow(NULL, 2, &number));
     IS_NULL(typst_try_follow(session, 2, NULL));
+    IS_NULL(typst_try_edited_path(NULL, found, 1, &length));
+    IS_NULL(typst_try_edited_path(session, NULL, 1, &length));
+    IS_PASSED(typst_try_edited_path(session, NULL, 0, &length));
+    IS_NULL(typst_try_edited_path(session, found, 1, NULL));
     IS_NULL(typst_try_send(NULL, other));
     IS_NULL(typst_try_send(session, NULL));
     IS_NULL(typst_try_node(NULL, path, 1, &node_info));
@@ -140,6 +146,10 @@ int main(void)
     IS_NULL(typst_try_find_range(session, 0, 0, NULL, 1, &place));
     IS_PASSED(typst_try_find_range(session, 0, 0, NULL, 0, &place));
     IS_NULL(typst_try_find_range(session, 0, 0, found, 1, NULL));
+    IS_NULL(typst_try_find_cover(NULL, 0, 0, found, 1, &place));
+    IS_NULL(typst_try_find_cover(session, 0, 0, NULL, 1, &place));
+    IS_PASSED(typst_try_find_cover(session, 0, 0, NULL, 0, &place));
+    IS_NULL(typst_try_find_cover(session, 0, 0, found, 1, NULL));
     IS_NULL(typst_try_leaf_at(NULL, 0, 0, found, 1, &place));
     IS_NULL(typst_try_leaf_at(session, 0, 0, NULL, 1, &place));
     IS_PASSED(typst_try_leaf_at(session, 0, 0, NULL, 0, &place));
@@ -161,6 +171,7 @@ int main(void)
     IS_NULL(typst_try_edit(session, 0, 0, NULL, 1, &edited));
     IS_PASSED(typst_try_edit(session, 0, 0, NULL, 0, &edited));
     IS_NULL(typst_try_edit(session, 0, 0, "a", 1, NULL));
+    IS_NULL(typst_try_set_line_ends(NULL, TYPST_LINE_ENDS_EDITOR));
     IS_NULL(typst_try_len_lines(NULL, &size));
     IS_NULL(typst_try_len_lines(session, NULL));
     IS_NULL(typst_try_line_to_range(NULL, 0, &range));
@@ -173,6 +184,12 @@ int main(void)
     IS_NULL(typst_try_byte_to_line_column(session, 0, 0, NULL));
     IS_NULL(typst_try_line_column_to_byte(NULL, 0, 0, 0, &size));
     IS_NULL(typst_try_line_column_to_byte(session, 0, 0, 0, NULL));
+    IS_NULL(typst_try_line_column_to_byte_clamped(NULL, 0, 0, TYPST_BYTES, &size));
+    IS_NULL(typst_try_line_column_to_byte_clamped(session, 0, 0, TYPST_BYTES, NULL));
+    IS_NULL(typst_try_byte_to_offset(NULL, 0, TYPST_UTF16, &size));
+    IS_NULL(typst_try_byte_to_offset(session, 0, TYPST_UTF16, NULL));
+    IS_NULL(typst_try_offset_to_byte(NULL, 0, TYPST_UTF16, &size));
+    IS_NULL(typst_try_offset_to_byte(session, 0, TYPST_UTF16, NULL));
     IS_NULL(typst_try_kind_name(TYPST_KIND_TEXT, NULL, 1, &length));
     IS_PASSED(typst_try_kind_name(TYPST_KIND_TEXT, NULL, 0, &length));
     IS_NULL(typst_try_kind_name(TYPST_KIND_TEXT, text, 1, NULL));

@@ -12,7 +12,7 @@
 #include <stdlib.h>
 #include <string.h>
 
-enum { STACK = 12, LARGEST = 120, DEPTH = 64, TEXT = 4096, REMARKS = 2000, NODES = 4000, CALLS = 35, STATUSES = 23 };
+enum { STACK = 12, LARGEST = 120, DEPTH = 64, TEXT = 4096, REMARKS = 2000, NODES = 4000, CALLS = 38, STATUSES = 23 };
 
 static uint64_t seed = 88172645463325252u;
 
@@ -40,6 +40,8 @@ static struct {
     bool is_document;
     /* Whether numbers can be followed over the last edit. */
     bool is_followed;
+    /* What ends the lines of the document's text. */
+    uint32_t ends;
     char text[TEXT];
     size_t len;
 } model;
@@ -87,11 +89,17 @@ static void read_before(void)
 
 /* Follows the number of each node over an edit that was done. The nodes that go on have their kinds and their order. An edit that
  * changes nothing also leaves each number. */
-static void follow_all(bool changes)
+static void follow_all(const typst_change *change, bool changes)
 {
     static typst_node_info after[NODES];
-    size_t path[1] = {0}, at = 0;
+    size_t path[DEPTH] = {0}, at = 0;
     typst_length length = {0};
+    typst_node_info edited;
+    WANT(typst_edited_path(&session, path, DEPTH, &length), TYPST_DONE);
+    WANT(length.len, change->depth);
+    WANT(typst_node(&session, path, length.len, &edited), TYPST_DONE);
+    WANT(change->window.end <= edited.children || change->root, true);
+    WANT(change->moved < edited.descendants, true);
     WANT(typst_preorder(&session, path, 0, after, NODES, &length), TYPST_DONE);
     for (size_t i = 0; i < before.count; i++) {
         uint64_t now = 77;
@@ -359,7 +367,8 @@ static typst_status take_tree(void)
 /* Whether a change is as it was before the call. */
 static bool is_untouched(const typst_change *change)
 {
-    return change->depth == 77 && change->window.start == 77 && change->window.end == 77 && change->window.tried == 77 && change->root == 77;
+    return change->depth == 77 && change->window.start == 77 && change->window.end == 77 && change->window.tried == 77 && change->moved == 77
+           && change->root == 77;
 }
 
 static typst_status replace_by(bool reconciles)
@@ -369,7 +378,7 @@ static typst_status replace_by(bool reconciles)
     size_t count = once_in(30) ? SIZE_MAX - draw(3) : draw(4);
     if (once_in(20)) to = draw(from + 1);
     typst_window window = {77, 77, 77};
-    typst_change change = {77, {77, 77, 77}, 77};
+    typst_change change = {77, {77, 77, 77}, 77, 77};
     read_before();
     typst_status status = reconciles ? typst_reconcile(&session, path, depth, from, to, count, &change)
                                      : typst_replace(&session, path, depth, from, to, count, &window);
@@ -402,7 +411,7 @@ static typst_status replace_by(bool reconciles)
     if (reconciles) {
         WANT(change.root, 0);
         WANT(depth <= change.depth, true);
-        follow_all(count > 0 || from < to);
+        follow_all(&change, count > 0 || from < to);
     } else {
         WANT(window.start <= window.end && window.end <= node->count, true);
         model.is_followed = false;
@@ -423,7 +432,7 @@ static typst_status reconcile(void)
 /* Puts the last node of the stack in place of the tree. */
 static typst_status update(void)
 {
-    typst_change change = {77, {77, 77, 77}, 77};
+    typst_change change = {77, {77, 77, 77}, 77, 77};
     read_before();
     typst_status status = typst_update(&session, &change);
     WANT(status, !model.made             ? TYPST_NOT_MADE
@@ -440,9 +449,9 @@ static typst_status update(void)
     drop_tree();
     model.tree = node;
     WANT(change.root <= 1, true);
-    if (change.root) WANT(change.depth == 0 && change.window.start == 0 && change.window.end == 0 && change.window.tried == 0, true);
+    if (change.root) WANT(change.depth == 0 && change.window.start == 0 && change.window.end == 0 && change.window.tried == 0 && change.moved == 0, true);
     /* A root whose numbers just suffice for its nodes doesn't go on, even if the same tree comes. */
-    follow_all(changes || change.root);
+    follow_all(&change, changes || change.root);
     return status;
 }
 
@@ -930,6 +939,7 @@ static typst_status open(void)
     if (status == TYPST_DONE) {
         drop_tree();
         model.is_document = true;
+        model.ends = TYPST_LINE_ENDS_UNICODE;
         memcpy(model.text, text, len);
         model.len = len;
         compare_document();
@@ -944,7 +954,7 @@ static typst_status edit(void)
     if (once_in(30)) to = SIZE_MAX - draw(2);
     if (once_in(30)) to = draw(from + 1);
     if (TEXT / 2 < model.len) to = model.len;
-    typst_edited edited = {77, 77, {77, {77, 77, 77}, 77}};
+    typst_edited edited = {77, 77, {77, {77, 77, 77}, 77, 77}};
     read_before();
     typst_status status = typst_edit(&session, from, to, with, len, &edited);
     bool fits = from <= to && is_boundary(model.text, model.len, from) && is_boundary(model.text, model.len, to);
@@ -959,7 +969,7 @@ static typst_status edit(void)
         model.len += len - (to - from);
         WANT(edited.start <= from && from + len <= edited.end && edited.end <= model.len, true);
         WANT(edited.change.root, 0);
-        follow_all(from < to || len > 0);
+        follow_all(&edited.change, from < to || len > 0);
         compare_document();
     } else {
         WANT(edited.start == 77 && edited.end == 77 && is_untouched(&edited.change), true);
@@ -1002,6 +1012,116 @@ static typst_status find_range(void)
     return status;
 }
 
+/* The node at a path from `node` down whose text covers these bytes, and of whose children none covers them. */
+static void cover_at(const struct node *node, size_t from, size_t to, size_t *path, size_t *depth, size_t *offset)
+{
+    for (size_t i = 0, begin = *offset; i < node->count; begin += node_len(node->children[i++])) {
+        if (from < begin || begin + node_len(node->children[i]) < to) continue;
+        path[(*depth)++] = i;
+        *offset = begin;
+        cover_at(node->children[i], from, to, path, depth, offset);
+        return;
+    }
+}
+
+/* Finds the smallest node that covers some bytes. */
+static typst_status find_cover(void)
+{
+    size_t path[DEPTH], wanted[DEPTH], depth = 0, offset = 0, from = draw(20), to = from + draw(6);
+    typst_place place = {77, 77};
+    typst_range range;
+    typst_status status = typst_find_cover(&session, from, to, path, DEPTH, &place);
+    if (model.is_document) {
+        WANT(status, to <= model.len ? TYPST_DONE : TYPST_NOT_FOUND);
+        if (status == TYPST_DONE) WANT(typst_range_of(&session, path, place.depth, &range), TYPST_DONE);
+        if (status == TYPST_DONE) WANT(range.start <= from && to <= range.end, true);
+        return status;
+    }
+    bool there = model.tree && to <= node_len(model.tree);
+    if (there) cover_at(model.tree, from, to, wanted, &depth, &offset);
+    WANT(status, !model.made ? TYPST_NOT_MADE : !model.tree ? TYPST_NO_TREE : there ? TYPST_DONE : TYPST_NOT_FOUND);
+    WANT(place.depth, there ? depth : 77);
+    WANT(place.offset, there ? offset : 77);
+    if (there) WANT(memcmp(path, wanted, depth * sizeof *path), 0);
+    return status;
+}
+
+/* Copies the session, compares the nodes, and goes on with the copy. */
+static typst_status copy(void)
+{
+    static typst_node_info nodes[NODES], copied[NODES];
+    size_t path[1] = {0};
+    typst_length length = {0}, same = {0};
+    uint64_t now;
+    typst_status status = typst_copy(&session, &other);
+    WANT(status, model.made ? TYPST_DONE : TYPST_NOT_MADE);
+    if (status != TYPST_DONE) return status;
+    typst_status held = typst_preorder(&session, path, 0, nodes, NODES, &length);
+    WANT(typst_preorder(&other, path, 0, copied, NODES, &same), held);
+    WANT(same.len, length.len);
+    WANT(memcmp(nodes, copied, length.len * sizeof *nodes), 0);
+    WANT(typst_pop(&other, model.depth + 1), TYPST_SHORT_STACK);
+    WANT(typst_pop(&other, model.depth), TYPST_DONE);
+    WANT(typst_follow(&other, 2, &now), TYPST_NO_EDIT);
+    WANT(typst_edited_path(&other, path, 1, &same), TYPST_NO_EDIT);
+    WANT(typst_copy(&session, &other), TYPST_DONE);
+    WANT(typst_new(&session), TYPST_DONE);
+    typst_session made = session;
+    session = other;
+    other = made;
+    model.is_followed = false;
+    return status;
+}
+
+/* Takes other line ends for the document. */
+static typst_status set_line_ends(void)
+{
+    uint32_t ends = once_in(9) ? UINT32_MAX : (uint32_t)draw(2);
+    typst_status status = typst_set_line_ends(&session, ends);
+    WANT(status, !model.made ? TYPST_NOT_MADE : !model.is_document ? TYPST_NO_DOCUMENT : TYPST_DONE);
+    if (status == TYPST_DONE) model.ends = ends;
+    return status;
+}
+
+/* Counts units before a byte, and goes back. */
+static void offsets(typst_status held, uint32_t unit, size_t at)
+{
+    size_t offset = 77, byte = 77, wanted = 0;
+    bool is_held = held == TYPST_DONE, there = is_held && is_boundary(model.text, model.len, at);
+    WANT(typst_byte_to_offset(&session, at, unit, &offset), there ? TYPST_DONE : is_held ? TYPST_NO_PLACE : held);
+    for (size_t i = 0; there && i < at; i++) {
+        bool goes_on = ((unsigned char)model.text[i] & 0xc0) == 0x80;
+        wanted += unit == TYPST_BYTES || !goes_on;
+        wanted += unit > TYPST_CHARACTERS && 0xf0 <= (unsigned char)model.text[i];
+    }
+    WANT(offset, there ? wanted : 77);
+    WANT(typst_offset_to_byte(&session, there ? wanted : SIZE_MAX, unit, &byte), there ? TYPST_DONE : is_held ? TYPST_NO_PLACE : held);
+    WANT(byte, there ? at : 77);
+}
+
+/* The byte of a line and a column, or the end of the line's text if the column is there or past it. */
+static bool clamped_at(uint32_t unit, struct spot *spot)
+{
+    struct spot end = {0, spot->line, 0}, next = {0, spot->line + 1, 0};
+    if (!spot_at(model.text, model.len, model.ends, TYPST_BYTES, false, &end)) return false;
+    size_t begin = end.byte;
+    end.byte = spot_at(model.text, model.len, model.ends, TYPST_BYTES, false, &next) ? next.byte : model.len;
+    struct spot after = {end.byte, 0, 0};
+    spot_at(model.text, model.len, model.ends, TYPST_BYTES, true, &after);
+    if (after.line != spot->line) {
+        do end.byte--;
+        while (!is_boundary(model.text, model.len, end.byte));
+        if (begin < end.byte && model.text[end.byte] == '\n' && model.text[end.byte - 1] == '\r') end.byte--;
+    }
+    struct spot text_end = {end.byte, 0, 0};
+    spot_at(model.text, model.len, model.ends, unit, true, &text_end);
+    if (text_end.column <= spot->column) {
+        spot->byte = end.byte;
+        return true;
+    }
+    return spot_at(model.text, model.len, model.ends, unit, false, spot);
+}
+
 /* Reads a part of the document's text, and the bytes of a line. */
 static void parts(typst_status held)
 {
@@ -1021,8 +1141,8 @@ static void parts(typst_status held)
     if (is_written) WANT(memcmp(out, model.text + from, to - from), 0);
     for (size_t i = is_written ? to - from : 0; i < sizeof out; i++) WANT(out[i], '#');
     struct spot begin = {0, line, 0}, next = {0, line + 1, 0};
-    bool there = is_held && spot_at(model.text, model.len, TYPST_BYTES, false, &begin);
-    bool is_last = there && !spot_at(model.text, model.len, TYPST_BYTES, false, &next);
+    bool there = is_held && spot_at(model.text, model.len, model.ends, TYPST_BYTES, false, &begin);
+    bool is_last = there && !spot_at(model.text, model.len, model.ends, TYPST_BYTES, false, &next);
     WANT(typst_line_to_range(&session, line, &range), !is_held ? held : there ? TYPST_DONE : TYPST_NO_PLACE);
     WANT(range.start, there ? begin.byte : 77);
     WANT(range.end, !there ? 77 : is_last ? model.len : next.byte);
@@ -1037,20 +1157,26 @@ static typst_status places(void)
     struct spot end = {model.len, 0, 0}, spot = {once_in(30) ? SIZE_MAX - draw(2) : draw(model.len + 3), 0, 0};
     typst_status held = !model.made ? TYPST_NOT_MADE : !model.is_document ? TYPST_NO_DOCUMENT : TYPST_DONE;
     bool is_held = held == TYPST_DONE;
-    if (is_held) spot_at(model.text, model.len, unit, true, &end);
+    if (is_held) spot_at(model.text, model.len, model.ends, unit, true, &end);
     WANT(typst_len_lines(&session, &count), held);
     parts(held);
     WANT(count, is_held ? end.line + 1 : 77);
-    bool there = is_held && spot_at(model.text, model.len, unit, true, &spot);
+    bool there = is_held && spot_at(model.text, model.len, model.ends, unit, true, &spot);
     WANT(typst_byte_to_line_column(&session, spot.byte, unit, &place), there ? TYPST_DONE : is_held ? TYPST_NO_PLACE : held);
     WANT(place.line, there ? spot.line : 77);
     WANT(place.column, there ? spot.column : 77);
     /* Asks for the place itself, or for one next to it, which may not exist. */
     struct spot near = {0, spot.line + draw(2), once_in(30) ? SIZE_MAX : spot.column + draw(3)};
-    there = is_held && spot_at(model.text, model.len, unit, false, &near);
+    there = is_held && spot_at(model.text, model.len, model.ends, unit, false, &near);
     typst_status status = typst_line_column_to_byte(&session, near.line, near.column, unit, &byte);
     WANT(status, there ? TYPST_DONE : is_held ? TYPST_NO_PLACE : held);
     WANT(byte, there ? near.byte : 77);
+    near = (struct spot){0, near.line, near.column};
+    byte = 77;
+    there = is_held && clamped_at(unit, &near);
+    WANT(typst_line_column_to_byte_clamped(&session, near.line, near.column, unit, &byte), there ? TYPST_DONE : is_held ? TYPST_NO_PLACE : held);
+    WANT(byte, there ? near.byte : 77);
+    offsets(held, unit, spot.byte);
     return status;
 }
 
@@ -1140,7 +1266,8 @@ int main(int argc, char **argv)
                       {"pick", pick, 60},            {"view", view, 100},
                       {"reconcile", reconcile, 200}, {"update", update, 60},
                       {"follow", follow, 30},        {"send", send, 30},
-                      {"find_range", find_range, 60}};
+                      {"find_range", find_range, 60}, {"find_cover", find_cover, 60},
+                      {"copy", copy, 10},            {"set_line_ends", set_line_ends, 20}};
     static unsigned long seen[CALLS][STATUSES];
     unsigned long many = argc > 1 ? strtoul(argv[1], NULL, 10) : 1000000;
     size_t weights = 0;

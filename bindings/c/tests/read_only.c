@@ -87,6 +87,26 @@ static typst_status place_byte(void)
 }
 
 static typst_status find_byte(void) { return typst_line_column_to_byte(session, 0, 1, TYPST_UTF16, &size); }
+
+static typst_status find_byte_clamped(void)
+{
+    return typst_line_column_to_byte_clamped(session, 0, 100, TYPST_UTF16, &size);
+}
+
+static typst_status count_before(void) { return typst_byte_to_offset(session, 3, TYPST_UTF16, &size); }
+static typst_status find_offset(void) { return typst_offset_to_byte(session, 3, TYPST_UTF16, &size); }
+
+static typst_status copy(void)
+{
+    typst_session made = TYPST_SESSION_INIT;
+    typst_status status = typst_copy(session, &made);
+    typst_free(&made);
+    return status;
+}
+
+static typst_status read_edited_path(void) { return typst_edited_path(session, path, DEPTH, &length); }
+static typst_status find_cover(void) { return typst_find_cover(session, 1, 3, path, DEPTH, &place); }
+
 static typst_status follow(void)
 {
     uint64_t now;
@@ -128,7 +148,13 @@ static const struct {
              {"typst_line_to_range", read_line},
              {"typst_len_lines", count_lines},
              {"typst_byte_to_line_column", place_byte},
-             {"typst_line_column_to_byte", find_byte}};
+             {"typst_line_column_to_byte", find_byte},
+             {"typst_line_column_to_byte_clamped", find_byte_clamped},
+             {"typst_byte_to_offset", count_before},
+             {"typst_offset_to_byte", find_offset},
+             {"typst_copy", copy},
+             {"typst_edited_path", read_edited_path},
+             {"typst_find_cover", find_cover}};
 
 /* Makes a call in a process of its own. Returns its status, or -1 if a signal ended it. */
 static int outcome(typst_status (*call)(void))

@@ -97,6 +97,20 @@ static void follow(typst_session *session, long refused)
     check(now == info.number && now == last.number, "a node of the same tree has another number", refused);
     DO(typst_find_range(session, 0, 5, path, 2, &place));
     check(place.depth == 1 && path[0] == 0 && place.offset == 0, "the first leaf has other bytes", refused);
+    DO(typst_find_cover(session, 1, 4, path, 2, &place));
+    check(place.depth == 1 && path[0] == 0 && place.offset == 0, "another node covers the bytes", refused);
+}
+
+/* Copies a session. If memory is refused, the other session holds what it held. */
+static void copy(typst_session *session, typst_session *other, long refused)
+{
+    size_t path[1] = {0};
+    typst_node_info info, copied;
+
+    DO(typst_copy(session, other));
+    DO(typst_node(session, path, 0, &info));
+    DO(typst_node(other, path, 0, &copied));
+    check(memcmp(&info, &copied, sizeof info) == 0, "the copy has another root", refused);
 }
 
 /* Builds a tree, edits it and reads it. */
@@ -196,6 +210,9 @@ static void document(typst_session *session, long refused)
     DO(typst_edit(session, 8, 8, more, sizeof more - 1, &edited));
     DO(typst_len_lines(session, &count));
     check(count == 15, "the document has another number of lines", refused);
+    DO(typst_set_line_ends(session, TYPST_LINE_ENDS_EDITOR));
+    DO(typst_len_lines(session, &count));
+    check(count == 15, "the document has another number of lines of an editor", refused);
     DO(typst_line_column_to_byte(session, 10, 5, TYPST_UTF16, &byte));
     check(byte == 8 + (sizeof more - 1) + 6, "a place is at another byte", refused);
 }
@@ -218,8 +235,10 @@ int main(void)
         check(pointer != NULL, "no session is made", refused);
         typst_session_free(pointer);
         tree(&session, refused);
+        copy(&session, &receiver, refused);
         view(&session, refused);
         document(&session, refused);
+        copy(&session, &receiver, refused);
         any = granted < 0;
         check(!any || refused_calls == before + 1, "no call says that memory was refused", refused);
         typst_free(&session);

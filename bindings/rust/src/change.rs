@@ -29,7 +29,7 @@ pub enum Touched {
 }
 
 impl Touched {
-    /// What the library tells.
+    /// What the library returns.
     fn of(told: &raw::Change) -> Touched {
         let raw::Window { start, end, tried } = told.window;
         match (told.root, tried) {
@@ -54,6 +54,9 @@ impl Touched {
 pub struct Change<'t> {
     /// What was changed.
     pub touched: Touched,
+    /// How many nodes that stay were numbered anew.
+    pub moved: usize,
+    depth: usize,
     handle: &'t Handle,
 }
 
@@ -61,14 +64,22 @@ impl<'t> Change<'t> {
     pub(crate) fn new(handle: &'t Handle, told: &raw::Change) -> Change<'t> {
         Change {
             touched: Touched::of(told),
+            moved: told.moved,
+            depth: told.depth,
             handle,
         }
+    }
+
+    /// The path to the node whose children were changed, from the root down, as it is after the edit. It is empty if the
+    /// root itself was changed.
+    pub fn path(&self) -> Vec<usize> {
+        self.handle.edited_path(self.depth).expect("an edit was made")
     }
 
     /// The span that a node has after the edit, by its span before the edit. `None` if the node is gone.
     ///
     /// Follow each span that you keep, once after each edit. A span that isn't followed may belong to another node. Any
-    /// span that no node of the old tree had is answered as if a node had it. This takes no memory, and hardly any time.
+    /// span that no node of the old tree had is followed as if a node had it. This needs no memory, and hardly any time.
     pub fn follow(&self, span: Span) -> Option<Span> {
         self.handle
             .follow(span.number())

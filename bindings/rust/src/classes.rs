@@ -1,8 +1,7 @@
-//! The classes and the sets of kinds.
+//! The names and the sets of kinds.
 
 use crate::handle;
 use crate::kind::SyntaxKind;
-use crate::raw::KindClasses;
 use std::fmt;
 use std::str::FromStr;
 
@@ -80,46 +79,11 @@ impl TryFrom<u8> for SyntaxKind {
     }
 }
 
-/// # Classes
 impl SyntaxKind {
-    fn classes(self) -> KindClasses {
-        handle::kind_classes(self.to_u8()).expect("there is such a kind")
-    }
-
     /// The kind with a name, as [`SyntaxKind::name`] returns it. No two kinds have the same name.
     pub fn from_name(name: &str) -> Option<SyntaxKind> {
         let number = handle::kind_of_name(name).ok()?;
         u8::try_from(number).ok().and_then(SyntaxKind::from_u8)
-    }
-
-    /// Whether this is a bracket, a brace or a parenthesis.
-    pub fn is_grouping(self) -> bool {
-        self.classes().grouping == 1
-    }
-
-    /// Whether this ends an expression.
-    pub fn is_terminator(self) -> bool {
-        self.classes().terminator == 1
-    }
-
-    /// Whether this is a block of code or of content.
-    pub fn is_block(self) -> bool {
-        self.classes().block == 1
-    }
-
-    /// Whether this is a statement.
-    pub fn is_stmt(self) -> bool {
-        self.classes().stmt == 1
-    }
-
-    /// Whether this is a keyword.
-    pub fn is_keyword(self) -> bool {
-        self.classes().keyword == 1
-    }
-
-    /// Whether a parser skips this: a space, a comment or the like.
-    pub fn is_trivia(self) -> bool {
-        self.classes().trivia == 1
     }
 }
 
@@ -151,6 +115,22 @@ mod tests {
         assert_eq!(SyntaxKind::try_from(0), Ok(SyntaxKind::all()[0]));
         assert_eq!(SyntaxKind::try_from(255), Err(NoKind));
         assert_eq!(format!("{:>9}", SyntaxKind::Heading), "  heading");
+    }
+
+    #[test]
+    fn the_classes_of_the_table_are_those_of_the_library() {
+        for kind in SyntaxKind::all() {
+            let wanted = handle::kind_classes(kind.to_u8()).expect("there is such a kind");
+            let told = crate::raw::KindClasses {
+                grouping: kind.is_grouping().into(),
+                terminator: kind.is_terminator().into(),
+                block: kind.is_block().into(),
+                stmt: kind.is_stmt().into(),
+                keyword: kind.is_keyword().into(),
+                trivia: kind.is_trivia().into(),
+            };
+            assert_eq!(told, wanted, "{kind:?}");
+        }
     }
 
     #[test]

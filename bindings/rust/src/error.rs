@@ -26,7 +26,7 @@ pub enum Error {
     Range,
     /// There is no such node.
     NotFound,
-    /// The node takes no hints: it isn't an error, and has no warning.
+    /// The node can have no hints: it isn't an error, and has no warning.
     NoHints,
     /// The text has no such place: the byte is past its end or within a character, or no byte has that line and column.
     NoPlace,

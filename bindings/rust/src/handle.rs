@@ -1,16 +1,18 @@
 //! The calls of the library. Only this module is unsafe.
 //!
 //! A [`Handle`] is made by `new`, never copied, and freed once. It isn't `Sync`, and no call of the library calls Rust,
-//! so each call has the handle to itself. A call that takes a `*const` writes nothing to the handle: it is proved that the
+//! so each call has the handle to itself. A call that gets a `*const` writes nothing to the handle: it is proved that the
 //! handle is the same when the call returns, and bindings/c/tests/read_only.c tests that nothing is written in between.
 //! Slices and texts are valid for each call that they are passed to. They aren't null, and they overlap with nothing that
 //! is written.
 #![allow(unsafe_code)]
 
 use crate::error::Error;
+#[cfg(test)]
+use crate::raw::KindClasses;
 use crate::raw::{
-    self, ByteRange, Change, Diagnostic, DiagnosticSizes, Edited, KindClasses, Length, LineColumn, NodeInfo, Place,
-    ViewAnswer, Window,
+    self, ByteRange, Change, Diagnostic, DiagnosticSizes, Edited, Length, LineColumn, NodeInfo, Place, ViewAnswer,
+    Window,
 };
 use std::ops::Range;
 use std::ptr;
@@ -64,6 +66,17 @@ impl Handle {
         };
         // SAFETY: the session is all zero.
         outcome(unsafe { raw::typst_new(&mut session) })?;
+        Ok(Handle(session))
+    }
+
+    /// A copy of all that is held, with all numbers.
+    pub(crate) fn copy(&self) -> Result<Handle, Error> {
+        let mut session = raw::Session {
+            made: 0,
+            at: ptr::null_mut(),
+        };
+        // SAFETY: what the head of this module says. The new session is all zero, and another one than this.
+        outcome(unsafe { raw::typst_copy(self.read(), &mut session) })?;
         Ok(Handle(session))
     }
 
@@ -154,6 +167,14 @@ impl Handle {
         outcome(unsafe { raw::typst_send(self.at(), other.at()) })
     }
 
+    /// The path to the node whose children the last edit changed. `depth` is its length.
+    pub(crate) fn edited_path(&self, depth: usize) -> Result<Vec<usize>, Error> {
+        filled(depth, |out: &mut [usize], length| {
+            // SAFETY: what the head of this module says.
+            unsafe { raw::typst_edited_path(self.read(), out.as_mut_ptr(), out.len(), length) }
+        })
+    }
+
     /// The number that a node has after the last edit, which can be followed. `None` if the node is gone.
     pub(crate) fn follow(&self, number: u64) -> Option<u64> {
         let mut now = 0;
@@ -223,7 +244,7 @@ impl Handle {
         Ok(child)
     }
 
-    /// What an accessor answers, and its text.
+    /// What an accessor returns, and its text.
     pub(crate) fn view(&self, path: &[usize], accessor: u32, index: usize) -> Result<(ViewAnswer, String), Error> {
         let mut answer = ViewAnswer::default();
         let out = filled(64, |out: &mut [u8], length| {
@@ -301,6 +322,14 @@ impl Handle {
         })
     }
 
+    pub(crate) fn find_cover(&self, range: &Range<usize>) -> Result<Vec<usize>, Error> {
+        found(|path, place| {
+            let (from, to, room) = (range.start, range.end, path.len());
+            // SAFETY: what the head of this module says.
+            unsafe { raw::typst_find_cover(self.read(), from, to, path.as_mut_ptr(), room, place) }
+        })
+    }
+
     pub(crate) fn leaf_at(&self, cursor: usize, side: u32) -> Result<Vec<usize>, Error> {
         found(|path, place| {
             // SAFETY: what the head of this module says.
@@ -345,6 +374,11 @@ impl Handle {
         Ok(edited)
     }
 
+    pub(crate) fn set_line_ends(&mut self, ends: u32) -> Result<(), Error> {
+        // SAFETY: what the head of this module says.
+        outcome(unsafe { raw::typst_set_line_ends(self.at(), ends) })
+    }
+
     pub(crate) fn len_lines(&self) -> Result<usize, Error> {
         let mut count = 0;
         // SAFETY: what the head of this module says.
@@ -382,12 +416,34 @@ impl Handle {
         outcome(unsafe { raw::typst_line_column_to_byte(self.read(), line, column, unit, &mut byte) })?;
         Ok(byte)
     }
+
+    /// The same, but a column past the line's text means its end.
+    pub(crate) fn line_column_to_byte_clamped(&self, line: usize, column: usize, unit: u32) -> Result<usize, Error> {
+        let mut byte = 0;
+        // SAFETY: what the head of this module says.
+        outcome(unsafe { raw::typst_line_column_to_byte_clamped(self.read(), line, column, unit, &mut byte) })?;
+        Ok(byte)
+    }
+
+    pub(crate) fn byte_to_offset(&self, byte: usize, unit: u32) -> Result<usize, Error> {
+        let mut offset = 0;
+        // SAFETY: what the head of this module says.
+        outcome(unsafe { raw::typst_byte_to_offset(self.read(), byte, unit, &mut offset) })?;
+        Ok(offset)
+    }
+
+    pub(crate) fn offset_to_byte(&self, offset: usize, unit: u32) -> Result<usize, Error> {
+        let mut byte = 0;
+        // SAFETY: what the head of this module says.
+        outcome(unsafe { raw::typst_offset_to_byte(self.read(), offset, unit, &mut byte) })?;
+        Ok(byte)
+    }
 }
 
 /// The version of the library.
 #[cfg(test)]
 pub(crate) fn version() -> u32 {
-    // SAFETY: the call takes nothing.
+    // SAFETY: the call has no arguments.
     unsafe { raw::typst_version() }
 }
 
@@ -410,7 +466,8 @@ pub(crate) fn kind_of_name(name: &str) -> Result<u32, Error> {
     Ok(kind)
 }
 
-/// The classes of the kind with a number.
+/// The classes of the kind with a number. The crate itself has a table of them, which a test compares with these.
+#[cfg(test)]
 pub(crate) fn kind_classes(kind: u8) -> Result<KindClasses, Error> {
     let mut classes = KindClasses::default();
     // SAFETY: what the head of this module says.
@@ -431,7 +488,7 @@ fn text(bytes: Vec<u8>) -> String {
     String::from_utf8(bytes).expect("texts of nodes are UTF-8")
 }
 
-/// The path that a search answers.
+/// The path that a search returns.
 fn found(mut search: impl FnMut(&mut [usize], &mut Place) -> u32) -> Result<Vec<usize>, Error> {
     filled(16, |path: &mut [usize], length| {
         let mut place = Place::default();

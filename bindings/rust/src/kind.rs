@@ -1,4 +1,4 @@
-//! The kinds of nodes. Written by bench/bindings.py from crates/kinds.txt: change that and run it.
+//! The kinds of nodes. Written by bench/kinds.py from crates/kinds.txt: change that and run it.
 
 /// The kind of a node of the syntax tree: a token, an expression, a piece of markup and so on.
 #[derive(Clone, Copy, Debug, PartialEq, Eq, PartialOrd, Ord, Hash)]
@@ -579,5 +579,86 @@ impl SyntaxKind {
             SyntaxKind::Destructuring => "destructuring pattern",
             SyntaxKind::DestructAssignment => "destructuring assignment expression",
         }
+    }
+
+    /// Whether this is a bracket, a brace or a parenthesis.
+    pub fn is_grouping(self) -> bool {
+        matches!(
+            self,
+            SyntaxKind::LeftBrace
+                | SyntaxKind::RightBrace
+                | SyntaxKind::LeftBracket
+                | SyntaxKind::RightBracket
+                | SyntaxKind::LeftParen
+                | SyntaxKind::RightParen
+        )
+    }
+
+    /// Whether this ends an expression.
+    pub fn is_terminator(self) -> bool {
+        matches!(
+            self,
+            SyntaxKind::End
+                | SyntaxKind::RightBrace
+                | SyntaxKind::RightBracket
+                | SyntaxKind::RightParen
+                | SyntaxKind::Semicolon
+        )
+    }
+
+    /// Whether this is a block of code or of content.
+    pub fn is_block(self) -> bool {
+        matches!(self, SyntaxKind::CodeBlock | SyntaxKind::ContentBlock)
+    }
+
+    /// Whether this is a statement.
+    pub fn is_stmt(self) -> bool {
+        matches!(
+            self,
+            SyntaxKind::LetBinding
+                | SyntaxKind::SetRule
+                | SyntaxKind::ShowRule
+                | SyntaxKind::ModuleImport
+                | SyntaxKind::ModuleInclude
+        )
+    }
+
+    /// Whether this is a keyword.
+    pub fn is_keyword(self) -> bool {
+        matches!(
+            self,
+            SyntaxKind::Not
+                | SyntaxKind::And
+                | SyntaxKind::Or
+                | SyntaxKind::None
+                | SyntaxKind::Auto
+                | SyntaxKind::Let
+                | SyntaxKind::Set
+                | SyntaxKind::Show
+                | SyntaxKind::Context
+                | SyntaxKind::If
+                | SyntaxKind::Else
+                | SyntaxKind::For
+                | SyntaxKind::In
+                | SyntaxKind::While
+                | SyntaxKind::Break
+                | SyntaxKind::Continue
+                | SyntaxKind::Return
+                | SyntaxKind::Import
+                | SyntaxKind::Include
+                | SyntaxKind::As
+        )
+    }
+
+    /// Whether a parser skips this: a space, a comment or the like.
+    pub fn is_trivia(self) -> bool {
+        matches!(
+            self,
+            SyntaxKind::Shebang
+                | SyntaxKind::LineComment
+                | SyntaxKind::BlockComment
+                | SyntaxKind::Space
+                | SyntaxKind::Parbreak
+        )
     }
 }

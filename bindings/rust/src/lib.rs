@@ -1,6 +1,6 @@
-//! The syntax tree layer under Typst, from Rust: safe calls of a proved library.
+//! The syntax tree of Typst documents, from Rust: safe calls of a proved library.
 //!
-//! A [`Source`] is a text with its tree. After an edit, only the part that changes is parsed anew. A [`Builder`] is a
+//! A [`Source`] is a text with its tree. An edit parses only the blocks anew that it touches. A [`Builder`] is a
 //! stack of nodes, and [`Builder::number`] makes a [`Tree`] from its last node. A [`Node`] knows its place, and one call
 //! reads it. The [`Span`] of a node identifies it, if it is followed after each edit ([`Edited::follow`]).
 //!
@@ -64,7 +64,7 @@ pub use error::Error;
 pub use kind::SyntaxKind;
 pub use node::{Ancestors, Children, Node, Preorder};
 pub use node_class::NodeClass;
-pub use place::{ColumnUnit, LineColumn};
+pub use place::{ColumnUnit, LineColumn, LineEnds};
 pub use source::Source;
 pub use span::{FileId, Side, Span};
 pub use tree::{Builder, Nodes, NotNumbered, NotTaken, Renumbered, Tree};

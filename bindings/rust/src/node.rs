@@ -59,6 +59,11 @@ pub(crate) fn find_range<'t>(handle: &'t Handle, range: &Range<usize>) -> Result
     found(handle, handle.find_range(range))
 }
 
+/// The smallest node that covers a range of bytes.
+pub(crate) fn find_cover<'t>(handle: &'t Handle, range: &Range<usize>) -> Result<Option<Node<'t>>, Error> {
+    found(handle, handle.find_cover(range))
+}
+
 /// The leaf at a cursor.
 pub(crate) fn leaf_at(handle: &Handle, cursor: usize, side: Side) -> Result<Option<Node<'_>>, Error> {
     found(handle, handle.leaf_at(cursor, side.number()))
@@ -146,9 +151,9 @@ impl<'t> Node<'t> {
         self.child(child)
     }
 
-    /// What an accessor of a typed view answers of this node. It answers nothing if the node isn't of the accessor's
-    /// view. Of an accessor of several nodes this is the first answer. This fails only if memory is refused, and only the
-    /// value of a string takes memory of the library.
+    /// What an accessor of a typed view returns for this node, or nothing if the node isn't of the accessor's view. Of an
+    /// accessor of several nodes this is the first one. This fails only if memory is refused, and only the value of a
+    /// string needs memory of the library.
     ///
     /// ```
     /// use typst_tree::{Accessor, Answer, Builder, Error, FileId, Span, SyntaxKind};
@@ -172,7 +177,7 @@ impl<'t> Node<'t> {
         Ok(Answer::of(told, text))
     }
 
-    /// The node that an accessor answers with an index, if it answers a node. This fails only if memory is refused.
+    /// The node that an accessor returns with an index, if it returns a node. This fails only if memory is refused.
     ///
     /// ```
     /// use typst_tree::{Accessor, Error, FileId, Source};
@@ -288,7 +293,7 @@ impl<'t> Node<'t> {
     }
 
     /// The nodes of the subtree in preorder, this one first. One call reads them all, and takes time and memory in
-    /// proportion to them. To see only a part of a tree, use a [`Cursor`].
+    /// proportion to them. To see less of a tree, use a [`Cursor`].
     pub fn preorder(&self) -> Preorder<'t> {
         let infos = self.handle.preorder(&self.path, self.info.descendants);
         Preorder {

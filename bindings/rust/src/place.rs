@@ -22,6 +22,25 @@ impl ColumnUnit {
     }
 }
 
+/// What ends a line. A carriage return and a line feed after it end one line together.
+#[derive(Clone, Copy, Debug, PartialEq, Eq, Hash)]
+pub enum LineEnds {
+    /// A line feed, a vertical tab, a form feed, a carriage return, U+0085, U+2028 or U+2029.
+    Unicode,
+    /// A line feed or a carriage return, as in the protocol between editors and language servers.
+    Editor,
+}
+
+impl LineEnds {
+    /// The number of `typst.h`.
+    pub(crate) fn number(self) -> u32 {
+        match self {
+            LineEnds::Unicode => 0,
+            LineEnds::Editor => 1,
+        }
+    }
+}
+
 /// A place in a text, by its line and column. Both count from 0.
 #[derive(Clone, Copy, Debug, PartialEq, Eq, PartialOrd, Ord, Hash)]
 pub struct LineColumn {

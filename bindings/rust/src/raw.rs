@@ -1,4 +1,4 @@
-//! The functions of the library and the structs that they take and write, as `bindings/c/typst.h` declares them.
+//! The functions of the library and the structs that they read and write, as `bindings/c/typst.h` declares them.
 
 use std::ffi::c_void;
 
@@ -56,7 +56,7 @@ pub struct LineColumn {
     pub column: usize,
 }
 
-/// What an accessor answers of a node.
+/// What an accessor returns for a node.
 #[repr(C)]
 #[derive(Clone, Copy, Debug, Default)]
 pub struct ViewAnswer {
@@ -88,7 +88,8 @@ pub struct DiagnosticSizes {
 
 /// The classes of a kind.
 #[repr(C)]
-#[derive(Clone, Copy, Debug, Default)]
+#[derive(Clone, Copy, Debug, Default, PartialEq, Eq)]
+#[cfg_attr(not(test), allow(dead_code))]
 pub struct KindClasses {
     pub grouping: u8,
     pub terminator: u8,
@@ -113,6 +114,7 @@ pub struct Window {
 pub struct Change {
     pub depth: usize,
     pub window: Window,
+    pub moved: usize,
     pub root: u32,
 }
 
@@ -128,6 +130,7 @@ pub struct Edited {
 #[allow(unsafe_code)]
 extern "C" {
     pub fn typst_new(session: *mut Session) -> u32;
+    pub fn typst_copy(session: *const Session, copy: *mut Session) -> u32;
     pub fn typst_free(session: *mut Session);
     #[cfg_attr(not(test), allow(dead_code))]
     pub fn typst_version() -> u32;
@@ -167,6 +170,7 @@ extern "C" {
     ) -> u32;
     pub fn typst_update(session: *mut Session, change: *mut Change) -> u32;
     pub fn typst_follow(session: *const Session, number: u64, now: *mut u64) -> u32;
+    pub fn typst_edited_path(session: *const Session, out: *mut usize, room: usize, length: *mut Length) -> u32;
     pub fn typst_send(session: *mut Session, other: *mut Session) -> u32;
     pub fn typst_node(session: *const Session, path: *const usize, depth: usize, info: *mut NodeInfo) -> u32;
     pub fn typst_children(
@@ -254,6 +258,14 @@ extern "C" {
         room: usize,
         place: *mut Place,
     ) -> u32;
+    pub fn typst_find_cover(
+        session: *const Session,
+        from: usize,
+        to: usize,
+        path: *mut usize,
+        room: usize,
+        place: *mut Place,
+    ) -> u32;
     pub fn typst_leaf_at(
         session: *const Session,
         cursor: usize,
@@ -281,6 +293,7 @@ extern "C" {
         with_len: usize,
         edited: *mut Edited,
     ) -> u32;
+    pub fn typst_set_line_ends(session: *mut Session, ends: u32) -> u32;
     pub fn typst_len_lines(session: *const Session, count: *mut usize) -> u32;
     pub fn typst_line_to_range(session: *const Session, line: usize, range: *mut ByteRange) -> u32;
     pub fn typst_text(
@@ -299,9 +312,19 @@ extern "C" {
         unit: u32,
         byte: *mut usize,
     ) -> u32;
+    pub fn typst_line_column_to_byte_clamped(
+        session: *const Session,
+        line: usize,
+        column: usize,
+        unit: u32,
+        byte: *mut usize,
+    ) -> u32;
+    pub fn typst_byte_to_offset(session: *const Session, byte: usize, unit: u32, offset: *mut usize) -> u32;
+    pub fn typst_offset_to_byte(session: *const Session, offset: usize, unit: u32, byte: *mut usize) -> u32;
     #[cfg_attr(not(test), allow(dead_code))]
     pub fn typst_kind_name(kind: u32, out: *mut u8, room: usize, length: *mut Length) -> u32;
     pub fn typst_kind_of_name(name: *const u8, name_len: usize, kind: *mut u32) -> u32;
+    #[cfg_attr(not(test), allow(dead_code))]
     pub fn typst_kind_classes(kind: u32, classes: *mut KindClasses) -> u32;
     pub fn typst_kind_in_set(kind: u32, set: u32, held: *mut u32) -> u32;
 }

@@ -5,7 +5,7 @@ use crate::diagnostic::{self, Diagnostic};
 use crate::error::Error;
 use crate::handle::Handle;
 use crate::node::{self, Node};
-use crate::place::{ColumnUnit, LineColumn};
+use crate::place::{ColumnUnit, LineColumn, LineEnds};
 use crate::span::{FileId, Side, Span};
 use std::cell::OnceCell;
 use std::fmt;
@@ -25,6 +25,15 @@ impl Source {
         handle.open(file.get(), text)?;
         Ok(Source {
             handle,
+            text: OnceCell::new(),
+        })
+    }
+
+    /// A copy with the same text and tree. All nodes have the same spans. This fails only if memory is refused, after
+    /// which [`Clone::clone`] panics.
+    pub fn try_clone(&self) -> Result<Source, Error> {
+        Ok(Source {
+            handle: self.handle.copy()?,
             text: OnceCell::new(),
         })
     }
@@ -62,7 +71,7 @@ impl Source {
         node::at(&self.handle, path.to_vec())
     }
 
-    /// The node with a span. After an edit, [`Edited::follow`] tells which span a node has now. This fails only if memory
+    /// The node with a span. After an edit, [`Edited::follow`] says which span a node has now. This fails only if memory
     /// is refused.
     pub fn find(&self, span: Span) -> Result<Option<Node<'_>>, Error> {
         node::find(&self.handle, span)
@@ -77,6 +86,12 @@ impl Source {
     /// missed. This fails only if memory is refused.
     pub fn find_range(&self, range: Range<usize>) -> Result<Option<Node<'_>>, Error> {
         node::find_range(&self.handle, &range)
+    }
+
+    /// The smallest node whose text covers these bytes: no child of it covers them. `None` if they aren't all bytes of
+    /// the text. This fails only if memory is refused.
+    pub fn find_cover(&self, range: Range<usize>) -> Result<Option<Node<'_>>, Error> {
+        node::find_cover(&self.handle, &range)
     }
 
     /// The leaf at a cursor, in bytes. This fails only if memory is refused.
@@ -97,6 +112,12 @@ impl Source {
         let edited = self.handle.edit(range, with)?;
         self.text.take();
         Ok(Edited::new(&self.handle, &edited))
+    }
+
+    /// Sets the line ends of the text. At first these are [`LineEnds::Unicode`], and edits keep them. This takes time
+    /// in proportion to the text, and fails only if memory is refused.
+    pub fn set_line_ends(&mut self, ends: LineEnds) -> Result<(), Error> {
+        self.handle.set_line_ends(ends.number())
     }
 
     /// How many lines the text has: one more than it has line ends.
@@ -124,6 +145,32 @@ impl Source {
         self.handle
             .line_column_to_byte(place.line, place.column, unit.number())
             .ok()
+    }
+
+    /// The same, but a column past the line's text means its end, which is before the line end. Editors ask for places
+    /// in this way.
+    pub fn line_column_to_byte_clamped(&self, place: LineColumn, unit: ColumnUnit) -> Option<usize> {
+        self.handle
+            .line_column_to_byte_clamped(place.line, place.column, unit.number())
+            .ok()
+    }
+
+    /// How much of the text is before a byte, if it lies between two characters or at an end of the text. The cost is a
+    /// walk over the text up to the byte.
+    pub fn byte_to_offset(&self, byte: usize, unit: ColumnUnit) -> Option<usize> {
+        self.handle.byte_to_offset(byte, unit.number()).ok()
+    }
+
+    /// The byte that has so much of the text before it, if there is one. The cost is a walk over the text up to the byte.
+    pub fn offset_to_byte(&self, offset: usize, unit: ColumnUnit) -> Option<usize> {
+        self.handle.offset_to_byte(offset, unit.number()).ok()
+    }
+}
+
+impl Clone for Source {
+    /// As [`Source::try_clone`]. It panics if memory is refused.
+    fn clone(&self) -> Source {
+        self.try_clone().expect("memory for a copy of a source")
     }
 }
 

@@ -118,10 +118,10 @@ impl From<NotNumbered> for Error {
     }
 }
 
-/// A tree that wasn't taken as a builder.
+/// A tree that couldn't become a builder.
 #[derive(Debug)]
 pub struct NotTaken {
-    /// Why it wasn't taken.
+    /// Why it couldn't.
     pub error: Error,
     // Errors are `Sync`, and a tree isn't.
     tree: Mutex<Tree>,
@@ -163,6 +163,13 @@ pub struct Tree {
 }
 
 impl Tree {
+    /// A copy. All nodes have the same spans. This fails only if memory is refused, after which [`Clone::clone`] panics.
+    pub fn try_clone(&self) -> Result<Tree, Error> {
+        Ok(Tree {
+            handle: self.handle.copy()?,
+        })
+    }
+
     /// The root.
     pub fn root(&self) -> Node<'_> {
         node::root(&self.handle)
@@ -173,7 +180,7 @@ impl Tree {
         node::at(&self.handle, path.to_vec())
     }
 
-    /// The node with a span. After an edit, [`Change::follow`] tells which span a node has now. This fails only if memory
+    /// The node with a span. After an edit, [`Change::follow`] says which span a node has now. This fails only if memory
     /// is refused.
     pub fn find(&self, span: Span) -> Result<Option<Node<'_>>, Error> {
         node::find(&self.handle, span)
@@ -188,6 +195,12 @@ impl Tree {
     /// missed. This fails only if memory is refused.
     pub fn find_range(&self, range: Range<usize>) -> Result<Option<Node<'_>>, Error> {
         node::find_range(&self.handle, &range)
+    }
+
+    /// The smallest node whose text covers these bytes: no child of it covers them. `None` if they aren't all bytes of
+    /// the text. This fails only if memory is refused.
+    pub fn find_cover(&self, range: Range<usize>) -> Result<Option<Node<'_>>, Error> {
+        node::find_cover(&self.handle, &range)
     }
 
     /// The leaf at a cursor, in bytes. This fails only if memory is refused.
@@ -224,7 +237,7 @@ impl Tree {
     /// Replaces a range of children of the inner node at a path by the nodes that `build` makes. Nodes at either end that
     /// equal the old children there count as the old ones. The others are numbered anew, with the first of 0, 1, 2, 4, ..
     /// of their neighbors on either side for which there is room. All other nodes keep their spans. After an error the
-    /// tree is as it was. No span can be followed over this edit; [`Tree::reconcile`] makes the same edit, and tells
+    /// tree is as it was. No span can be followed over this edit; [`Tree::reconcile`] makes the same edit, and says
     /// where each node is.
     pub fn replace(
         &mut self,
@@ -272,6 +285,13 @@ impl Tree {
         nodes.count = 0;
         drop(nodes);
         Ok(Change::new(&self.handle, &told))
+    }
+}
+
+impl Clone for Tree {
+    /// As [`Tree::try_clone`]. It panics if memory is refused.
+    fn clone(&self) -> Tree {
+        self.try_clone().expect("memory for a copy of a tree")
     }
 }
 

@@ -1,9 +1,9 @@
-//! What the accessors of typed views answer of a node.
+//! What the accessors of typed views return for a node.
 
 use crate::raw::ViewAnswer;
 use crate::span::Span;
 
-/// What an accessor answers of a node.
+/// What an accessor returns for a node.
 #[derive(Clone, Debug, PartialEq, Eq, Hash)]
 #[non_exhaustive]
 pub enum Answer {
@@ -22,7 +22,7 @@ pub enum Answer {
 }
 
 impl Answer {
-    /// The answer that the library tells, with its text, if there is one.
+    /// The answer that the library returns, with its text, if there is one.
     pub(crate) fn of(told: ViewAnswer, text: String) -> Option<Answer> {
         match told.form {
             0 => None,

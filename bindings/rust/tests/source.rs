@@ -1,5 +1,5 @@
 //! Tests of texts that are edited.
-use typst_tree::{ColumnUnit, Error, FileId, LineColumn, Side, Source, Span, SyntaxKind};
+use typst_tree::{ColumnUnit, Error, FileId, LineColumn, LineEnds, Side, Source, Span, SyntaxKind, Touched};
 
 fn opened(text: &str) -> Result<Source, Error> {
     Source::new(FileId::MIN, text)
@@ -114,5 +114,85 @@ fn spans_are_followed_over_edits() -> Result<(), Error> {
     assert_eq!(edited.follow(headings[0]), None);
     let second = edited.follow(second).unwrap();
     assert_eq!(source.find(second)?.map(|node| node.text()), Some(Ok("= 2nd".into())));
+    Ok(())
+}
+
+#[test]
+fn lines_end_as_they_are_asked_to() -> Result<(), Error> {
+    let mut source = opened("a\r\nb\x0bc\u{2028}")?;
+    assert_eq!(source.len_lines(), 4);
+    source.set_line_ends(LineEnds::Editor)?;
+    assert_eq!(source.len_lines(), 2);
+    assert_eq!(source.line_to_range(1), Some(3..9));
+    source.edit(9..9, "\x0b\n")?;
+    assert_eq!((source.len_lines(), source.clone().len_lines()), (3, 3));
+    source.set_line_ends(LineEnds::Unicode)?;
+    assert_eq!(source.len_lines(), 6);
+    Ok(())
+}
+
+#[test]
+fn a_column_past_the_end_of_a_line_is_its_end() -> Result<(), Error> {
+    let source = opened("a\u{1d11e}\r\nb")?;
+    let byte = |line, column| source.line_column_to_byte_clamped(LineColumn { line, column }, ColumnUnit::Utf16);
+    let first = [byte(0, 0), byte(0, 1), byte(0, 2), byte(0, 3), byte(0, 4)];
+    assert_eq!(first, [Some(0), Some(1), None, Some(5), Some(5)]);
+    assert_eq!((byte(1, 9), byte(2, 0)), (Some(8), None));
+    Ok(())
+}
+
+#[test]
+fn offsets_count_in_units() -> Result<(), Error> {
+    let source = opened("a\u{1d11e}\nb")?;
+    let units = [ColumnUnit::Byte, ColumnUnit::Character, ColumnUnit::Utf16];
+    assert_eq!(
+        units.map(|unit| source.byte_to_offset(6, unit)),
+        [Some(6), Some(3), Some(4)]
+    );
+    assert_eq!(
+        units.map(|unit| source.offset_to_byte(4, unit)),
+        [None, Some(7), Some(6)]
+    );
+    assert_eq!(source.byte_to_offset(2, ColumnUnit::Utf16), None);
+    assert_eq!(source.offset_to_byte(6, ColumnUnit::Utf16), None);
+    Ok(())
+}
+
+#[test]
+fn the_smallest_node_that_covers_bytes_is_found() -> Result<(), Error> {
+    let source = opened("= One *two*")?;
+    let cover = |range| {
+        source
+            .find_cover(range)
+            .map(|node| node.map(|node| (node.kind(), node.path().to_vec())))
+    };
+    assert_eq!(cover(7..9)?, Some((SyntaxKind::Text, vec![0, 2, 2, 1, 0])));
+    assert_eq!(cover(6..9)?, Some((SyntaxKind::Strong, vec![0, 2, 2])));
+    assert_eq!(cover(0..3)?, Some((SyntaxKind::Heading, vec![0])));
+    assert_eq!(cover(0..12)?, None);
+    Ok(())
+}
+
+#[test]
+fn a_copy_has_the_same_spans_and_goes_its_own_way() -> Result<(), Error> {
+    let mut source = opened("= One\n\ntext")?;
+    let title = source.at(&[0, 2, 0]).unwrap().span();
+    let copy = source.clone();
+    source.edit(0..7, "")?;
+    assert_eq!((copy.text(), source.text()), ("= One\n\ntext", "text"));
+    assert_eq!(copy.find(title)?.unwrap().text()?, "One");
+    assert!(source.find(title)?.is_none());
+    Ok(())
+}
+
+#[test]
+fn an_edit_tells_its_path_and_how_many_nodes_moved() -> Result<(), Error> {
+    let mut source = opened("= One\n\n*two* words")?;
+    let edited = source.edit(10..11, "n")?;
+    assert_eq!(edited.change.path(), [2, 1]);
+    assert_eq!(edited.change.touched, Touched::Leaf { depth: 2, index: 0 });
+    assert_eq!(edited.change.moved, 0);
+    let edited = source.edit(0..0, "*a* ")?;
+    assert_eq!((edited.change.path(), edited.change.moved), (vec![], 0));
     Ok(())
 }

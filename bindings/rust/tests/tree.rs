@@ -400,7 +400,13 @@ fn nodes_are_compared_and_lead_upwards_and_to_their_ends() -> Result<(), Error> 
         (tree.find_range(0..3)?, tree.find_range(1..3)?),
         (Some(tree.root()), None)
     );
+    assert_eq!(
+        (tree.find_cover(1..2)?, tree.find_cover(1..3)?),
+        (tree.at(&[0, 1]), tree.at(&[0]))
+    );
     assert_eq!(tree.range(last.span())?, Some(2..3));
+    let copy = tree.clone();
+    assert_eq!(copy.range(last.span())?, Some(2..3));
     let same = sum("1", "2")?.number(FileId::MIN, Span::FULL)?;
     assert!(same.root() != tree.root() && same.root().spanless_eq(&tree.root()));
     Ok(())

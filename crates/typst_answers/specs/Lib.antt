@@ -1,3 +1,5 @@
+pub mod Looked
 pub mod Newlines
+pub mod Remark
 pub mod Subject
 pub mod Written

@@ -45,6 +45,7 @@ impl<'a> Asked<'a> {
             "replace" | "resize" | "insert_front" | "insert_end" | "replace_equal" => {
                 editing::made(alloc, watch, self)
             }
+            "reconcile" => editing::made(alloc, watch, self),
             "parse" | "letter" | "paragraph" | "delimiter" => texts::made(alloc, watch, self),
             "lines" => lines::made(alloc, watch, self),
             "byte_to_line" | "line_column_to_byte" | "place_of" => places::made(alloc, watch, self),

@@ -1,7 +1,7 @@
 //! Edits of numbered trees.
 use crate::asked::Asked;
 use crate::drawn::place;
-use crate::shapes::{PARAGRAPHS, tree};
+use crate::shapes::{PARAGRAPHS, chain, tree};
 use crate::stopwatch::Stopwatch;
 use anyhow::{Context, Result};
 use std::alloc::Global;
@@ -37,6 +37,7 @@ fn edited(alloc: Global, tree: &mut NumberedTree, asked: Asked<'_>) -> Result<Op
         ("replace", "document") => replace_document(alloc, tree, rounds),
         ("replace_equal", "document") => replace_equal(alloc, tree, rounds),
         ("replace", "chain") => replace_chain(alloc, tree, asked),
+        ("reconcile", "chain") => reconcile_chain(alloc, tree, asked),
         _ => return Ok(None),
     };
     Ok(Some(lengths?))
@@ -174,6 +175,18 @@ fn replace_chain(alloc: Global, tree: &mut NumberedTree, asked: Asked<'_>) -> Re
     for _ in 0..asked.rounds {
         let len = replace(alloc, tree, &path, 0, "cd")?;
         lengths = lengths.saturating_add(len);
+    }
+    Ok(lengths)
+}
+
+/// Puts a new chain in place of the root's child in each round. Only its leaf differs from the one that is there.
+fn reconcile_chain(alloc: Global, tree: &mut NumberedTree, asked: Asked<'_>) -> Result<usize> {
+    let mut lengths = 0usize;
+    for round in 0..asked.rounds {
+        let text = if round % 2 == 0 { "cd" } else { "ce" };
+        let below = chain(alloc, asked.size.saturating_sub(1), text)?;
+        tree.reconcile(alloc, &[], 0..1, vec![in alloc; below]?)?;
+        lengths = lengths.saturating_add(tree.root().len());
     }
     Ok(lengths)
 }

@@ -82,7 +82,7 @@ pub fn tree(alloc: Global, shape: &str, size: usize) -> Result<Option<SyntaxNode
         "long" => long(alloc, size),
         "ten" => ten(alloc, size),
         "document" => document(alloc, size),
-        "chain" => chain(alloc, size),
+        "chain" => chain(alloc, size, "ab"),
         "errors" => errors(alloc, size),
         _ => return Ok(None),
     };
@@ -147,8 +147,9 @@ fn errors(alloc: Global, size: usize) -> Result<SyntaxNode> {
     markup(alloc, nodes)
 }
 
-fn chain(alloc: Global, size: usize) -> Result<SyntaxNode> {
-    let mut node = SyntaxNode::leaf(alloc, SyntaxKind::Text, "ab")?;
+/// A chain of `size` nodes, each in the one before, with a leaf in the last.
+pub fn chain(alloc: Global, size: usize, text: &str) -> Result<SyntaxNode> {
+    let mut node = SyntaxNode::leaf(alloc, SyntaxKind::Text, text)?;
     for _ in 0..size {
         node = markup(alloc, vec![in alloc; node]?)?;
     }

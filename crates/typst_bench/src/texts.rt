@@ -27,16 +27,27 @@ pub struct Edit {
     pub with: &'static str,
 }
 
-/// A line of a text without blank lines, which is one block.
-const LINE: &str = "Some *strong* words, _emphasis_ and a line.\n";
+/// A line of a block that an open delimiter keeps together.
+const LINE: &str = "Some *strong* words, no emphasis and a line.\n";
 
-/// A block with this many lines.
-fn block(alloc: Global, lines: usize) -> Result<String, AllocError> {
+/// An item of a list, and where a letter is inserted and removed in it, in bytes.
+const ITEM: &str = "- an item with `raw text`\n";
+
+const ITEM_LETTER: usize = 12;
+
+/// A text with the same line so often.
+fn lines_of(alloc: Global, line: &str, lines: usize) -> Result<String, AllocError> {
     let mut text = String::new(alloc);
     for _ in 0..lines {
-        text.push_str(LINE)?;
+        text.push_str(line)?;
     }
     Ok(text)
+}
+
+/// One block with this many lines: emphasized content.
+fn block(alloc: Global, lines: usize) -> Result<String, AllocError> {
+    let inside = lines_of(alloc, LINE, lines)?;
+    format!(in alloc; "_{inside}_")
 }
 
 /// A text with this many lines.
@@ -75,10 +86,14 @@ pub fn typed(verb: &str) -> Option<Edit> {
 }
 
 /// Parses a text or edits it in each round. Returns how many bytes were parsed in all. The shape `block` is a text of one
-/// block. With the shape `far` the edits are made in turns in the first paragraph and in the last one.
+/// block, and `list` is one of items without a blank line. `stars` and `nested` have only delimiters. With the shape
+/// `far` the edits are made in turns in the first paragraph and in the last one.
 pub fn made(alloc: Global, watch: &mut Stopwatch<'_>, asked: Asked<'_>) -> Result<Option<usize>> {
     let text = match asked.shape {
         "block" => block(alloc, asked.size),
+        "list" => lines_of(alloc, ITEM, asked.size),
+        "stars" => lines_of(alloc, "*", asked.size),
+        "nested" => lines_of(alloc, "_*", asked.size),
         _ => text(alloc, asked.size),
     };
     let text = text?;
@@ -89,15 +104,20 @@ pub fn made(alloc: Global, watch: &mut Stopwatch<'_>, asked: Asked<'_>) -> Resul
     Ok(Some(seen?))
 }
 
-/// Where the paragraph begins that is edited in a round, in bytes.
-fn edited_at(asked: Asked<'_>, round: usize) -> usize {
-    match (asked.shape, round % 2) {
+/// Where the edit of a round is made, in bytes.
+fn edited_at(asked: Asked<'_>, edit: Edit, round: usize) -> usize {
+    let begin = match (asked.shape, round % 2) {
+        ("list", _) => {
+            let item = (asked.size / 2).saturating_mul(ITEM.len());
+            return item.saturating_add(ITEM_LETTER);
+        }
         ("far", 0) => 0,
         ("far", _) => (asked.size / LINES)
             .saturating_sub(1)
             .saturating_mul(PARAGRAPH.len()),
         _ => middle(asked.size),
-    }
+    };
+    begin.saturating_add(edit.at)
 }
 
 /// In each round, makes an edit of a text and takes it back.
@@ -112,7 +132,7 @@ fn edited(
     let mut seen = 0usize;
     watch.start()?;
     for turn in 0..asked.rounds {
-        let at = edited_at(asked, turn).saturating_add(edit.at);
+        let at = edited_at(asked, edit, turn);
         seen = seen.saturating_add(round(alloc, &mut source, at, edit)?);
     }
     watch.stop()?;

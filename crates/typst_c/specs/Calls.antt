@@ -16,9 +16,17 @@ Changes same call None status new = (status ≡ 1) × (new ≡ None) × same
 Changes same call (Some old) status None = ⊥
 Changes same call (Some old) status (Some new) = call old new
 
+-- a call has an outcome, and the caller is told of it
+abbrev pub Told : {X : Type 0} → (Result X Refusal → Type 0) → (Result X Refusal → Type 0) → Type 0
+Told {X} IsToldOf HasOutcome = (outcome : Result X Refusal) × IsToldOf outcome × HasOutcome outcome
+
+-- the status says what the outcome is, and nothing else does
+abbrev pub IsStatus : {X : Type 0} → ℕ → Result X Refusal → Type 0
+IsStatus status outcome = status ≡ status_of outcome
+
 -- a call on a session has an outcome with this status
 abbrev pub HasOutcome : (Session → Result (Unit {0}) Refusal → Session → Type 0) → ℕ → Session → Session → Type 0
-HasOutcome call status old new = (outcome : Result (Unit {0}) Refusal) × (status ≡ status_of outcome) × call old outcome new
+HasOutcome call status old new = Told (IsStatus status) (λ outcome. call old outcome new)
 
 -- a call that returns only a status
 abbrev pub Does : (Session → Result (Unit {0}) Refusal → Session → Type 0) → Option Session → ℕ → Option Session → Type 0

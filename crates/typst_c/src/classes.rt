@@ -1,13 +1,13 @@
 //! The children of a node that are of a class.
 ghost use Rattle.std.specs.Prelude.{ℕ, ◌≡◌, Result};
-ghost use Rattle.typst_c.specs.Calls.{Reads};
+ghost use Rattle.typst_c.specs.Calls.{Reads, Told};
 ghost use Rattle.typst_c.specs.Lending.{IsSameHandle};
-ghost use Rattle.typst_c.specs.Told.{TellsNumber, is_from_end};
+ghost use Rattle.typst_c.specs.Told.{is_from_end, TellsValue};
 ghost use Rattle.typst_session.specs.Classes.{PicksChild};
 ghost use Rattle.typst_session.specs.declared.refusal.Refusal.{Refusal};
 
 use crate::handle::Handle;
-use crate::told::{NOT_MADE, tell_size};
+use crate::told::{NOT_MADE, tell};
 
 /// The index of a child of a class, counted from the first one (`from_end` is 0) or from the last one (any other
 /// number).
@@ -21,13 +21,12 @@ pub extern "C" fn typst_child_of_class(
     child: &mut usize,
 ) -> u32
     ensures kept { IsSameHandle handle.old handle.new }
-    ensures read { Reads (child.new ≡ child.old) (λ s. (outcome : Result ℕ Refusal)
-        × TellsNumber child.old child.new result outcome
-        × PicksChild path.now node_class index (is_from_end from_end) s outcome) handle.old.at.value result }
+    ensures read { Reads (child.new ≡ child.old) (λ s. Told (TellsValue child.old child.new result)
+        (PicksChild path.now node_class index (is_from_end from_end) s)) handle.old.at.value result }
 {
     let Some(session) = handle.read() else {
         return NOT_MADE;
     };
     let outcome = session.child_of_class(path, node_class, index, from_end != 0);
-    tell_size(outcome, child)
+    tell(outcome, child)
 }

@@ -1,6 +1,6 @@
 //! Comparing nodes that handles hold.
 ghost use Rattle.std.specs.Prelude.{◌≡◌, Bool, Result};
-ghost use Rattle.typst_c.specs.Calls.{Reads};
+ghost use Rattle.typst_c.specs.Calls.{Reads, Told};
 ghost use Rattle.typst_c.specs.Lending.{IsSameHandle};
 ghost use Rattle.typst_c.specs.Told.{TellsFlag};
 ghost use Rattle.typst_session.specs.Comparing.{Compares};
@@ -18,9 +18,8 @@ pub extern "C" fn typst_spanless_eq_within(
     equal: &mut u32,
 ) -> u32
     ensures kept { IsSameHandle handle.old handle.new }
-    ensures read { Reads (equal.new ≡ equal.old) (λ s. (outcome : Result Bool Refusal)
-        × TellsFlag equal.old equal.new result outcome
-        × Compares path.now s other_path.now s outcome) handle.old.at.value result }
+    ensures read { Reads (equal.new ≡ equal.old) (λ s. Told (TellsFlag equal.old equal.new result)
+        (Compares path.now s other_path.now s)) handle.old.at.value result }
 {
     let Some(session) = handle.read() else {
         return NOT_MADE;
@@ -41,9 +40,8 @@ pub extern "C" fn typst_spanless_eq(
     ensures kept { IsSameHandle handle.old handle.new }
     ensures other_kept { IsSameHandle other.old other.new }
     ensures read { Reads (equal.new ≡ equal.old) (λ s. Reads (equal.new ≡ equal.old)
-        (λ o. (outcome : Result Bool Refusal)
-        × TellsFlag equal.old equal.new result outcome
-        × Compares path.now s other_path.now o outcome) other.old.at.value result) handle.old.at.value result }
+        (λ o. Told (TellsFlag equal.old equal.new result)
+        (Compares path.now s other_path.now o)) other.old.at.value result) handle.old.at.value result }
 {
     let Some(session) = handle.read() else {
         return NOT_MADE;

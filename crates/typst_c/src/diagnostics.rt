@@ -1,6 +1,6 @@
 //! The errors, warnings and hints of the tree that a handle holds.
 ghost use Rattle.std.specs.Prelude.{◌≡◌, Result};
-ghost use Rattle.typst_c.specs.Calls.{Reads, status_of};
+ghost use Rattle.typst_c.specs.Calls.{IsStatus, Reads, status_of, Told};
 ghost use Rattle.typst_c.specs.Lending.{IsSameHandle};
 ghost use Rattle.typst_session.specs.Diagnostics.{ReadsDiagnostics};
 ghost use Rattle.typst_session.specs.declared.refusal.Refusal.{Refusal};
@@ -21,10 +21,10 @@ pub extern "C" fn typst_diagnostics(
 ) -> u32
     ensures kept { IsSameHandle handle.old handle.new }
     ensures read { Reads ((out.new ≡ out.old) × (texts.new ≡ texts.old) × (sizes.new ≡ sizes.old)) (λ s.
-        (outcome : Result (Unit {0}) Refusal)
-        × (result ≡ status_of outcome)
-        × ReadsDiagnostics s (record { list = out.old; texts = texts.old; sizes = sizes.old })
-        (record { list = out.new; texts = texts.new; sizes = sizes.new }) outcome) handle.old.at.value result }
+        Told (IsStatus result)
+        (ReadsDiagnostics s (record { list = out.old; texts = texts.old; sizes = sizes.old })
+        (record { list = out.new; texts = texts.new; sizes = sizes.new })))
+        handle.old.at.value result }
 {
     let Some(session) = handle.read() else {
         return NOT_MADE;

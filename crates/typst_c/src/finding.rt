@@ -1,9 +1,9 @@
 //! Finding nodes of the tree that a handle holds.
 ghost use Rattle.std.specs.Prelude.{◌≡◌, Result};
-ghost use Rattle.typst_c.specs.Calls.{Reads};
+ghost use Rattle.typst_c.specs.Calls.{Reads, Told};
 ghost use Rattle.typst_c.specs.Lending.{IsSameHandle};
 ghost use Rattle.typst_c.specs.Told.{TellsPlace};
-ghost use Rattle.typst_session.specs.Finding.{Finds, FindsByRange, FindsLeaf};
+ghost use Rattle.typst_session.specs.Finding.{Finds, FindsByCover, FindsByRange, FindsLeaf};
 ghost use Rattle.typst_session.specs.declared.finding.Found.{Found};
 ghost use Rattle.typst_session.specs.declared.refusal.Refusal.{Refusal};
 ghost use Rattle.typst_c.specs.Told.{side_of};
@@ -23,9 +23,9 @@ pub extern "C" fn typst_find(
     place: &mut Place,
 ) -> u32
     ensures kept { IsSameHandle handle.old handle.new }
-    ensures read { Reads ((path.new ≡ path.old) × (place.new ≡ place.old)) (λ s. (outcome : Result Found Refusal)
-        × TellsPlace path.old path.new place.old place.new result outcome
-        × Finds number s outcome) handle.old.at.value result }
+    ensures read { Reads ((path.new ≡ path.old) × (place.new ≡ place.old))
+        (λ s. Told (TellsPlace path.old path.new place.old place.new result)
+        (Finds number s)) handle.old.at.value result }
 {
     let Some(session) = handle.read() else {
         return NOT_MADE;
@@ -45,14 +45,36 @@ pub extern "C" fn typst_find_range(
     place: &mut Place,
 ) -> u32
     ensures kept { IsSameHandle handle.old handle.new }
-    ensures read { Reads ((path.new ≡ path.old) × (place.new ≡ place.old)) (λ s. (outcome : Result Found Refusal)
-        × TellsPlace path.old path.new place.old place.new result outcome
-        × FindsByRange from to s outcome) handle.old.at.value result }
+    ensures read { Reads ((path.new ≡ path.old) × (place.new ≡ place.old))
+        (λ s. Told (TellsPlace path.old path.new place.old place.new result)
+        (FindsByRange from to s)) handle.old.at.value result }
 {
     let Some(session) = handle.read() else {
         return NOT_MADE;
     };
     let outcome = session.find_range(alloc, from..to);
+    tell_place(outcome, path, place)
+}
+
+/// Finds the smallest node that covers a range of bytes, from `from` up to, not including, `to`.
+#[unsafe(no_mangle)]
+pub extern "C" fn typst_find_cover(
+    alloc: Global,
+    handle: &mut Handle,
+    from: usize,
+    to: usize,
+    path: &mut [usize],
+    place: &mut Place,
+) -> u32
+    ensures kept { IsSameHandle handle.old handle.new }
+    ensures read { Reads ((path.new ≡ path.old) × (place.new ≡ place.old))
+        (λ s. Told (TellsPlace path.old path.new place.old place.new result)
+        (FindsByCover from to s)) handle.old.at.value result }
+{
+    let Some(session) = handle.read() else {
+        return NOT_MADE;
+    };
+    let outcome = session.find_cover(alloc, from..to);
     tell_place(outcome, path, place)
 }
 
@@ -79,9 +101,9 @@ pub extern "C" fn typst_leaf_at(
     place: &mut Place,
 ) -> u32
     ensures kept { IsSameHandle handle.old handle.new }
-    ensures read { Reads ((path.new ≡ path.old) × (place.new ≡ place.old)) (λ s. (outcome : Result Found Refusal)
-        × TellsPlace path.old path.new place.old place.new result outcome
-        × FindsLeaf (side_of side) cursor s outcome) handle.old.at.value result }
+    ensures read { Reads ((path.new ≡ path.old) × (place.new ≡ place.old))
+        (λ s. Told (TellsPlace path.old path.new place.old place.new result)
+        (FindsLeaf (side_of side) cursor s)) handle.old.at.value result }
 {
     let Some(session) = handle.read() else {
         return NOT_MADE;

@@ -1,10 +1,17 @@
-//! Making and freeing what a handle holds.
-ghost use Rattle.std.specs.Prelude.{◌≡◌, ◌⊎◌, [], None, IsSomeAnd};
+//! Making, copying and freeing what a handle holds.
+ghost use Rattle.std.specs.Prelude.{◌≡◌, ◌⊎◌, [], None, IsSomeAnd, Result};
+ghost use Rattle.typst_c.specs.Calls.{Reads, Told};
+ghost use Rattle.typst_c.specs.Lending.{IsSameHandle};
+ghost use Rattle.typst_c.specs.Told.{TellsCopy};
 ghost use Rattle.typst_session.specs.Codes.{code_of};
+ghost use Rattle.typst_session.specs.Sessions.{Copies};
+ghost use Rattle.typst_session.specs.declared.refusal.Refusal.{Refusal as Why};
 ghost use Rattle.typst_session.specs.declared.refusal.Refusal.TheVariants.{Memory};
+ghost use Rattle.typst_session.specs.declared.session.Session.{Session as State};
 ghost use Rattle.typst_session.specs.declared.session.Held.TheVariants.{Nothing};
 
 use crate::handle::Handle;
+use crate::told::NOT_MADE;
 use std::alloc::Global;
 use typst_session::{Refusal, Session};
 
@@ -29,6 +36,31 @@ pub extern "C" fn typst_new(alloc: Global, handle: &mut Handle) -> u32
     match Box::new(alloc, Session::new(alloc)) {
         Ok(session) => {
             handle.put(session);
+            0
+        }
+        Err(_) => Refusal::Memory.code(),
+    }
+}
+
+/// Copies what one handle holds into another. What the other one held is freed.
+#[unsafe(no_mangle)]
+pub extern "C" fn typst_copy(alloc: Global, handle: &mut Handle, copy: &mut Handle) -> u32
+    ensures kept { IsSameHandle handle.old handle.new }
+    ensures read { Reads (copy.new.at.value ≡ copy.old.at.value)
+        (λ s. Told (TellsCopy copy.old.at.value copy.new.at.value result)
+        (Copies s)) handle.old.at.value result }
+{
+    let Some(session) = handle.read() else {
+        return NOT_MADE;
+    };
+    let made = match session.copy(alloc) {
+        Ok(made) => made,
+        Err(refusal) => return refusal.code(),
+    };
+    match Box::new(alloc, made) {
+        Ok(made) => {
+            copy.take(alloc);
+            copy.put(made);
             0
         }
         Err(_) => Refusal::Memory.code(),

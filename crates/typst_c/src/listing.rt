@@ -1,6 +1,7 @@
 //! Reading many nodes of the tree that a handle holds.
 ghost use Rattle.std.specs.Prelude.{◌≡◌, Result};
-ghost use Rattle.typst_c.specs.Calls.{Reads, status_of};
+ghost use Rattle.typst_c.specs.Told.{buffer};
+ghost use Rattle.typst_c.specs.Calls.{IsStatus, Reads, status_of, Told};
 ghost use Rattle.typst_c.specs.Lending.{IsSameHandle};
 ghost use Rattle.typst_node.specs.Preorder.{subtrees};
 ghost use Rattle.typst_node.specs.Tree.{trees};
@@ -21,10 +22,9 @@ pub extern "C" fn typst_children(
 ) -> u32
     ensures kept { IsSameHandle handle.old handle.new }
     ensures read { Reads ((out.new ≡ out.old) × (length.new.len ≡ length.old.len)) (λ s.
-        (outcome : Result (Unit {0}) Refusal)
-        × (result ≡ status_of outcome)
-        × ReadsInfos (λ t. trees t.children) path.now s (record { items = out.old; len = length.old.len })
-        (record { items = out.new; len = length.new.len }) outcome) handle.old.at.value result }
+        Told (IsStatus result)
+        (ReadsInfos (λ t. trees t.children) path.now s (buffer out.old length.old) (buffer out.new length.new)))
+        handle.old.at.value result }
 {
     let Some(session) = handle.read() else {
         return NOT_MADE;
@@ -43,10 +43,9 @@ pub extern "C" fn typst_preorder(
 ) -> u32
     ensures kept { IsSameHandle handle.old handle.new }
     ensures read { Reads ((out.new ≡ out.old) × (length.new.len ≡ length.old.len)) (λ s.
-        (outcome : Result (Unit {0}) Refusal)
-        × (result ≡ status_of outcome)
-        × ReadsInfos subtrees path.now s (record { items = out.old; len = length.old.len })
-        (record { items = out.new; len = length.new.len }) outcome) handle.old.at.value result }
+        Told (IsStatus result)
+        (ReadsInfos subtrees path.now s (buffer out.old length.old) (buffer out.new length.new)))
+        handle.old.at.value result }
 {
     let Some(session) = handle.read() else {
         return NOT_MADE;

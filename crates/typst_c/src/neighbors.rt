@@ -1,9 +1,9 @@
 //! Where the nodes are in the tree that a handle holds.
 ghost use Rattle.std.specs.Prelude.{ℕ, ◌≡◌, Result};
 ghost use Rattle.std.specs.declared.ops.Range.{Range as Interval};
-ghost use Rattle.typst_c.specs.Calls.{Reads};
+ghost use Rattle.typst_c.specs.Calls.{Reads, Told};
 ghost use Rattle.typst_c.specs.Lending.{IsSameHandle};
-ghost use Rattle.typst_c.specs.Told.{TellsPlace, TellsRange, neighbor_from};
+ghost use Rattle.typst_c.specs.Told.{IsByteRange, neighbor_from, Tells, TellsPlace};
 ghost use Rattle.typst_session.specs.Neighbors.{FindsNeighbor, ReadsRange};
 ghost use Rattle.typst_session.specs.declared.finding.Found.{Found};
 ghost use Rattle.typst_session.specs.declared.refusal.Refusal.{Refusal};
@@ -22,9 +22,8 @@ pub extern "C" fn typst_range_of(
     range: &mut ByteRange,
 ) -> u32
     ensures kept { IsSameHandle handle.old handle.new }
-    ensures read { Reads (range.new ≡ range.old) (λ s. (outcome : Result (Interval ℕ) Refusal)
-        × TellsRange range.old range.new result outcome
-        × ReadsRange path.now s outcome) handle.old.at.value result }
+    ensures read { Reads (range.new ≡ range.old) (λ s. Told (Tells IsByteRange range.old range.new result)
+        (ReadsRange path.now s)) handle.old.at.value result }
 {
     let Some(session) = handle.read() else {
         return NOT_MADE;
@@ -57,9 +56,9 @@ pub extern "C" fn typst_neighbor(
     place: &mut Place,
 ) -> u32
     ensures kept { IsSameHandle handle.old handle.new }
-    ensures read { Reads ((found.new ≡ found.old) × (place.new ≡ place.old)) (λ s. (outcome : Result Found Refusal)
-        × TellsPlace found.old found.new place.old place.new result outcome
-        × FindsNeighbor (neighbor_from which) path.now s outcome) handle.old.at.value result }
+    ensures read { Reads ((found.new ≡ found.old) × (place.new ≡ place.old))
+        (λ s. Told (TellsPlace found.old found.new place.old place.new result)
+        (FindsNeighbor (neighbor_from which) path.now s)) handle.old.at.value result }
 {
     let Some(session) = handle.read() else {
         return NOT_MADE;

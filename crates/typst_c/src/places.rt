@@ -1,15 +1,15 @@
 //! Lines and columns of the text of the document that a handle holds.
 ghost use Rattle.std.specs.Prelude.{ℕ, ◌≡◌, Result};
 ghost use Rattle.std.specs.declared.ops.Range.{Range as Interval};
-ghost use Rattle.typst_c.specs.Calls.{Reads, status_of};
+ghost use Rattle.typst_c.specs.Calls.{IsStatus, Reads, status_of, Told};
 ghost use Rattle.typst_c.specs.Lending.{IsSameHandle};
-ghost use Rattle.typst_c.specs.Told.{TellsLineColumn, TellsNumber, TellsRange, range_from, unit_of};
-ghost use Rattle.typst_session.specs.Places.{CountsLines, FindsByte, FindsLine, PlacesByte, WritesPart};
+ghost use Rattle.typst_c.specs.Told.{buffer, IsByteRange, range_from, Tells, TellsValue, unit_of};
+ghost use Rattle.typst_session.specs.Places.{CountsLines, FindsByte, FindsByteClamped, FindsByteOfOffset, FindsLine, FindsOffset, PlacesByte, WritesPart};
 ghost use Rattle.typst_session.specs.declared.places.LineColumn.{LineColumn as Place};
 ghost use Rattle.typst_session.specs.declared.refusal.Refusal.{Refusal};
 
 use crate::handle::Handle;
-use crate::told::{ByteRange, Length, NOT_MADE, status, tell_line_column, tell_range, tell_size};
+use crate::told::{ByteRange, Length, NOT_MADE, status, tell, tell_range};
 use typst_lines::ColumnUnit;
 use typst_session::LineColumn;
 
@@ -17,15 +17,14 @@ use typst_session::LineColumn;
 #[unsafe(no_mangle)]
 pub extern "C" fn typst_len_lines(handle: &mut Handle, count: &mut usize) -> u32
     ensures kept { IsSameHandle handle.old handle.new }
-    ensures read { Reads (count.new ≡ count.old) (λ s. (outcome : Result ℕ Refusal)
-        × TellsNumber count.old count.new result outcome
-        × CountsLines s outcome) handle.old.at.value result }
+    ensures read { Reads (count.new ≡ count.old) (λ s. Told (TellsValue count.old count.new result)
+        (CountsLines s)) handle.old.at.value result }
 {
     let Some(session) = handle.read() else {
         return NOT_MADE;
     };
     let outcome = session.len_lines();
-    tell_size(outcome, count)
+    tell(outcome, count)
 }
 
 /// The unit with a number: 0 is a byte, 1 a character, and any other number a unit of UTF-16.
@@ -48,15 +47,14 @@ pub extern "C" fn typst_byte_to_line_column(
     place: &mut LineColumn,
 ) -> u32
     ensures kept { IsSameHandle handle.old handle.new }
-    ensures read { Reads (place.new ≡ place.old) (λ s. (outcome : Result Place Refusal)
-        × TellsLineColumn place.old place.new result outcome
-        × PlacesByte (unit_of unit) byte s outcome) handle.old.at.value result }
+    ensures read { Reads (place.new ≡ place.old) (λ s. Told (TellsValue place.old place.new result)
+        (PlacesByte (unit_of unit) byte s)) handle.old.at.value result }
 {
     let Some(session) = handle.read() else {
         return NOT_MADE;
     };
     let outcome = session.byte_to_line_column(byte, unit_from(unit));
-    tell_line_column(outcome, place)
+    tell(outcome, place)
 }
 
 /// The bytes of a line of the document's text, with its line end.
@@ -67,9 +65,8 @@ pub extern "C" fn typst_line_to_range(
     range: &mut ByteRange,
 ) -> u32
     ensures kept { IsSameHandle handle.old handle.new }
-    ensures read { Reads (range.new ≡ range.old) (λ s. (outcome : Result (Interval ℕ) Refusal)
-        × TellsRange range.old range.new result outcome
-        × FindsLine line s outcome) handle.old.at.value result }
+    ensures read { Reads (range.new ≡ range.old) (λ s. Told (Tells IsByteRange range.old range.new result)
+        (FindsLine line s)) handle.old.at.value result }
 {
     let Some(session) = handle.read() else {
         return NOT_MADE;
@@ -89,9 +86,9 @@ pub extern "C" fn typst_text(
 ) -> u32
     ensures kept { IsSameHandle handle.old handle.new }
     ensures read { Reads ((out.new ≡ out.old) × (length.new.len ≡ length.old.len)) (λ s.
-        (outcome : Result (Unit {0}) Refusal) × (result ≡ status_of outcome)
-        × WritesPart (range_from from to) s (record { items = out.old; len = length.old.len })
-        (record { items = out.new; len = length.new.len }) outcome) handle.old.at.value result }
+        Told (IsStatus result)
+        (WritesPart (range_from from to) s (buffer out.old length.old) (buffer out.new length.new)))
+        handle.old.at.value result }
 {
     let Some(session) = handle.read() else {
         return NOT_MADE;
@@ -110,14 +107,72 @@ pub extern "C" fn typst_line_column_to_byte(
     byte: &mut usize,
 ) -> u32
     ensures kept { IsSameHandle handle.old handle.new }
-    ensures read { Reads (byte.new ≡ byte.old) (λ s. (outcome : Result ℕ Refusal)
-        × TellsNumber byte.old byte.new result outcome
-        × FindsByte (unit_of unit) line column s outcome) handle.old.at.value result }
+    ensures read { Reads (byte.new ≡ byte.old) (λ s. Told (TellsValue byte.old byte.new result)
+        (FindsByte (unit_of unit) line column s)) handle.old.at.value result }
 {
     let Some(session) = handle.read() else {
         return NOT_MADE;
     };
     let place = LineColumn { line, column };
     let outcome = session.line_column_to_byte(place, unit_from(unit));
-    tell_size(outcome, byte)
+    tell(outcome, byte)
+}
+
+/// The same with a column past the line's text taken as its end, before the line end.
+#[unsafe(no_mangle)]
+pub extern "C" fn typst_line_column_to_byte_clamped(
+    handle: &mut Handle,
+    line: usize,
+    column: usize,
+    unit: u32,
+    byte: &mut usize,
+) -> u32
+    ensures kept { IsSameHandle handle.old handle.new }
+    ensures read { Reads (byte.new ≡ byte.old) (λ s. Told (TellsValue byte.old byte.new result)
+        (FindsByteClamped (unit_of unit) line column s)) handle.old.at.value result }
+{
+    let Some(session) = handle.read() else {
+        return NOT_MADE;
+    };
+    let place = LineColumn { line, column };
+    let outcome = session.line_column_to_byte_clamped(place, unit_from(unit));
+    tell(outcome, byte)
+}
+
+/// How much of the document's text is before a byte, in a unit.
+#[unsafe(no_mangle)]
+pub extern "C" fn typst_byte_to_offset(
+    handle: &mut Handle,
+    byte: usize,
+    unit: u32,
+    offset: &mut usize,
+) -> u32
+    ensures kept { IsSameHandle handle.old handle.new }
+    ensures read { Reads (offset.new ≡ offset.old) (λ s. Told (TellsValue offset.old offset.new result)
+        (FindsOffset (unit_of unit) byte s)) handle.old.at.value result }
+{
+    let Some(session) = handle.read() else {
+        return NOT_MADE;
+    };
+    let outcome = session.byte_to_offset(byte, unit_from(unit));
+    tell(outcome, offset)
+}
+
+/// The byte that has so much of the document's text before it, in a unit.
+#[unsafe(no_mangle)]
+pub extern "C" fn typst_offset_to_byte(
+    handle: &mut Handle,
+    offset: usize,
+    unit: u32,
+    byte: &mut usize,
+) -> u32
+    ensures kept { IsSameHandle handle.old handle.new }
+    ensures read { Reads (byte.new ≡ byte.old) (λ s. Told (TellsValue byte.old byte.new result)
+        (FindsByteOfOffset (unit_of unit) offset s)) handle.old.at.value result }
+{
+    let Some(session) = handle.read() else {
+        return NOT_MADE;
+    };
+    let outcome = session.offset_to_byte(offset, unit_from(unit));
+    tell(outcome, byte)
 }

@@ -1,8 +1,8 @@
 //! Reading the tree that a handle holds.
 ghost use Rattle.std.specs.Prelude.{◌≡◌, Result};
-ghost use Rattle.typst_c.specs.Calls.{Reads, status_of};
+ghost use Rattle.typst_c.specs.Calls.{IsStatus, Reads, status_of, Told};
 ghost use Rattle.typst_c.specs.Lending.{IsSameHandle};
-ghost use Rattle.typst_c.specs.Told.{TellsInfo};
+ghost use Rattle.typst_c.specs.Told.{buffer, TellsValue};
 ghost use Rattle.typst_node.specs.Text.{text, own_text};
 ghost use Rattle.typst_session.specs.Reading.{ReadsInfo};
 ghost use Rattle.typst_session.specs.Texts.{WritesOf};
@@ -10,7 +10,7 @@ ghost use Rattle.typst_session.specs.declared.info.NodeInfo.{NodeInfo as Info};
 ghost use Rattle.typst_session.specs.declared.refusal.Refusal.{Refusal};
 
 use crate::handle::Handle;
-use crate::told::{Length, NOT_MADE, status, tell_info};
+use crate::told::{Length, NOT_MADE, status, tell};
 use std::alloc::Global;
 use typst_session::NodeInfo;
 
@@ -18,15 +18,14 @@ use typst_session::NodeInfo;
 #[unsafe(no_mangle)]
 pub extern "C" fn typst_node(handle: &mut Handle, path: &[usize], info: &mut NodeInfo) -> u32
     ensures kept { IsSameHandle handle.old handle.new }
-    ensures read { Reads (info.new ≡ info.old) (λ s. (outcome : Result Info Refusal)
-        × TellsInfo info.old info.new result outcome
-        × ReadsInfo path.now s outcome) handle.old.at.value result }
+    ensures read { Reads (info.new ≡ info.old) (λ s. Told (TellsValue info.old info.new result)
+        (ReadsInfo path.now s)) handle.old.at.value result }
 {
     let Some(session) = handle.read() else {
         return NOT_MADE;
     };
     let outcome = session.node(path);
-    tell_info(outcome, info)
+    tell(outcome, info)
 }
 
 /// Writes the text of the leaf or error at a path.
@@ -39,10 +38,9 @@ pub extern "C" fn typst_leaf_text(
 ) -> u32
     ensures kept { IsSameHandle handle.old handle.new }
     ensures read { Reads ((out.new ≡ out.old) × (length.new.len ≡ length.old.len)) (λ s.
-        (outcome : Result (Unit {0}) Refusal)
-        × (result ≡ status_of outcome)
-        × WritesOf (λ t. own_text t.label) path.now s (record { items = out.old; len = length.old.len })
-        (record { items = out.new; len = length.new.len }) outcome) handle.old.at.value result }
+        Told (IsStatus result)
+        (WritesOf (λ t. own_text t.label) path.now s (buffer out.old length.old) (buffer out.new length.new)))
+        handle.old.at.value result }
 {
     let Some(session) = handle.read() else {
         return NOT_MADE;
@@ -62,10 +60,8 @@ pub extern "C" fn typst_full_text(
 ) -> u32
     ensures kept { IsSameHandle handle.old handle.new }
     ensures read { Reads ((out.new ≡ out.old) × (length.new.len ≡ length.old.len)) (λ s.
-        (outcome : Result (Unit {0}) Refusal)
-        × (result ≡ status_of outcome)
-        × WritesOf text path.now s (record { items = out.old; len = length.old.len })
-        (record { items = out.new; len = length.new.len }) outcome) handle.old.at.value result }
+        Told (IsStatus result)
+        (WritesOf text path.now s (buffer out.old length.old) (buffer out.new length.new))) handle.old.at.value result }
 {
     let Some(session) = handle.read() else {
         return NOT_MADE;

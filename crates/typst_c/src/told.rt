@@ -2,13 +2,12 @@
 ghost use Rattle.std.specs.Prelude.{◌≡◌};
 ghost use Rattle.typst_session.specs.Texts.{Writes};
 ghost use Rattle.typst_c.specs.Calls.{status_of};
-ghost use Rattle.typst_c.specs.Told.{IsChange, IsTouched, IsUpdate, IsWindow, TellsChange, TellsClasses, TellsEdit, TellsFlag, TellsInfo, TellsLineColumn, TellsNumber, TellsPlace, TellsRange, TellsUpdate, TellsWindow};
+ghost use Rattle.typst_c.specs.Told.{IsByteRange, IsChange, IsEdit, IsTouched, IsUpdate, IsWindow, Tells, TellsFlag, TellsPlace};
 
 use std::ops::Range;
 use typst_node::Touched;
 use typst_session::finding::Found;
-use typst_session::kinds::KindClasses;
-use typst_session::{Change as TreeChange, LineColumn, NodeInfo, Refusal, TextChange};
+use typst_session::{Change as TreeChange, Refusal, TextChange};
 use typst_tree::Renumbered;
 
 /// The status of a handle that holds nothing.
@@ -34,6 +33,8 @@ pub struct Change {
     pub depth: usize,
     /// Which of its children were numbered anew.
     pub window: Window,
+    /// How many nodes that stay were numbered anew.
+    pub moved: usize,
     /// 1 if the root itself was changed, else 0.
     pub root: u32,
 }
@@ -88,65 +89,13 @@ pub(crate) fn status(outcome: Result<(), Refusal>) -> u32
     }
 }
 
-/// Tells an info.
-pub(crate) fn tell_info(outcome: Result<NodeInfo, Refusal>, told: &mut NodeInfo) -> u32
-    ensures { TellsInfo told.old told.new result outcome }
+/// Tells a value.
+pub(crate) fn tell<T: Drop>(outcome: Result<T, Refusal>, told: &mut T) -> u32
+    ensures { Tells (λ value now. now ≡ value) told.old told.new result outcome }
 {
     match outcome {
-        Ok(info) => {
-            *told = info;
-            0
-        }
-        Err(refusal) => refusal.code(),
-    }
-}
-
-/// Tells the number that a node has now.
-pub(crate) fn tell_node_number(outcome: Result<u64, Refusal>, told: &mut u64) -> u32
-    ensures { TellsNumber told.old told.new result outcome }
-{
-    match outcome {
-        Ok(number) => {
-            *told = number;
-            0
-        }
-        Err(refusal) => refusal.code(),
-    }
-}
-
-/// Tells the number of a kind.
-pub(crate) fn tell_number(outcome: Result<u32, Refusal>, told: &mut u32) -> u32
-    ensures { TellsNumber told.old told.new result outcome }
-{
-    match outcome {
-        Ok(number) => {
-            *told = number;
-            0
-        }
-        Err(refusal) => refusal.code(),
-    }
-}
-
-/// Tells a length, a count or a place in a text.
-pub(crate) fn tell_size(outcome: Result<usize, Refusal>, told: &mut usize) -> u32
-    ensures { TellsNumber told.old told.new result outcome }
-{
-    match outcome {
-        Ok(size) => {
-            *told = size;
-            0
-        }
-        Err(refusal) => refusal.code(),
-    }
-}
-
-/// Tells a line and a column.
-pub(crate) fn tell_line_column(outcome: Result<LineColumn, Refusal>, told: &mut LineColumn) -> u32
-    ensures { TellsLineColumn told.old told.new result outcome }
-{
-    match outcome {
-        Ok(place) => {
-            *told = place;
+        Ok(value) => {
+            *told = value;
             0
         }
         Err(refusal) => refusal.code(),
@@ -157,42 +106,24 @@ pub(crate) fn tell_line_column(outcome: Result<LineColumn, Refusal>, told: &mut 
 pub(crate) fn tell_flag(outcome: Result<bool, Refusal>, told: &mut u32) -> u32
     ensures { TellsFlag told.old told.new result outcome }
 {
-    match outcome {
-        Ok(flag) => {
-            *told = if flag { 1 } else { 0 };
-            0
-        }
-        Err(refusal) => refusal.code(),
-    }
+    tell(outcome.map(u32::from), told)
 }
 
-/// Tells classes.
-pub(crate) fn tell_classes(outcome: Result<KindClasses, Refusal>, told: &mut KindClasses) -> u32
-    ensures { TellsClasses told.old told.new result outcome }
+/// The range as C has it.
+fn byte_range(range: Range<usize>) -> ByteRange
+    ensures { IsByteRange range result }
 {
-    match outcome {
-        Ok(classes) => {
-            *told = classes;
-            0
-        }
-        Err(refusal) => refusal.code(),
+    ByteRange {
+        start: range.start,
+        end: range.end,
     }
 }
 
 /// Tells a range of bytes.
 pub(crate) fn tell_range(outcome: Result<Range<usize>, Refusal>, told: &mut ByteRange) -> u32
-    ensures { TellsRange told.old told.new result outcome }
+    ensures { Tells IsByteRange told.old told.new result outcome }
 {
-    match outcome {
-        Ok(range) => {
-            *told = ByteRange {
-                start: range.start,
-                end: range.end,
-            };
-            0
-        }
-        Err(refusal) => refusal.code(),
-    }
+    tell(outcome.map(byte_range), told)
 }
 
 /// The window of a replacement.
@@ -208,15 +139,9 @@ fn window_of(done: &Renumbered) -> Window
 
 /// Tells a window.
 pub(crate) fn tell_window(outcome: Result<Renumbered, Refusal>, told: &mut Window) -> u32
-    ensures { TellsWindow told.old told.new result outcome }
+    ensures { Tells IsWindow told.old told.new result outcome }
 {
-    match outcome {
-        Ok(done) => {
-            *told = window_of(&done);
-            0
-        }
-        Err(refusal) => refusal.code(),
-    }
+    tell(outcome.map(|done| window_of(&done)), told)
 }
 
 /// The window of an edit. If a leaf or an error went on, it is empty.
@@ -240,6 +165,7 @@ fn change_of(done: &TreeChange) -> Change
     Change {
         depth: done.depth,
         window: window_touched(&done.touched),
+        moved: done.moved,
         root: 0,
     }
 }
@@ -257,6 +183,7 @@ fn update_of(done: &Option<TreeChange>) -> Change
                 end: 0,
                 tried: 0,
             },
+            moved: 0,
             root: 1,
         },
     }
@@ -264,49 +191,38 @@ fn update_of(done: &Option<TreeChange>) -> Change
 
 /// Tells what an edit of the tree changed.
 pub(crate) fn tell_change(outcome: Result<TreeChange, Refusal>, told: &mut Change) -> u32
-    ensures { TellsChange told.old told.new result outcome }
+    ensures { Tells IsChange told.old told.new result outcome }
 {
-    match outcome {
-        Ok(done) => {
-            *told = change_of(&done);
-            0
-        }
-        Err(refusal) => refusal.code(),
-    }
+    tell(outcome.map(|done| change_of(&done)), told)
 }
 
 /// Tells what an update of the tree changed.
 pub(crate) fn tell_update(outcome: Result<Option<TreeChange>, Refusal>, told: &mut Change) -> u32
-    ensures { TellsUpdate told.old told.new result outcome }
+    ensures { Tells IsUpdate told.old told.new result outcome }
 {
-    match outcome {
-        Ok(done) => {
-            *told = update_of(&done);
-            0
-        }
-        Err(refusal) => refusal.code(),
+    tell(outcome.map(|done| update_of(&done)), told)
+}
+
+/// What an edit of a text did.
+fn edited_of(done: &TextChange) -> Edited
+    ensures { IsEdit done.now result }
+{
+    Edited {
+        start: done.reparsed.start,
+        end: done.reparsed.end,
+        change: change_of(&done.change),
     }
 }
 
 /// Tells what an edit of a text did.
 pub(crate) fn tell_edit(outcome: Result<TextChange, Refusal>, told: &mut Edited) -> u32
-    ensures { TellsEdit told.old told.new result outcome }
+    ensures { Tells IsEdit told.old told.new result outcome }
 {
-    match outcome {
-        Ok(done) => {
-            *told = Edited {
-                start: done.reparsed.start,
-                end: done.reparsed.end,
-                change: change_of(&done.change),
-            };
-            0
-        }
-        Err(refusal) => refusal.code(),
-    }
+    tell(outcome.map(|done| edited_of(&done)), told)
 }
 
 /// Writes a path into a buffer if it has room for it, and tells in any case how long it is.
-fn write_path(path: &[usize], out: &mut [usize], len: &mut usize) -> Result<(), Refusal>
+pub(crate) fn write_path(path: &[usize], out: &mut [usize], len: &mut usize) -> Result<(), Refusal>
     ensures { Writes path.now (record { items = out.old; len = len.old }) (record { items = out.new; len = len.new })
         result }
 {

@@ -1,7 +1,7 @@
 //! Numbering and editing the tree that a handle holds.
 ghost use Rattle.std.specs.Prelude.{◌≡◌, Result};
-ghost use Rattle.typst_c.specs.Calls.{Changes, Does};
-ghost use Rattle.typst_c.specs.Told.{TellsWindow};
+ghost use Rattle.typst_c.specs.Calls.{Changes, Does, Told};
+ghost use Rattle.typst_c.specs.Told.{IsWindow, Tells};
 ghost use Rattle.typst_node.specs.declared.node.replace.Renumbered.{Renumbered as Done};
 ghost use Rattle.typst_session.specs.Trees.{NumbersLast, Renumbers, Replaces, TakesTree};
 ghost use Rattle.typst_session.specs.declared.refusal.Refusal.{Refusal};
@@ -74,9 +74,8 @@ pub extern "C" fn typst_replace(
     count: usize,
     window: &mut Window,
 ) -> u32
-    ensures { Changes (window.new ≡ window.old) (λ s t. (outcome : Result Done Refusal)
-        × TellsWindow window.old window.new result outcome
-        × Replaces path.now from to count s outcome t) handle.old.at.value result handle.new.at.value }
+    ensures { Changes (window.new ≡ window.old) (λ s t. Told (Tells IsWindow window.old window.new result)
+        (λ outcome. Replaces path.now from to count s outcome t)) handle.old.at.value result handle.new.at.value }
 {
     let Some(mut session) = handle.take(alloc) else {
         return NOT_MADE;

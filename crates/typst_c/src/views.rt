@@ -1,6 +1,6 @@
 //! What the accessors of typed views answer of a node.
 ghost use Rattle.std.specs.Prelude.{◌≡◌, Result};
-ghost use Rattle.typst_c.specs.Calls.{Reads, status_of};
+ghost use Rattle.typst_c.specs.Calls.{IsStatus, Reads, status_of, Told};
 ghost use Rattle.typst_c.specs.Lending.{IsSameHandle};
 ghost use Rattle.typst_session.specs.Views.{ReadsView};
 ghost use Rattle.typst_session.specs.declared.refusal.Refusal.{Refusal};
@@ -22,10 +22,9 @@ pub extern "C" fn typst_view(
     answer: &mut ViewAnswer,
 ) -> u32
     ensures kept { IsSameHandle handle.old handle.new }
-    ensures read { Reads ((out.new ≡ out.old) × (answer.new ≡ answer.old)) (λ s. (outcome : Result (Unit {0}) Refusal)
-        × (result ≡ status_of outcome)
-        × ReadsView path.now (record { accessor = accessor; index = index }) s
-        (record { bytes = out.old; answer = answer.old }) (record { bytes = out.new; answer = answer.new }) outcome)
+    ensures read { Reads ((out.new ≡ out.old) × (answer.new ≡ answer.old)) (λ s. Told (IsStatus result)
+        (ReadsView path.now (record { accessor = accessor; index = index }) s
+        (record { bytes = out.old; answer = answer.old }) (record { bytes = out.new; answer = answer.new })))
         handle.old.at.value result }
 {
     let Some(session) = handle.read() else {

@@ -200,7 +200,7 @@ row_20 = record {
   call = None;
 }
 
--- the nodes of a block
+-- the nodes of a text
 abbrev pub document : Class → List Row
 document classes.Star = row_1 ∷ []
 document classes.Underscore = row_2 ∷ []

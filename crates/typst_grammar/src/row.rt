@@ -35,6 +35,8 @@ pub enum Newline {
     Go,
     /// It ends what is open: the token reads as the end.
     Stop,
+    /// A blank line does, and a single line feed does nothing.
+    Par,
 }
 
 /// A frame that opens.

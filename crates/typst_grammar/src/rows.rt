@@ -31,7 +31,7 @@ pub enum Class {
 /// Where in the syntax a frame is.
 #[derive(Clone, Copy, Debug, PartialEq, Eq, Hash)]
 pub enum State {
-    /// The nodes of a block.
+    /// The nodes of a text.
     Document,
     /// Strong content with its delimiters.
     Strong,

@@ -4,7 +4,7 @@ use crate::end::{End, Stop};
 use crate::lines::{self, Following};
 use crate::making::{self, Making};
 use crate::reading::Reading;
-use crate::reconciling::Reconciling;
+use crate::reconciling::{OfTree, Reconciling};
 use crate::requests::Requests;
 use crate::runs::Queue;
 use crate::scripts;
@@ -24,6 +24,7 @@ pub enum Call {
     HintAll,
     Replace(Replacing),
     Reconcile(Reconciling),
+    ReconcileTree(OfTree),
     Read(Reading),
     View(Viewing),
     Walk(Walk, Ground),
@@ -113,6 +114,11 @@ const CALLS: &[(&str, Call)] = &[
     ),
     ("update, a leaf", Call::Reconcile(Reconciling::Update)),
     ("update, anew", Call::Reconcile(Reconciling::Anew)),
+    (
+        "NumberedTree::reconcile",
+        Call::ReconcileTree(OfTree::Reconcile),
+    ),
+    ("NumberedTree::update", Call::ReconcileTree(OfTree::Update)),
     ("full_text", Call::Read(Reading::FullText)),
     (
         "errors_and_warnings",
@@ -172,6 +178,7 @@ impl Call {
             Call::HintAll => changing::hint_all(alloc, requests),
             Call::Replace(replacing) => replacing.run(alloc, requests),
             Call::Reconcile(reconciling) => reconciling.run(alloc, requests),
+            Call::ReconcileTree(of_tree) => of_tree.run(alloc, requests),
             Call::Read(reading) => reading.run(alloc, requests),
             Call::View(viewing) => viewing.run(alloc, requests),
             Call::Walk(walk, ground) => walk.run(ground.drawing(), alloc, requests),

@@ -4,6 +4,7 @@ use typst_base::MapperError;
 use typst_drawn::DrawingError;
 use typst_node::{InnerError, ReplaceError};
 use typst_source::SourceError;
+use typst_tree::EditError;
 
 /// How a call that was made ended.
 #[derive(Clone, Copy, Debug, PartialEq, Eq)]
@@ -138,6 +139,15 @@ impl From<ReplaceError> for Fault {
         match error {
             ReplaceError::Memory => Fault::Refused(Refusal::Memory),
             ReplaceError::Overflow | ReplaceError::Unnumberable => Fault::Other,
+        }
+    }
+}
+
+impl From<EditError> for Fault {
+    fn from(error: EditError) -> Fault {
+        match error {
+            EditError::Refused(error) => Fault::from(error),
+            EditError::NoNode { .. } | EditError::Leaf | EditError::Range { .. } => Fault::Other,
         }
     }
 }

@@ -5,6 +5,7 @@ use crate::trees::{NESTED, TEXTS};
 use std::alloc::Global;
 use typst_drawn::{drawn_all, numbered};
 use typst_node::{Moves, SyntaxNode};
+use typst_tree::NumberedTree;
 
 /// A call that puts other nodes in place of all children of a root.
 #[derive(Clone, Copy)]
@@ -19,6 +20,15 @@ pub enum Reconciling {
     Update,
     /// `update`: no node goes on.
     Anew,
+}
+
+/// A call of a numbered tree by which a leaf goes on, three levels down.
+#[derive(Clone, Copy)]
+pub enum OfTree {
+    /// `NumberedTree::reconcile`
+    Reconcile,
+    /// `NumberedTree::update`
+    Update,
 }
 
 /// `a*b_d_*`, below a root.
@@ -84,5 +94,52 @@ impl Reconciling {
             },
             _ => Ok(tree.reconcile_at(alloc, &[], 0..end, others)?.moves),
         }
+    }
+}
+
+/// A drawing as a numbered tree.
+fn numbered_tree(alloc: Global, drawing: &str) -> Result<NumberedTree, Stop> {
+    let root = numbered(alloc, drawing, 2..1 << 20)?;
+    NumberedTree::from_numbered(root).map_err(|_| Stop::Early)
+}
+
+impl OfTree {
+    /// Makes the call. Its answer must be that of the same call before.
+    pub fn run(self, alloc: Global, requests: Requests) -> Result<End, Stop> {
+        let kept = numbered_tree(alloc, NESTED)?;
+        let mut changed = kept.clone()?;
+        let told = self.make(alloc, &mut changed, drawn_all(alloc, self.drawing())?)?;
+        let mut tree = kept.clone()?;
+        let others = drawn_all(alloc, self.drawing())?;
+        requests.make(alloc)?;
+        Ok(match self.make(alloc, &mut tree, others) {
+            Ok(again) => End::answered(
+                again == told && tree.root() == changed.root() && tree.root() != kept.root(),
+            ),
+            Err(fault) => End::failed(fault, tree.root() == kept.root()),
+        })
+    }
+
+    /// What comes: the children of the root, or another root.
+    fn drawing(self) -> &'static str {
+        match self {
+            OfTree::Reconcile => LEAF,
+            OfTree::Update => WITH_ROOT,
+        }
+    }
+
+    /// Makes the change, and answers the moves.
+    fn make(
+        self,
+        alloc: Global,
+        tree: &mut NumberedTree,
+        mut others: Vec<SyntaxNode>,
+    ) -> Result<Moves, Fault> {
+        if let OfTree::Reconcile = self {
+            let end = tree.root().child_slice().len();
+            return Ok(tree.reconcile(alloc, &[], 0..end, others)?.moves);
+        }
+        let other = others.pop().ok_or(Fault::Other)?;
+        Ok(tree.update(alloc, other)?.moves)
     }
 }

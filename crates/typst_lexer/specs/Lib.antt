@@ -9,3 +9,5 @@ pub mod Laws
 pub mod HexValues
 pub mod FirstCodes
 pub mod Plain
+pub mod Runs
+pub mod FirstToken

@@ -15,15 +15,23 @@
 #![tactic(auto)]
 
 pub use blocks::{block_len, blocks_are_local};
+pub use head::{
+    FirstToken, first_token, first_tokens_are_local, first_tokens_are_looked_at,
+    first_tokens_are_within,
+};
 pub use lexer::{Lexer, tokens_make_up_texts};
+pub use mode::Mode;
+pub use state::Behind;
 pub use token::{Token, TokenKind};
 
 pub mod blocks;
 mod characters;
 mod first;
+pub mod head;
 pub mod lexer;
+pub mod mode;
 mod rules;
-mod state;
+pub mod state;
 mod steps;
 pub mod token;
 mod words;

@@ -45,7 +45,7 @@ pub enum Inside {
 }
 
 /// What is directly before a place, as far as the next token depends on it.
-#[derive(Clone, Copy, Debug, PartialEq, Eq)]
+#[derive(Clone, Copy, Debug, PartialEq, Eq, Hash)]
 pub enum Behind {
     /// The line's start.
     LineStart,

@@ -1,5 +1,5 @@
 -- Columns of a text that is UTF-8, by its characters.
-use Rattle.std.proofs.Common.{◌≡◌, ℕ, zero, suc, ◌+◌, ◌-◌, ◌/◌, ◌%◌, ◌<◌, ◌≤◌, Bool, true, false, cond, List, [], ◌∷◌, ◌++◌, length, get_or, drop, refl, ap, sym, ◌∙◌, subst, arith, ltb, sum_by, ⊎_elim, length-drop}
+use Rattle.std.proofs.Common.{◌≡◌, ℕ, zero, suc, ◌+◌, ◌-◌, ◌/◌, ◌%◌, ◌<◌, ◌≤◌, Bool, true, false, cond, List, [], ◌∷◌, ◌++◌, length, get_or, drop, take, refl, ap, sym, ◌∙◌, subst, arith, ltb, sum_by, ⊎_elim, length-drop}
 use lib.Utf8.{encode, encodes}
 use Rattle.std.specs.Char.{len_utf8}
 use Rattle.std.specs.Char.Escape.{encode_utf16}
@@ -10,11 +10,12 @@ use Rattle.std.proofs.lemmas.Bool.Decides.{nat_tests}
 use Rattle.std.proofs.lemmas.List.{get_or-drop}
 use Rattle.std.proofs.lemmas.List.Sums.{sum_by-append, sum_by-cons}
 use Rattle.std.proofs.lemmas.Str.{encodes-chars, IsUtf8-between, IsUtf8-drop, IsCharBoundary-start, IsCharBoundary-end, IsCharBoundary-after_ascii, IsCharBoundary-past_char}
-use Rattle.typst_lines.specs.Columns.{width, goes_on, line_before, column_of}
+use Rattle.typst_lines.specs.Columns.{width, goes_on, line_before, column_of, offset_in}
 use Rattle.typst_lines.specs.LineStarts.{begins_line, line_starts, line_start, line_of, line_range}
 use Rattle.typst_lines.specs.declared.column.ColumnUnit.TheVariants.{Byte, Character, Utf16}
 use Rattle.typst_lines.proofs.Numbered.{in_line}
 use Rattle.typst_lines.proofs.Places.{end_next, end_last, line_ordered}
+use Rattle.typst_lines.specs.declared.ends.LineEnds.{LineEnds}
 
 -- ---- the bytes of a character
 one_byte : (c : ℕ) → c < 128 → encode c ≡ c ∷ []
@@ -185,9 +186,9 @@ behind_char text at b len u less e lead long =
         let first : get_or (encode c ++ encodes cs) 0 0 ≡ b = ap (λ l. get_or l 0 0) e' ∙ get_or-drop at text 0 0 ∙ ap (λ i. get_or text i 0) z ∙ e in
         subst (λ n. IsCharBoundary text (at + n)) (long c (encodes cs) first) (IsCharBoundary-past_char text (encodes cs) at c le (IsUtf8-drop text at u here) (sym e'))
 
-start_boundary : (text : List ℕ) (at : ℕ) → IsUtf8 text → at ≤ length text → begins_line text at ≡ true → IsCharBoundary text at
+start_boundary : (ends : LineEnds) (text : List ℕ) (at : ℕ) → IsUtf8 text → at ≤ length text → begins_line ends text at ≡ true → IsCharBoundary text at
 unfolding begins_line
-start_boundary text at u le h = ⊎_elim
+start_boundary ends text at u le h = ⊎_elim
     (λ first. let z : 0 ≡ at = omega arith in subst (IsCharBoundary text) z (IsCharBoundary-start text u))
     (λ some. ⊎_elim
     (λ low.
@@ -221,44 +222,59 @@ passes : (p : ℕ → Bool) (a n k : ℕ) → k < length (filter p (range_with_l
 passes p a zero k l = absurd (omega arith)
 passes p a (suc n) k l = passes_more p (p a) a (filter p (range_with_len (a + 1) n)) k (λ e. e) (λ j l'. passes p (a + 1) n j l') l
 
-line_boundary : (text : List ℕ) (line : ℕ) → IsUtf8 text → line < length (line_starts text) → IsCharBoundary text (line_start text line)
-line_boundary text line u there =
-    let ordered = line_ordered text line there in
-    let inside : line_start text line ≤ length text = omega (arith, ordered.order, ordered.inside) in
-    start_boundary text (line_start text line) u inside (passes (begins_line text) 0 (length text + 1 - 0) line there)
+line_boundary : (ends : LineEnds) (text : List ℕ) (line : ℕ) → IsUtf8 text → line < length (line_starts ends text) → IsCharBoundary text (line_start ends text line)
+line_boundary ends text line u there =
+    let ordered = line_ordered ends text line there in
+    let inside : line_start ends text line ≤ length text = omega (arith, ordered.order, ordered.inside) in
+    start_boundary ends text (line_start ends text line) u inside (passes (begins_line ends text) 0 (length text + 1 - 0) line there)
 
 -- and ends with one
-pub record IsWhole (text : List ℕ) (line : ℕ) : Type 0 where
-  pub order : line_start text line ≤ (line_range text line).end
-  pub front : IsCharBoundary text (line_start text line)
-  pub back : IsCharBoundary text (line_range text line).end
+pub record IsWhole (ends : LineEnds) (text : List ℕ) (line : ℕ) : Type 0 where
+  pub order : line_start ends text line ≤ (line_range ends text line).end
+  pub front : IsCharBoundary text (line_start ends text line)
+  pub back : IsCharBoundary text (line_range ends text line).end
 
-pub whole_line : (text : List ℕ) (line : ℕ) → IsUtf8 text → line < length (line_starts text) → IsWhole text line
-whole_line text line u there = record {
-  order = (line_ordered text line there).order;
-  front = line_boundary text line u there;
+pub whole_line : (ends : LineEnds) (text : List ℕ) (line : ℕ) → IsUtf8 text → line < length (line_starts ends text) → IsWhole ends text line
+whole_line ends text line u there = record {
+  order = (line_ordered ends text line there).order;
+  front = line_boundary ends text line u there;
   back = ⊎_elim
-      (λ more. subst (IsCharBoundary text) (sym (end_next text line more)) (line_boundary text (line + 1) u more))
-      (λ none. subst (IsCharBoundary text) (sym (end_last text line none)) (IsCharBoundary-end text))
-      (cases_lt (line + 1) (length (line_starts text)));
+      (λ more. subst (IsCharBoundary text) (sym (end_next ends text line more)) (line_boundary ends text (line + 1) u more))
+      (λ none. subst (IsCharBoundary text) (sym (end_last ends text line none)) (IsCharBoundary-end text))
+      (cases_lt (line + 1) (length (line_starts ends text)));
 }
 
-before_is_utf8 : (text : List ℕ) (at : ℕ) → IsUtf8 text → IsCharBoundary text at → IsUtf8 (line_before text at)
-before_is_utf8 text at u h =
-    let line = in_line text at h.0 in
-    IsUtf8-between text (line_start text (line_of text at)) at u line.before (line_boundary text (line_of text at) u line.inside) h
+before_is_utf8 : (ends : LineEnds) (text : List ℕ) (at : ℕ) → IsUtf8 text → IsCharBoundary text at → IsUtf8 (line_before ends text at)
+before_is_utf8 ends text at u h =
+    let line = in_line ends text at h.0 in
+    IsUtf8-between text (line_start ends text (line_of ends text at)) at u line.before (line_boundary ends text (line_of ends text at) u line.inside) h
 
-pub column_characters : (text : List ℕ) (at : ℕ) → IsUtf8 text → IsCharBoundary text at → column_of Character text at ≡ length (chars (line_before text at))
-column_characters text at u h =
-    ap (sum_by (width Character)) (sym (encodes-chars (line_before text at) (before_is_utf8 text at u h))) ∙ characters_of (chars (line_before text at))
+pub column_characters : (ends : LineEnds) (text : List ℕ) (at : ℕ) → IsUtf8 text → IsCharBoundary text at → column_of ends Character text at ≡ length (chars (line_before ends text at))
+column_characters ends text at u h =
+    ap (sum_by (width Character)) (sym (encodes-chars (line_before ends text at) (before_is_utf8 ends text at u h))) ∙ characters_of (chars (line_before ends text at))
 
-pub column_units : (text : List ℕ) (at : ℕ) → IsUtf8 text → IsCharBoundary text at → column_of Utf16 text at ≡ sum_by (λ c. length (encode_utf16 c)) (chars (line_before text at))
-column_units text at u h =
-    ap (sum_by (width Utf16)) (sym (encodes-chars (line_before text at) (before_is_utf8 text at u h))) ∙ units_of (chars (line_before text at))
+pub column_units : (ends : LineEnds) (text : List ℕ) (at : ℕ) → IsUtf8 text → IsCharBoundary text at → column_of ends Utf16 text at ≡ sum_by (λ c. length (encode_utf16 c)) (chars (line_before ends text at))
+column_units ends text at u h =
+    ap (sum_by (width Utf16)) (sym (encodes-chars (line_before ends text at) (before_is_utf8 ends text at u h))) ∙ units_of (chars (line_before ends text at))
+
+-- the same of all that is before a place
+first_is_utf8 : (text : List ℕ) (at : ℕ) → IsUtf8 text → IsCharBoundary text at → IsUtf8 (take at text)
+first_is_utf8 text at u h =
+    let low : 0 ≤ at = omega arith in
+    let all : at - 0 ≡ at = omega arith in
+    subst (λ (n : ℕ). IsUtf8 (take n text)) all (IsUtf8-between text 0 at u low (IsCharBoundary-start text u) h)
+
+pub offset_characters : (text : List ℕ) (at : ℕ) → IsUtf8 text → IsCharBoundary text at → offset_in Character text at ≡ length (chars (take at text))
+offset_characters text at u h =
+    ap (sum_by (width Character)) (sym (encodes-chars (take at text) (first_is_utf8 text at u h))) ∙ characters_of (chars (take at text))
+
+pub offset_units : (text : List ℕ) (at : ℕ) → IsUtf8 text → IsCharBoundary text at → offset_in Utf16 text at ≡ sum_by (λ c. length (encode_utf16 c)) (chars (take at text))
+offset_units text at u h =
+    ap (sum_by (width Utf16)) (sym (encodes-chars (take at text) (first_is_utf8 text at u h))) ∙ units_of (chars (take at text))
 
 bytes_of : (bs : List ℕ) → sum_by (width Byte) bs ≡ length bs
 bytes_of [] = refl
 bytes_of (b ∷ bs) = omega (arith, sum_by-cons (width Byte) b bs, bytes_of bs)
 
-pub column_bytes : (text : List ℕ) (at : ℕ) → column_of Byte text at ≡ length (line_before text at)
-column_bytes text at = bytes_of (line_before text at)
+pub column_bytes : (ends : LineEnds) (text : List ℕ) (at : ℕ) → column_of ends Byte text at ≡ length (line_before ends text at)
+column_bytes ends text at = bytes_of (line_before ends text at)

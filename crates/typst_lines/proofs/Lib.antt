@@ -9,3 +9,5 @@ pub mod LinesOf
 pub mod Characters
 pub mod OnlyLines
 pub mod Seamed
+pub mod LastEnd
+pub mod Clamping

@@ -13,6 +13,7 @@ use Rattle.typst_lines.specs.Seamed.{seamed}
 use Rattle.typst_lines.proofs.Picked.{picked, picked-halves, picked_within}
 use Rattle.typst_lines.proofs.Pieces.{InThree, kept_at, moved_at, moved_from}
 use Rattle.typst_lines.proofs.Seams.{kept as kept_pieces, movable, all_moved}
+use Rattle.typst_lines.specs.declared.ends.LineEnds.{LineEnds}
 
 -- ---- the places, one by one
 module _ (seam end : ℕ) (kept : List ℕ) (inside : seam ≤ length kept) where
@@ -163,34 +164,34 @@ reseamed kept new seam at end seam_in at_in len before between behind within =
     (cases_lt k seam)))
 
 -- where the places are the beginnings of lines
-pub settled : (text kept new : List ℕ) (seam at end : ℕ) → seamed seam end kept ≡ line_starts text → end ≡ length text → seam ≤ length kept
-    → (((k : ℕ) → k < length kept → get_or (seamed seam end kept) k 0 ≤ end) → seamed at end new ≡ seamed seam end kept) → seamed at end new ≡ line_starts text
-settled text kept new seam at end e is_end inside clause =
+pub settled : (ends : LineEnds) (text kept new : List ℕ) (seam at end : ℕ) → seamed seam end kept ≡ line_starts ends text → end ≡ length text → seam ≤ length kept
+    → (((k : ℕ) → k < length kept → get_or (seamed seam end kept) k 0 ≤ end) → seamed at end new ≡ seamed seam end kept) → seamed at end new ≡ line_starts ends text
+settled ends text kept new seam at end e is_end inside clause =
     clause (λ k less.
     let low : 0 ≤ length text + 1 = omega arith in
-    let here : k < length (line_starts text) = omega (arith, length-seamed seam end kept inside, ap (λ l. length l) e) in
-    let w = picked_within (begins_line text) 0 (length text + 1) k 0 low here in
+    let here : k < length (line_starts ends text) = omega (arith, length-seamed seam end kept inside, ap (λ l. length l) e) in
+    let w = picked_within (begins_line ends text) 0 (length text + 1) k 0 low here in
     omega (arith, ap (λ l. get_or l k 0) e, w.1)) ∙ e
 
 -- and the first ones are those before an edit
 pub record Settled (parts : Parts) (gone new : List ℕ) (first last end : ℕ) : Type 0 where
-  pub starts : seamed first end new ≡ line_starts (whole_with parts gone)
+  pub starts : seamed first end new ≡ line_starts parts.ends (whole_with parts gone)
   pub end_is : end ≡ length (whole_with parts gone)
   pub window : first ≤ last
   pub inside : last ≤ length new
 
-pub before_edit : (parts : Parts) (gone : List ℕ) (view : LineTable) (kept now new : List ℕ) (seam first last end room : ℕ)
-    → record { starts = seamed seam end kept; len = end; room = room } ≡ view → AreLines view (whole_with parts gone) → seam ≤ length kept → now ≡ kept
+pub before_edit : (parts : Parts) (gone : List ℕ) (view : LineTable) (kept now new : List ℕ) (seam first last end room : ℕ) (ends : LineEnds)
+    → record { starts = seamed seam end kept; len = end; room = room; ends = ends } ≡ view → AreLines view (whole_with parts gone) → parts.ends ≡ view.ends → seam ≤ length kept → now ≡ kept
     → first ≡ length (starts_before parts gone) → last ≡ length (starts_through parts gone) → length new ≡ length now
     → (((k : ℕ) → k < length now → get_or (seamed seam end now) k 0 ≤ end) → seamed first end new ≡ seamed seam end now) → Settled parts gone new first last end
-before_edit parts gone view kept now new seam first last end room is are inside same ef el len clause =
-    let e = ap (seamed seam end) same ∙ ap (λ (v : LineTable). v.starts) is ∙ are.starts in
+before_edit parts gone view kept now new seam first last end room ends is are alike inside same ef el len clause =
+    let e = ap (seamed seam end) same ∙ ap (λ (v : LineTable). v.starts) is ∙ are.starts ∙ ap (λ x. line_starts x (whole_with parts gone)) (sym alike) in
     let end_is = ap (λ (v : LineTable). v.len) is ∙ are.len in
     let within : seam ≤ length now = omega (arith, ap (λ l. length l) same) in
     let k = kept_pieces parts gone (seamed seam end now) first last e ef el in
     let long = length-seamed seam end now within in
     record {
-      starts = settled (whole_with parts gone) now new seam first end e end_is within clause;
+      starts = settled parts.ends (whole_with parts gone) now new seam first end e end_is within clause;
       end_is = end_is;
       window = k.window;
       inside = omega (arith, k.inside);
@@ -212,7 +213,7 @@ module _ (parts : Parts) (gone : List ℕ) (end : ℕ) (is_end : end ≡ length 
       let two = get_or-map (moved_place (length gone) (length parts.middle.now)) (starts_behind parts gone) i 0 0 l2 in
       omega (arith, at, m.behind, m.later, one, two))
 
-  module _ (kept made written : List ℕ) (first last many : ℕ) (e : seamed first end kept ≡ line_starts (whole_with parts gone)) (inside : first ≤ length kept)
+  module _ (kept made written : List ℕ) (first last many : ℕ) (e : seamed first end kept ≡ line_starts parts.ends (whole_with parts gone)) (inside : first ≤ length kept)
       (ef : first ≡ length (starts_before parts gone)) (el : last ≡ length (starts_through parts gone)) (em : many ≡ length (starts_about parts)) where
     pieces : InThree (starts_before parts gone) (starts_behind parts gone) (seamed first end kept) first last
     pieces = kept_pieces parts gone (seamed first end kept) first last e ef el
@@ -232,7 +233,7 @@ module _ (parts : Parts) (gone : List ℕ) (end : ℕ) (is_end : end ≡ length 
 
     pub rejoined : take first made ≡ take first kept → drop (first + many) made ≡ drop last kept
         → written ≡ take first made ++ (starts_about parts ++ drop (first + length (starts_about parts)) made)
-        → seamed (first + many) (end - length gone + length parts.middle.now) written ≡ line_starts (whole parts)
+        → seamed (first + many) (end - length gone + length parts.middle.now) written ≡ line_starts parts.ends (whole parts)
     rejoined mf mb ew =
         let far = drop last kept in
         let long : length (starts_before parts gone ++ starts_about parts) ≡ first + many = omega (arith, length-append (starts_before parts gone) (starts_about parts)) in

@@ -1,3 +1,4 @@
+pub mod Clamped
 pub mod Columns
 pub mod LineEnds
 pub mod LineStarts

@@ -18,18 +18,18 @@ near parts = min (length parts.back.now) 2
 -- the places where lines begin that depend on the middle part
 abbrev pub starts_about : Parts → List ℕ
 starts_about parts =
-    starts_between (whole parts) (length parts.front.now) (length parts.front.now + length parts.middle.now + near parts + 1)
+    starts_between parts.ends (whole parts) (length parts.front.now) (length parts.front.now + length parts.middle.now + near parts + 1)
 
 -- the places where lines began before the middle part that is gone
 abbrev pub starts_before : Parts → List ℕ → List ℕ
-starts_before parts gone = starts_between (whole_with parts gone) 0 (length parts.front.now)
+starts_before parts gone = starts_between parts.ends (whole_with parts gone) 0 (length parts.front.now)
 
 -- the places where lines began, up to the last one that depended on the middle part that is gone
 abbrev pub starts_through : Parts → List ℕ → List ℕ
 starts_through parts gone =
-    starts_between (whole_with parts gone) 0 (length parts.front.now + length gone + near parts + 1)
+    starts_between parts.ends (whole_with parts gone) 0 (length parts.front.now + length gone + near parts + 1)
 
 -- the places where lines began after those
 abbrev pub starts_behind : Parts → List ℕ → List ℕ
 starts_behind parts gone =
-    starts_between (whole_with parts gone) (length parts.front.now + length gone + near parts + 1) (length (whole_with parts gone) + 1)
+    starts_between parts.ends (whole_with parts gone) (length parts.front.now + length gone + near parts + 1) (length (whole_with parts gone) + 1)

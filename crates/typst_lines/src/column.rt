@@ -1,7 +1,8 @@
 //! What columns count.
 ghost use Rattle.std.specs.Prelude.{ℕ, ◌≡◌, ◌≢◌, ◌≤◌, ◌<◌, ◌^◌, length, take, slice_range, sum_by, MatchOption};
+ghost use Rattle.std.specs.Option.{SomeIff};
 ghost use Rattle.std.specs.Str.{IsCharBoundary};
-ghost use Rattle.typst_lines.specs.Columns.{width, goes_on};
+ghost use Rattle.typst_lines.specs.Columns.{width, goes_on, offset_in};
 
 /// What columns count.
 #[derive(Clone, Copy, PartialEq, Eq, Debug, Drop)]
@@ -70,6 +71,28 @@ impl ColumnUnit {
             left -= width;
         }
         if left == 0 { Some(bytes.len()) } else { None }
+    }
+
+    /// How much of a text is before a byte, in the unit. It is `None` if the byte is past the end of the text or within a
+    /// character. It walks over the text up to the byte.
+    pub fn byte_to_offset(self, text: &str, byte: usize) -> Option<usize>
+        ensures { SomeIff result (IsCharBoundary text.now byte) (offset_in self text.now byte) }
+    {
+        if text.is_char_boundary(byte) {
+            Some(self.columns(&text.as_bytes()[..byte]))
+        } else {
+            None
+        }
+    }
+
+    /// The byte before which a text has so much, in the unit. It is `None` if the text is shorter, or if the offset is
+    /// within a character. It walks over the text up to the byte.
+    pub fn offset_to_byte(self, text: &str, offset: usize) -> Option<usize>
+        ensures { MatchOption result
+            ((at : ℕ) → IsCharBoundary text.now at → offset_in self text.now at ≢ offset)
+            (λ at. IsCharBoundary text.now at × (offset_in self text.now at ≡ offset)) }
+    {
+        self.place_at(text.as_bytes(), offset)
     }
 
     /// The same in the bytes from one place up to another.

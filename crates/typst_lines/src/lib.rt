@@ -14,10 +14,12 @@
 #![tactic(auto)]
 
 pub use column::ColumnUnit;
+pub use ends::LineEnds;
 pub use laws::{columns_count_characters, lines_join};
 pub use lines::Lines;
 
 mod column;
+mod ends;
 mod laws;
 mod lines;
 mod parts;

@@ -1,7 +1,11 @@
 //! Where lines begin in a text of three parts.
-ghost use Rattle.std.specs.Prelude.{◌≡◌, ◌+◌, ◌-◌, ◌^◌, ◌≤◌, ◌<◌, ◌++◌, take, drop, length, slice_index};
+ghost use Rattle.std.specs.Prelude.{◌≡◌, ◌≢◌, ◌+◌, ◌-◌, ◌^◌, ◌≤◌, ◌<◌, ◌++◌, take, drop, length, slice_index};
 ghost use Rattle.typst_lines.specs.LineStarts.{begins_line, starts_between};
+ghost use Rattle.typst_lines.specs.LineEnds.{newline_before};
+ghost use Rattle.typst_lines.specs.declared.ends.LineEnds.TheVariants.{Unicode};
 ghost use Rattle.typst_lines.specs.Parts.{whole, near, starts_about};
+
+use crate::ends::LineEnds;
 
 /// How many bytes after a place may belong to a line end that began before it: one less than the widest line end has.
 const REACH: usize = 2;
@@ -15,16 +19,20 @@ pub(crate) struct Parts<'a> {
     pub(crate) middle: &'a [u8],
     /// The text after the middle.
     pub(crate) back: &'a [u8],
+    /// What ends its lines.
+    pub(crate) ends: LineEnds,
 }
 
 /// A text in one part.
-pub(crate) fn whole_text(text: &[u8]) -> Parts<'_>
-    ensures { whole result ≡ text.now }
+pub(crate) fn whole_text(text: &[u8], ends: LineEnds) -> Parts<'_>
+    ensures text { whole result ≡ text.now }
+    ensures ends { result.ends ≡ ends }
 {
     Parts {
         front: text,
         middle: &[],
         back: &[],
+        ends,
     }
 }
 
@@ -49,17 +57,14 @@ impl Parts<'_> {
         }
     }
 
-    /// Whether a line begins at a place.
-    pub(crate) fn begins_line(&self, at: usize) -> bool
-        ensures { result ≡ begins_line (whole self.now) at }
+    /// Whether a character of Unicode's line ends, but no carriage return, ends before a place. The last byte before the
+    /// place is `last`.
+    fn ends_by_unicode(&self, at: usize, last: u8) -> bool
+        requires some { 1 ≤ at }
+        requires last { last ≡ slice_index (whole self.now) (at - 1) }
+        requires other { last ≢ 13 }
+        ensures { result ≡ newline_before Unicode (whole self.now) at }
     {
-        if at == 0 {
-            return true;
-        }
-        let last = self.byte(at - 1);
-        if last == b'\r' {
-            return self.byte(at) != b'\n';
-        }
         if last == 0x85 {
             return at >= 2 && self.byte(at - 2) == 0xC2;
         }
@@ -69,9 +74,26 @@ impl Parts<'_> {
         last >= 10 && last <= 12
     }
 
+    /// Whether a line begins at a place.
+    pub(crate) fn begins_line(&self, at: usize) -> bool
+        ensures { result ≡ begins_line self.now.ends (whole self.now) at }
+    {
+        if at == 0 {
+            return true;
+        }
+        let last = self.byte(at - 1);
+        if last == b'\r' {
+            return self.byte(at) != b'\n';
+        }
+        match self.ends {
+            LineEnds::Unicode => self.ends_by_unicode(at, last),
+            LineEnds::Editor => last == b'\n',
+        }
+    }
+
     /// How many lines begin between two places.
     fn count_starts(&self, from: usize, to: usize) -> usize
-        ensures { result ≡ length (starts_between (whole self.now) from to) }
+        ensures { result ≡ length (starts_between self.now.ends (whole self.now) from to) }
     {
         (from..to).filter(|at| self.begins_line(*at)).count()
     }
@@ -79,10 +101,10 @@ impl Parts<'_> {
     /// Writes where the lines between two places begin, over the numbers from `first` on.
     fn write_starts(&self, from: usize, to: usize, starts: &mut [usize], first: usize)
         requires window { from ≤ to }
-        requires room { first + length (starts_between (whole self.now) from to) ≤ length starts.old }
+        requires room { first + length (starts_between self.now.ends (whole self.now) from to) ≤ length starts.old }
         ensures { starts.new ≡ take first starts.old
-            ++ (starts_between (whole self.now) from to
-            ++ drop (first + length (starts_between (whole self.now) from to)) starts.old) }
+            ++ (starts_between self.now.ends (whole self.now) from to
+            ++ drop (first + length (starts_between self.now.ends (whole self.now) from to)) starts.old) }
     {
         let mut count = first;
         for at in from..to {

@@ -1,6 +1,7 @@
 -- Which children cover a range.
 use Rattle.std.proofs.Common.{◌≡◌, ℕ, suc, zero, ◌+◌, ◌-◌, ◌<◌, ◌≤◌, inl, inr, List, [], ◌∷◌, length, take, Option, None, Some, sym, ◌∙◌, ap, subst, arith, append_assoc}
 use Rattle.std.specs.Prelude.{slice_get, IsSomeAnd}
+use Rattle.std.proofs.lemmas.List.{append-nil}
 use Rattle.std.proofs.lemmas.Bool.{cases_lt, cases_order}
 use Rattle.std.proofs.lemmas.Option.{slice_get_within}
 use Rattle.typst_node.specs.Tree.{Tree, trees}
@@ -9,7 +10,7 @@ use Rattle.typst_node.specs.Preorder.{if_some, at}
 use Rattle.typst_node.proofs.Trees.{length-text_of_all-cons}
 use Rattle.typst_linked.specs.Place.{Place, subtree, below, child_place}
 use Rattle.typst_linked.specs.Part.{begin_at, IsFirstEnding, EndsBefore, HasNoOwnText}
-use Rattle.typst_linked.specs.Ranges.{begin_of, HasRange, Covers, IsFirstCover, IsRangePath, FindsRange}
+use Rattle.typst_linked.specs.Ranges.{begin_of, HasRange, Covers, IsFirstCover, IsRangePath, FindsRange, IsCoverPath, IsCoverBelow}
 use Rattle.typst_linked.specs.declared.floor.Part.{Part}
 use Rattle.typst_node.proofs.PathSteps.{at-append, at-push}
 use Rattle.typst_node.proofs.Offsets.{offset-push, text_of_all-more}
@@ -109,6 +110,29 @@ range_none start end p out none = nowhere
     nowhere : (path : List ℕ) → IsRangePath start end p path → ⊥
     nowhere [] path = out path
     nowhere (j ∷ q) path = none j path.1.0
+
+-- the same of the smallest one that covers
+pub cover_here : (start end : ℕ) (p : Place) → Covers start end p → ((i : ℕ) → Covers start end (child_place p i) → ⊥) → IsCoverBelow start end p p
+cover_here start end p here none = record {
+  smallest = (here, none);
+  path = [];
+  leads = ap (λ (q : List ℕ). record { root = p.root; path = q }) (sym (append-nil p.path));
+  steps = (here, none);
+}
+
+pub cover_step : (start end : ℕ) (p child : Place) (i : ℕ) (r : Place) → child ≡ child_place p i → IsFirstCover start end p i → IsCoverBelow start end child r → IsCoverBelow start end p r
+cover_step start end p child i r e first found = record {
+  smallest = found.smallest;
+  path = i ∷ found.path;
+  leads = found.leads ∙ ap (λ (b : Place). below b found.path) e ∙ (λ x. record { root = p.root; path = append_assoc p.path (i ∷ []) found.path x });
+  steps = (first, subst (λ (b : Place). IsCoverPath start end b found.path) e found.steps);
+}
+
+pub covers_is : (start end : ℕ) (p : Place) (t : Tree) → subtree p ≡ Some t → Covers start end p → (begin_of p ≤ start) × (end ≤ begin_of p + length (text t))
+covers_is start end p t h k = subst (λ (o : Option Tree). IsSomeAnd o (λ u. (begin_of p ≤ start) × (end ≤ begin_of p + length (text u)))) h k
+
+pub is_covers : (start end : ℕ) (p : Place) (t : Tree) → subtree p ≡ Some t → begin_of p ≤ start → end ≤ begin_of p + length (text t) → Covers start end p
+is_covers start end p t h low high = subst (λ (o : Option Tree). IsSomeAnd o (λ u. (begin_of p ≤ start) × (end ≤ begin_of p + length (text u)))) (sym h) (low, high)
 
 pub range_there : (start end : ℕ) (p : Place) (t : Tree) → subtree p ≡ Some t → HasRange start end p → (begin_of p ≡ start) × (begin_of p + length (text t) ≡ end)
 range_there start end p t h k = subst (λ (o : Option Tree). IsSomeAnd o (λ u. (begin_of p ≡ start) × (begin_of p + length (text u) ≡ end))) h k

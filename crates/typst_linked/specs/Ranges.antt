@@ -30,3 +30,24 @@ abbrev pub FindsRange : ℕ → ℕ → Place → Option Place → Type 0
 FindsRange start end place answer = MatchOption answer
     ((path : List ℕ) → ¬ (IsRangePath start end place path))
     (λ found. (path : List ℕ) × (found ≡ below place path) × IsRangePath start end place path)
+
+-- The node's range covers this range, and no child's range does.
+abbrev pub IsSmallestCover : ℕ → ℕ → Place → Type 0
+IsSmallestCover start end place = Covers start end place × ((i : ℕ) → ¬ (Covers start end (child_place place i)))
+
+-- On this path from a place, each step goes to the first child whose range covers the wanted range. The node at its end
+-- has no such child.
+abbrev pub IsCoverPath : ℕ → ℕ → Place → List ℕ → Type 0
+IsCoverPath start end place [] = IsSmallestCover start end place
+IsCoverPath start end place (i ∷ path) = IsFirstCover start end place i × IsCoverPath start end (child_place place i) path
+
+-- the place is that of a smallest node whose range covers the range, and such a path leads to it
+pub record IsCoverBelow (start end : ℕ) (place found : Place) : Type 0 where
+  pub smallest : IsSmallestCover start end found
+  pub path : List ℕ
+  pub leads : found ≡ below place path
+  pub steps : IsCoverPath start end place path
+
+-- the answer to a search for the smallest node whose range covers a range: its place, or none if that of this node doesn't
+abbrev pub FindsCover : ℕ → ℕ → Place → Option Place → Type 0
+FindsCover start end place answer = MatchOption answer (¬ (Covers start end place)) (IsCoverBelow start end place)

@@ -6,7 +6,7 @@ ghost use Rattle.typst_node.specs.Tree.{Tree, trees};
 ghost use Rattle.typst_node.specs.Text.{text};
 ghost use Rattle.typst_linked.specs.Place.{Place, subtree};
 ghost use Rattle.typst_linked.specs.Part.{AnswersFirstCover};
-ghost use Rattle.typst_linked.specs.Ranges.{begin_of, FindsRange};
+ghost use Rattle.typst_linked.specs.Ranges.{begin_of, Covers, FindsCover, FindsRange, IsCoverBelow};
 ghost use Rattle.typst_linked.specs.Own.{FindsOwn};
 ghost use Rattle.typst_linked.specs.Finds.{FindsNumber, FindsSpan, HasNumberBelow, AreLooksFor, AreLooksForSpan, HasLookEachStep, HasLookEachStepFor};
 
@@ -107,6 +107,45 @@ impl<'a> LinkedNode<'a> {
         ensures { IfOk result (FindsRange start end self.now) }
     {
         self.clone()?.into_range(alloc, start, end)
+    }
+
+    /// The smallest node in this subtree whose range covers this one, in bytes from the beginning of the root's text. The
+    /// search goes down as [`LinkedNode::find_range`] does, as far as there is a child whose range covers the wanted
+    /// range. If this node's own range doesn't cover it, the answer is `None`.
+    pub fn find_cover(
+        &self,
+        alloc: Global,
+        start: usize,
+        end: usize,
+    ) -> Result<Option<Self>, AllocError>
+        ensures { IfOk result (FindsCover start end self.now) }
+    {
+        if self.covers(start, end) {
+            Ok(Some(self.clone()?.into_cover(alloc, start, end)?))
+        } else {
+            Ok(None)
+        }
+    }
+
+    /// Whether the node's range of bytes covers this range.
+    fn covers(&self, start: usize, end: usize) -> bool
+        ensures { IsTrue result ↔ Covers start end self.now }
+    {
+        let _node = self.get();
+        let range = self.range();
+        range.start <= start && end <= range.end
+    }
+
+    /// The same as `find_cover`, for an owned node whose range covers the wanted range.
+    fn into_cover(self, alloc: Global, start: usize, end: usize) -> Result<Self, AllocError>
+        requires { Covers start end self }
+        ensures { IfOk result (IsCoverBelow start end self.entry) }
+    {
+        let Some(part) = first_cover(self.get(), self.range(), start, end) else {
+            return Ok(self);
+        };
+        let child = self.into_part(alloc, part)?;
+        child.into_cover(alloc, start, end)
     }
 
     /// Whether the node's range of bytes is exactly this range.

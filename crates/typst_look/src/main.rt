@@ -21,12 +21,12 @@
 //! 0 Text.get "Hi"
 //! ```
 //!
-//! The library crate `typst_script` has the lines that build trees, `typst_looker` the other lines, `typst_answers` what is answered.
+//! The library crate `typst_script` has the lines that build trees, and `typst_answers` has the other lines and what is answered.
 #![tactic(auto)]
 
 use std::process::ExitCode;
 use std::{env, fs, io};
-use typst_looker::Looker;
+use typst_answers::Looker;
 use typst_script::input::MOST_BYTES;
 use typst_script::{Fault, script};
 

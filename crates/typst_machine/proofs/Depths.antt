@@ -21,7 +21,7 @@ use Rattle.typst_machine.specs.Last.{last_of, last_was}
 use Rattle.typst_machine.specs.Raw.{some_leaf, line_trees, lines, open_len, close_at, lang_len, head_len, tail_at, trimmed_behind, trimmed, block_parts, parts, closed_parts}
 use Rattle.typst_machine.specs.Rows.{Table, row_for}
 use Rattle.typst_machine.specs.Stack.{Stack, start}
-use Rattle.typst_machine.specs.Steps.{after_row, eaten, has_line_feed, is_done, is_too_deep, is_white, looked, looks, opened, refused, step, steps, taken, trees_of}
+use Rattle.typst_machine.specs.Steps.{after_row, eaten, has_line_feed, is_blank_line, is_done, is_too_deep, is_white, looked, looks, opened, refused, step, taken}
 use Rattle.typst_machine.specs.TokenNodes.{node_of_kind, node_of}
 use Rattle.typst_machine.specs.declared.stack.Frame.{Frame}
 use Rattle.typst_node.specs.Converted.{as_error}
@@ -74,24 +74,7 @@ kind_within tokens.Ref bs = ((tt, tt), tt)
 kind_within tokens.UnclosedRaw bs = (tt, tt)
 kind_within tokens.InvalidEscape bs = (tt, tt)
 kind_within tokens.UnclosedLabel bs = (tt, tt)
-kind_within tokens.Parbreak bs = (tt, tt)
-kind_within tokens.Space bs = (tt, tt)
-kind_within tokens.LineComment bs = (tt, tt)
-kind_within tokens.BlockComment bs = (tt, tt)
-kind_within tokens.Escape bs = (tt, tt)
-kind_within tokens.Linebreak bs = (tt, tt)
-kind_within tokens.Link bs = (tt, tt)
-kind_within tokens.Label bs = (tt, tt)
-kind_within tokens.Shorthand bs = (tt, tt)
-kind_within tokens.SmartQuote bs = (tt, tt)
-kind_within tokens.Hash bs = (tt, tt)
-kind_within tokens.Ident bs = (tt, tt)
-kind_within tokens.Star bs = (tt, tt)
-kind_within tokens.Underscore bs = (tt, tt)
-kind_within tokens.HeadingMarker bs = (tt, tt)
-kind_within tokens.ListMarker bs = (tt, tt)
-kind_within tokens.EnumMarker bs = (tt, tt)
-kind_within tokens.Text bs = (tt, tt)
+kind_within kind bs = (tt, tt)
 
 later : (n k : ℕ) (ts : List Tree) → AreWithin n ts → AreWithin n (drop k ts)
 later n zero ts h = h
@@ -130,7 +113,7 @@ behind_all n [] us h = h
 behind_all n (t ∷ ts) us h = behind_all n ts us h
 
 -- the greatest number of levels that one of some frames counts
-abbrev highest : List Frame → Frame → ℕ
+abbrev pub highest : List Frame → Frame → ℕ
 highest [] top = top.levels
 highest (f ∷ fs) top = max f.levels (highest fs top)
 
@@ -151,7 +134,7 @@ highest_ended [] f top = omega arith
 highest_ended (g ∷ fs) f top = omega (arith, highest_ended fs f top)
 
 -- the trees from the start of each frame on are within the levels that it and those in it count
-abbrev Fit : List Frame → Frame → List Tree → Type 0
+abbrev pub Fit : List Frame → Frame → List Tree → Type 0
 Fit [] top ts = AreWithin top.levels (drop top.start ts)
 Fit (f ∷ fs) top ts = AreWithin (max f.levels (highest fs top)) (drop f.start ts) × Fit fs top ts
 
@@ -185,11 +168,11 @@ fit_ended (g ∷ fs) f top ts h = (
 
 -- what holds of the stack: no tree has more levels than the bound, frames count their levels, white space before the next
 -- token is leaves, and the innermost frame counts those of a token
-record IsTall (most : ℕ) (s : Stack) : Type 0 where
-  all : AreWithin most s.nodes
-  fit : Fit s.below s.top s.nodes
-  white : AreWithin 2 (drop s.body s.nodes)
-  two : 2 ≤ s.top.levels
+pub record IsTall (most : ℕ) (s : Stack) : Type 0 where
+  pub all : AreWithin most s.nodes
+  pub fit : Fit s.below s.top s.nodes
+  pub white : AreWithin 2 (drop s.body s.nodes)
+  pub two : 2 ≤ s.top.levels
 
 abbrev two_more : (n : ℕ) (t : Tree) → 2 ≤ n → AreWithin (suc (suc zero)) (t ∷ []) → AreWithin n (t ∷ [])
 two_more n t two h = weaken (suc (suc zero)) n (forest (t ∷ [])) two h
@@ -215,8 +198,8 @@ led_within n f ts t own within =
       | false ↦ more n f.start ts (t ∷ []) own within
     ]
 
-whitened_tall : (most : ℕ) (t : Tree) (line : Bool) (s : Stack) → 2 ≤ most → AreWithin (suc (suc zero)) (t ∷ []) → IsTall most s → IsTall most (whitened t line s)
-whitened_tall most t line s two within h =
+whitened_tall : (most : ℕ) (t : Tree) (line blank : Bool) (s : Stack) → 2 ≤ most → AreWithin (suc (suc zero)) (t ∷ []) → IsTall most s → IsTall most (whitened t line blank s)
+whitened_tall most t line blank s two within h =
     let new : Frame = led (length s.nodes) s.top in
     let same : new.levels ≡ s.top.levels = led_levels (length s.nodes) s.top in
     record {
@@ -376,7 +359,7 @@ row_tall t r next s two h =
     opened_tall t.most_levels r.call (acts t.most_levels r.after v)
     (acts_tall t.most_levels r.after v two (taken_tall t.most_levels r.takes next u two (acts_tall t.most_levels r.before s two h)))
 
-looked_tall : (t : Table) (o : Option Row) (next : Option Piece) (s : Stack) → 2 ≤ t.most_levels → IsTall t.most_levels s → IsTall t.most_levels (looked t o next s)
+pub looked_tall : (t : Table) (o : Option Row) (next : Option Piece) (s : Stack) → 2 ≤ t.most_levels → IsTall t.most_levels s → IsTall t.most_levels (looked t o next s)
 looked_tall t None next s two h = refused_tall t.most_levels messages.Unexpected next s two h
 looked_tall t (Some r) next s two h =
     elim (is_too_deep r.call s) as (λ b. IsTall t.most_levels (cond b (refused messages.TooDeep next s) (after_row t r next s))) [
@@ -384,7 +367,7 @@ looked_tall t (Some r) next s two h =
       | false ↦ row_tall t r next s two h
     ]
 
-looks_tall : (n : ℕ) (t : Table) (next : Option Piece) (s : Stack) → 2 ≤ t.most_levels → IsTall t.most_levels s → IsTall t.most_levels (looks n t next s)
+pub looks_tall : (n : ℕ) (t : Table) (next : Option Piece) (s : Stack) → 2 ≤ t.most_levels → IsTall t.most_levels s → IsTall t.most_levels (looks n t next s)
 looks_tall zero t next s two h = refused_tall t.most_levels messages.Unexpected next s two h
 looks_tall (suc n) t next s two h =
     let u : Stack = looked t (row_for t next s) next s in
@@ -394,19 +377,12 @@ looks_tall (suc n) t next s two h =
       | false ↦ looks_tall n t next u two once
     ]
 
-step_tall : (t : Table) (p : Piece) (s : Stack) → 2 ≤ t.most_levels → IsTall t.most_levels s → IsTall t.most_levels (step t p s)
+pub step_tall : (t : Table) (p : Piece) (s : Stack) → 2 ≤ t.most_levels → IsTall t.most_levels s → IsTall t.most_levels (step t p s)
 step_tall t p s two h =
-    elim (is_white p.kind) as (λ b. IsTall t.most_levels (cond b (whitened (node_of p) (s.line || has_line_feed p.bytes) s) (looks t.most_looks t (Some p) s))) [
-      | true ↦ whitened_tall t.most_levels (node_of p) (s.line || has_line_feed p.bytes) s two (kind_within p.kind p.bytes) h
+    elim (is_white p.kind) as (λ b. IsTall t.most_levels (cond b (whitened (node_of p) (s.line || has_line_feed p.bytes) (s.blank || is_blank_line p.kind) s) (looks t.most_looks t (Some p) s))) [
+      | true ↦ whitened_tall t.most_levels (node_of p) (s.line || has_line_feed p.bytes) (s.blank || is_blank_line p.kind) s two (kind_within p.kind p.bytes) h
       | false ↦ looks_tall t.most_looks t (Some p) s two h
     ]
 
-steps_tall : (t : Table) (ps : List Piece) (s : Stack) → 2 ≤ t.most_levels → IsTall t.most_levels s → IsTall t.most_levels (steps t ps s)
-steps_tall t [] s two h = h
-steps_tall t (p ∷ ps) s two h = steps_tall t ps (step t p s) two (step_tall t p s two h)
-
--- the trees of tokens have no more levels than the table allows
-pub trees_within : (t : Table) (ps : List Piece) → 2 ≤ t.most_levels → AreWithin t.most_levels (trees_of t ps)
-trees_within t ps two =
-    let first : IsTall t.most_levels (start t.most_deep) = record { all = tt; fit = tt; white = tt; two = omega arith } in
-    (looks_tall t.most_looks t None (steps t ps (start t.most_deep)) two (steps_tall t ps (start t.most_deep) two first)).all
+pub start_tall : (most deep : ℕ) → IsTall most (start deep)
+start_tall most deep = record { all = tt; fit = tt; white = tt; two = omega arith }

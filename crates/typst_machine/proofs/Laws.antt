@@ -1,5 +1,5 @@
 -- What each step of the machine keeps: the text, whatever the table says.
-use Rattle.std.proofs.Common.{◌≡◌, ℕ, zero, suc, ◌||◌, nat_lt, Bool, true, false, cond, List, [], ◌∷◌, ◌++◌, take, drop, Option, Some, None, refl, sym, ap, subst, ◌∙◌, append_assoc, take-append-drop, arith}
+use Rattle.std.proofs.Common.{◌≡◌, ℕ, zero, suc, ◌||◌, nat_lt, Bool, true, false, cond, List, [], ◌∷◌, ◌++◌, take, drop, Option, Some, None, refl, sym, ap, subst, ◌∙◌, take-append-drop, arith}
 use Rattle.std.proofs.lemmas.List.{append-nil}
 use Rattle.typst_base.specs.declared.kind.SyntaxKind.{SyntaxKind}
 use Rattle.typst_grammar.specs.Messages.{message_text}
@@ -9,12 +9,12 @@ use Rattle.typst_grammar.specs.declared.message.Message.TheVariants.{TooDeep, To
 use Rattle.typst_grammar.specs.declared.row.Action.{Action}
 use Rattle.typst_grammar.specs.declared.row.Action.TheVariants.{Goto, Return, Wrap, Flush, Unclosed}
 use Rattle.typst_grammar.specs.declared.row.Call.{Call}
-use Rattle.typst_lexer.specs.Tokens.{Piece, joined as joined_bytes}
+use Rattle.typst_lexer.specs.Tokens.{Piece}
 use Rattle.typst_machine.specs.Actions.{act, acts, as_unclosed, expected, is_error_kind, joined, own_nodes, returned_by, whitened, wrapped}
 use Rattle.typst_machine.specs.Last.{last_of}
 use Rattle.typst_machine.specs.Rows.{Table, row_for}
-use Rattle.typst_machine.specs.Stack.{Stack, start}
-use Rattle.typst_machine.specs.Steps.{after_row, eaten, finished, has_line_feed, is_done, is_too_deep, is_white, looked, looks, opened, refused, step, steps, taken, trees_of}
+use Rattle.typst_machine.specs.Stack.{Stack}
+use Rattle.typst_machine.specs.Steps.{after_row, eaten, finished, has_line_feed, is_blank_line, is_done, is_too_deep, is_white, looked, looks, opened, refused, step, taken}
 use Rattle.typst_machine.specs.TokenNodes.{node_of}
 use Rattle.typst_machine.specs.declared.stack.Frame.{Frame}
 use Rattle.typst_machine.proofs.RawTexts.{kind_text}
@@ -135,7 +135,7 @@ looked_gains t (Some r) next s done = by (is_too_deep r.call s) done
     by true is = refused_gains TooDeep next s
     by false is = row_gains t r next s is
 
-looked_same : (t : Table) (o : Option Row) (next : Option Piece) (s : Stack) → is_done o s ≡ false → Same s.nodes (looked t o next s).nodes
+pub looked_same : (t : Table) (o : Option Row) (next : Option Piece) (s : Stack) → is_done o s ≡ false → Same s.nodes (looked t o next s).nodes
 looked_same t None next s done = cc
 looked_same t (Some r) next s done = by (is_too_deep r.call s) done
   where
@@ -170,26 +170,10 @@ look_fits n t next s = by (is_done (row_for t next s) s)
 -- every token adds its bytes to the text
 pub step_gains : (t : Table) (p : Piece) (s : Stack) → Gains p.bytes s.nodes (step t p s).nodes
 step_gains t p s =
-    elim (is_white p.kind) as (λ b. Gains p.bytes s.nodes (cond b (whitened (node_of p) (s.line || has_line_feed p.bytes) s) (looks t.most_looks t (Some p) s)).nodes) [
+    elim (is_white p.kind) as (λ b. Gains p.bytes s.nodes (cond b (whitened (node_of p) (s.line || has_line_feed p.bytes) (s.blank || is_blank_line p.kind) s) (looks t.most_looks t (Some p) s)).nodes) [
       | true ↦ push_gains s.nodes (node_of p) p.bytes (kind_text p.kind p.bytes)
       | false ↦ looks_gain t.most_looks t (Some p) s
     ]
 
-pub steps_gain : (t : Table) (ps : List Piece) (s : Stack) → Gains (joined_bytes ps) s.nodes (steps t ps s).nodes
-steps_gain t [] s = none_gained s.nodes
-steps_gain t (p ∷ ps) s =
-    let first : Gains p.bytes s.nodes (step t p s).nodes = step_gains t p s in
-    let rest : Gains (joined_bytes ps) (step t p s).nodes (steps t ps (step t p s)).nodes = steps_gain t ps (step t p s) in
-    record {
-      text = rest.text ∙ ap (λ r. r ++ joined_bytes ps) first.text ∙ append_assoc (text_of_all s.nodes) p.bytes (joined_bytes ps);
-      nodes = omega (arith, first.nodes, rest.nodes);
-    }
-
 pub finished_gains : (t : Table) (s : Stack) → Gains [] s.nodes (finished t s).nodes
 finished_gains t s = looks_gain t.most_looks t None s
-
--- the trees of tokens have all of their text
-pub trees_text : (t : Table) (ps : List Piece) → text_of_all (trees_of t ps) ≡ joined_bytes ps
-trees_text t ps =
-    let u : Stack = steps t ps (start t.most_deep) in
-    (finished_gains t u).text ∙ append-nil (text_of_all u.nodes) ∙ (steps_gain t ps (start t.most_deep)).text

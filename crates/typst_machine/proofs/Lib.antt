@@ -1,6 +1,8 @@
 pub mod Boundaries
 pub mod Classes
+pub mod Closing
 pub mod Depths
+pub mod FirstBlocks
 pub mod Laws
 pub mod Lines
 pub mod Links

@@ -17,8 +17,8 @@ use Rattle.typst_machine.specs.Actions.{act, acts, as_unclosed, changed_at, expe
 use Rattle.typst_machine.specs.Last.{last_of}
 use Rattle.typst_machine.specs.Raw.{some_leaf, line_trees, lines, open_len, close_at, lang_len, head_len, tail_at, trimmed_behind, trimmed, block_parts, parts, closed_parts, raw_tree}
 use Rattle.typst_machine.specs.Rows.{Table, row_for}
-use Rattle.typst_machine.specs.Stack.{Stack, start}
-use Rattle.typst_machine.specs.Steps.{after_row, eaten, has_line_feed, is_done, is_too_deep, is_white, looked, looks, opened, refused, step, steps, taken, trees_of}
+use Rattle.typst_machine.specs.Stack.{Stack}
+use Rattle.typst_machine.specs.Steps.{after_row, eaten, has_line_feed, is_blank_line, is_done, is_too_deep, is_white, looked, looks, opened, refused, step, taken}
 use Rattle.typst_machine.specs.TokenNodes.{node_of_kind, node_of}
 use Rattle.typst_machine.specs.declared.stack.Frame.{Frame}
 use Rattle.typst_node.specs.Converted.{as_error}
@@ -30,7 +30,7 @@ use Rattle.typst_node.specs.Text.{text}
 use Rattle.typst_node.specs.Tree.{Tree, forest, leaf_tree, inner_tree}
 use Rattle.typst_node.proofs.Plain.{forest_plain}
 
-abbrev ArePlain : List Tree → Type 0
+abbrev pub ArePlain : List Tree → Type 0
 ArePlain ts = AllByRecursion (λ (t : Tree). plain t ≡ t) ts
 
 join : (ts us : List Tree) → ArePlain ts → ArePlain us → ArePlain (ts ++ us)
@@ -47,7 +47,7 @@ behind zero ts p = p
 behind (suc n) [] p = tt
 behind (suc n) (t ∷ ts) p = behind n ts p.1
 
-all_plain : (ts : List Tree) → ArePlain ts → map plain ts ≡ ts
+pub all_plain : (ts : List Tree) → ArePlain ts → map plain ts ≡ ts
 all_plain [] g = refl
 all_plain (t ∷ ts) g = λ i. g.0 i ∷ all_plain ts g.1 i
 
@@ -87,24 +87,7 @@ kind_plain tokens.Ref bs = refl
 kind_plain tokens.UnclosedRaw bs = refl
 kind_plain tokens.InvalidEscape bs = refl
 kind_plain tokens.UnclosedLabel bs = refl
-kind_plain tokens.Parbreak bs = refl
-kind_plain tokens.Space bs = refl
-kind_plain tokens.LineComment bs = refl
-kind_plain tokens.BlockComment bs = refl
-kind_plain tokens.Escape bs = refl
-kind_plain tokens.Linebreak bs = refl
-kind_plain tokens.Link bs = refl
-kind_plain tokens.Label bs = refl
-kind_plain tokens.Shorthand bs = refl
-kind_plain tokens.SmartQuote bs = refl
-kind_plain tokens.Hash bs = refl
-kind_plain tokens.Ident bs = refl
-kind_plain tokens.Star bs = refl
-kind_plain tokens.Underscore bs = refl
-kind_plain tokens.HeadingMarker bs = refl
-kind_plain tokens.ListMarker bs = refl
-kind_plain tokens.EnumMarker bs = refl
-kind_plain tokens.Text bs = refl
+kind_plain kind bs = refl
 
 push_plain : (t : Tree) (ts : List Tree) → plain t ≡ t → ArePlain ts → ArePlain (ts ++ t ∷ [])
 push_plain t ts is g = join ts (t ∷ []) g (is, tt)
@@ -183,7 +166,7 @@ row_plain t r next s g =
     let v : Stack = taken r.takes next u in
     opened_plain r.call (acts t.most_levels r.after v) (acts_plain t.most_levels r.after v (taken_plain r.takes next u (acts_plain t.most_levels r.before s g)))
 
-looked_plain : (t : Table) (o : Option Row) (next : Option Piece) (s : Stack) → ArePlain s.nodes → ArePlain (looked t o next s).nodes
+pub looked_plain : (t : Table) (o : Option Row) (next : Option Piece) (s : Stack) → ArePlain s.nodes → ArePlain (looked t o next s).nodes
 looked_plain t None next s g = refused_plain messages.Unexpected next s g
 looked_plain t (Some r) next s g =
     elim (is_too_deep r.call s) as (λ b. ArePlain (cond b (refused messages.TooDeep next s) (after_row t r next s)).nodes) [
@@ -191,7 +174,7 @@ looked_plain t (Some r) next s g =
       | false ↦ row_plain t r next s g
     ]
 
-looks_plain : (n : ℕ) (t : Table) (next : Option Piece) (s : Stack) → ArePlain s.nodes → ArePlain (looks n t next s).nodes
+pub looks_plain : (n : ℕ) (t : Table) (next : Option Piece) (s : Stack) → ArePlain s.nodes → ArePlain (looks n t next s).nodes
 looks_plain zero t next s g = refused_plain messages.Unexpected next s g
 looks_plain (suc n) t next s g =
     let u : Stack = looked t (row_for t next s) next s in
@@ -201,17 +184,9 @@ looks_plain (suc n) t next s g =
       | false ↦ looks_plain n t next u once
     ]
 
-step_plain : (t : Table) (p : Piece) (s : Stack) → ArePlain s.nodes → ArePlain (step t p s).nodes
+pub step_plain : (t : Table) (p : Piece) (s : Stack) → ArePlain s.nodes → ArePlain (step t p s).nodes
 step_plain t p s g =
-    elim (is_white p.kind) as (λ b. ArePlain (cond b (whitened (node_of p) (s.line || has_line_feed p.bytes) s) (looks t.most_looks t (Some p) s)).nodes) [
+    elim (is_white p.kind) as (λ b. ArePlain (cond b (whitened (node_of p) (s.line || has_line_feed p.bytes) (s.blank || is_blank_line p.kind) s) (looks t.most_looks t (Some p) s)).nodes) [
       | true ↦ push_plain (node_of p) s.nodes (kind_plain p.kind p.bytes) g
       | false ↦ looks_plain t.most_looks t (Some p) s g
     ]
-
-steps_plain : (t : Table) (ps : List Piece) (s : Stack) → ArePlain s.nodes → ArePlain (steps t ps s).nodes
-steps_plain t [] s g = g
-steps_plain t (p ∷ ps) s g = steps_plain t ps (step t p s) (step_plain t p s g)
-
--- the trees of tokens are detached
-pub trees_plain : (t : Table) (ps : List Piece) → map plain (trees_of t ps) ≡ trees_of t ps
-trees_plain t ps = all_plain (trees_of t ps) (looks_plain t.most_looks t None (steps t ps (start t.most_deep)) (steps_plain t ps (start t.most_deep) tt))

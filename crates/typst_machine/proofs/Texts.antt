@@ -49,6 +49,12 @@ same_gains bytes ts us vs p q = record { text = q.text ∙ ap (λ s. s ++ bytes)
 pub gains_same : (bytes : List ℕ) (ts us vs : List Tree) → Gains bytes ts us → Same us vs → Gains bytes ts vs
 gains_same bytes ts us vs p q = record { text = q.text ∙ p.text; nodes = omega (arith, p.nodes, q.nodes) }
 
+pub gains_gains : (one two : List ℕ) (ts us vs : List Tree) → Gains one ts us → Gains two us vs → Gains (one ++ two) ts vs
+gains_gains one two ts us vs p q = record {
+  text = q.text ∙ ap (λ s. s ++ two) p.text ∙ append_assoc (text_of_all ts) one two;
+  nodes = omega (arith, p.nodes, q.nodes);
+}
+
 pub same_fits : (ts us : List Tree) → Same ts us → SumsFit us → SumsFit ts
 same_fits ts us p fits = (omega (arith, ap length p.text, fits.0), omega (arith, p.nodes, fits.1))
 

@@ -22,15 +22,15 @@ use denote.Enum.Bare.{sameb}
 
 -- A token's node goes behind all others. The innermost frame now says what a line feed does.
 abbrev pub pushed : Tree → Stack → Stack
-pushed t s = record s { nodes = s.nodes ++ t ∷ []; body = length s.nodes + 1; line = false; newline = s.top.newline; judge = length s.below }
+pushed t s = record s { nodes = s.nodes ++ t ∷ []; body = length s.nodes + 1; line = false; blank = false; newline = s.top.newline; judge = length s.below }
 
 -- a frame that doesn't enter the white space before its first token begins behind it
 abbrev pub led : ℕ → Frame → Frame
 led n f = if not f.enters && nat_le n f.start then record f { start = n + 1 } else f
 
--- white space before the next token
-abbrev pub whitened : Tree → Bool → Stack → Stack
-whitened t line s = record s { nodes = s.nodes ++ t ∷ []; line = line; top = led (length s.nodes) s.top }
+-- white space before the next token, in which there now is a line feed or a blank line, or not
+abbrev pub whitened : Tree → Bool → Bool → Stack → Stack
+whitened t line blank s = record s { nodes = s.nodes ++ t ∷ []; line = line; blank = blank; top = led (length s.nodes) s.top }
 
 -- what a line feed does in a frame that opens in another one
 abbrev pub inherited : Option Newline → Newline → Newline

@@ -1,5 +1,6 @@
 pub mod Actions
 pub mod Depth
+pub mod FirstBlock
 pub mod Last
 pub mod Raw
 pub mod Rows

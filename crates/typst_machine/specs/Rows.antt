@@ -1,10 +1,10 @@
 -- The table, and which of its rows is done.
-use Rattle.std.specs.Prelude.{ℕ, ◌&&◌, nat_le, Bool, true, false, List, [], ◌∷◌, Option, Some, None, if◌then◌else◌}
+use Rattle.std.specs.Prelude.{ℕ, nat_le, Bool, true, false, List, [], ◌∷◌, Option, Some, None, if◌then◌else◌}
 use Rattle.typst_grammar.specs.Row.{Row}
 use Rattle.typst_grammar.specs.declared.row.Condition.{Condition}
 use Rattle.typst_grammar.specs.declared.row.Condition.TheVariants as conditions
 use Rattle.typst_grammar.specs.declared.row.Newline.{Newline}
-use Rattle.typst_grammar.specs.declared.row.Newline.TheVariants.{Go, Stop}
+use Rattle.typst_grammar.specs.declared.row.Newline.TheVariants.{Go, Par, Stop}
 use Rattle.typst_grammar.specs.declared.rows.Class.{Class}
 use Rattle.typst_grammar.specs.declared.rows.Class.TheVariants as classes
 use Rattle.typst_grammar.specs.declared.rows.State.{State}
@@ -36,13 +36,19 @@ abbrev pub class_of_next : Option Piece → Class
 class_of_next None = classes.End
 class_of_next (Some p) = class_of p.kind
 
-abbrev pub stops : Newline → Bool
-stops Go = false
-stops Stop = true
+-- whether the white space before a token ends what is open, if it has a line feed and a blank line or not
+abbrev pub stops : Newline → Bool → Bool → Bool
+stops Go line blank = false
+stops Stop line blank = line
+stops Par line blank = blank
 
--- the class that a token of a class reads as: the end, if a line feed before it ends what is open
+-- whether the next token reads as the end, whatever it is
+abbrev pub reads_as_end : Stack → Bool
+reads_as_end s = stops s.newline s.line s.blank
+
+-- the class that a token of a class reads as
 abbrev pub seen : Class → Stack → Class
-seen class s = if s.line && stops s.newline then classes.End else class
+seen class s = if reads_as_end s then classes.End else class
 
 -- whether a condition holds
 abbrev pub holds : Condition → Stack → Bool

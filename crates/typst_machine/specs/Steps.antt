@@ -1,5 +1,5 @@
 -- What tokens do with the stack, by the rows of a table.
-use Rattle.std.specs.Prelude.{ℕ, zero, suc, ◌==◌, ◌&&◌, ◌||◌, Bool, true, false, List, [], ◌∷◌, Option, Some, None, if◌then◌else◌}
+use Rattle.std.specs.Prelude.{ℕ, zero, suc, ◌==◌, ◌&&◌, ◌||◌, Bool, true, false, List, Option, Some, None, if◌then◌else◌}
 use Rattle.std.specs.List.{list_any}
 use Rattle.typst_grammar.specs.Messages.{message_text}
 use Rattle.typst_grammar.specs.Row.{Row}
@@ -11,7 +11,7 @@ use Rattle.typst_lexer.specs.declared.token.TokenKind.{TokenKind}
 use Rattle.typst_lexer.specs.declared.token.TokenKind.TheVariants as tokens
 use Rattle.typst_machine.specs.Actions.{acts, called, pushed, whitened}
 use Rattle.typst_machine.specs.Rows.{Table, row_for}
-use Rattle.typst_machine.specs.Stack.{Stack, start}
+use Rattle.typst_machine.specs.Stack.{Stack}
 use Rattle.typst_machine.specs.TokenNodes.{node_of}
 use Rattle.typst_node.specs.Hints.{error_tree}
 use Rattle.typst_node.specs.Tree.{Tree}
@@ -67,20 +67,16 @@ is_white _ = false
 abbrev pub has_line_feed : List ℕ → Bool
 has_line_feed bs = list_any (λ b. b == 10) bs
 
+abbrev pub is_blank_line : TokenKind → Bool
+is_blank_line tokens.Parbreak = true
+is_blank_line _ = false
+
 -- the stack after one more token
 abbrev pub step : Table → Piece → Stack → Stack
 step t p s =
-    if is_white p.kind then whitened (node_of p) (s.line || has_line_feed p.bytes) s
+    if is_white p.kind then whitened (node_of p) (s.line || has_line_feed p.bytes) (s.blank || is_blank_line p.kind) s
     else looks t.most_looks t (Some p) s
-
-abbrev pub steps : Table → List Piece → Stack → Stack
-steps t [] s = s
-steps t (p ∷ ps) s = steps t ps (step t p s)
 
 -- the stack after the end of all tokens
 abbrev pub finished : Table → Stack → Stack
 finished t s = looks t.most_looks t None s
-
--- the trees of tokens
-abbrev pub trees_of : Table → List Piece → List Tree
-trees_of t ps = (finished t (steps t ps (start t.most_deep))).nodes

@@ -6,13 +6,13 @@
 //! looked at no more often than the table allows.
 #![tactic(auto)]
 
-pub use machine::tables_keep_texts;
-pub use stack::{Frame, Stack};
+pub use block::{FirstBlock, first_block, tables_keep_texts};
 pub use table::Table;
 
 mod actions;
-pub mod machine;
+pub mod block;
+mod machine;
 mod raw;
-pub mod stack;
+mod stack;
 pub mod table;
 mod token_node;

@@ -1,13 +1,11 @@
 //! What tokens do with the stack.
-ghost use Rattle.std.specs.Prelude.{◌≡◌, ◌≤◌, List, IfOk, OnOk, IsErrOf};
+ghost use Rattle.std.specs.Prelude.{◌≡◌, IfOk, OnOk, IsErrOf};
 ghost use Rattle.typst_grammar.specs.Row.{row_of};
-ghost use Rattle.typst_lexer.specs.Tokens.{Piece, joined, piece_of};
-ghost use Rattle.typst_machine.specs.Depth.{AreWithin};
-ghost use Rattle.typst_machine.specs.Rows.{Table as AnyTable, row_for};
-ghost use Rattle.typst_machine.specs.Steps.{after_row, eaten, finished, has_line_feed, is_done, is_too_deep, is_white, looked, looks, refused, step, taken, trees_of};
+ghost use Rattle.typst_lexer.specs.Tokens.{piece_of};
+ghost use Rattle.typst_machine.specs.Rows.{row_for};
+ghost use Rattle.typst_machine.specs.Steps.{after_row, eaten, finished, has_line_feed, is_blank_line, is_done, is_too_deep, is_white, looked, looks, refused, step, taken};
 ghost use Rattle.typst_machine.specs.View.{found_of, next_of, stack_of, table_of};
 ghost use Rattle.typst_node.specs.Count.{SumsFit};
-ghost use Rattle.typst_node.specs.Text.{text_of_all};
 ghost use Rattle.typst_node.specs.declared.node.build.InnerError.TheVariants.{Overflow};
 
 use crate::stack::Stack;
@@ -25,8 +23,15 @@ fn is_white(kind: TokenKind) -> bool
     matches!(kind, TokenKind::Space | TokenKind::Parbreak)
 }
 
+/// Whether a token is white space with a blank line.
+fn is_blank_line(kind: TokenKind) -> bool
+    ensures { result ≡ is_blank_line kind }
+{
+    matches!(kind, TokenKind::Parbreak)
+}
+
 /// Whether a row that was found is the last look at the token.
-fn is_done(row: Option<&'static Row>, stack: &Stack) -> bool
+pub(crate) fn is_done(row: Option<&'static Row>, stack: &Stack) -> bool
     ensures { result ≡ is_done (found_of row.entry) (stack_of stack.now) }
 {
     match row {
@@ -102,7 +107,7 @@ impl Stack {
     }
 
     /// Does what the row says that was found for the next token.
-    fn look(
+    pub(crate) fn look(
         &mut self,
         alloc: Global,
         table: &Table,
@@ -148,7 +153,7 @@ impl Stack {
     }
 
     /// Takes one more token.
-    pub fn step(
+    pub(crate) fn step(
         &mut self,
         alloc: Global,
         table: &Table,
@@ -160,14 +165,15 @@ impl Stack {
     {
         if is_white(token.kind) {
             let line = self.line || token.text.as_bytes().contains(&b'\n');
+            let blank = self.blank || is_blank_line(token.kind);
             let node = token_node(alloc, token.kind, token.text)?;
-            return Ok(self.whiten(node, line)?);
+            return Ok(self.whiten(node, line, blank)?);
         }
         self.take(alloc, table, Some(*token))
     }
 
     /// The nodes, once all tokens have come: open frames end.
-    pub fn finish(self, alloc: Global, table: &Table) -> Result<Vec<SyntaxNode>, InnerError>
+    pub(crate) fn finish(self, alloc: Global, table: &Table) -> Result<Vec<SyntaxNode>, InnerError>
         ensures nodes { IfOk result
             (λ nodes. nodes.items ≡ (finished (table_of table.now) (stack_of self)).nodes) }
         ensures overflow { IsErrOf result Overflow → ¬ (SumsFit (finished (table_of table.now) (stack_of self)).nodes) }
@@ -177,11 +183,3 @@ impl Stack {
         Ok(stack.nodes)
     }
 }
-
-/// Laws of every table. The nodes of tokens have all of their text, and no node has more levels than the table allows.
-#[tactic(auto, using(crate::proofs::Laws::trees_text, crate::proofs::Depths::trees_within))]
-pub fn tables_keep_texts()
-    ensures text { (table : AnyTable) (ps : List Piece) → text_of_all (trees_of table ps) ≡ joined ps }
-    ensures levels { (table : AnyTable) (ps : List Piece) → 2 ≤ table.most_levels
-        → AreWithin table.most_levels (trees_of table ps) }
-{}

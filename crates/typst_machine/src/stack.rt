@@ -12,6 +12,9 @@ use typst_node::SyntaxNode;
 /// How many levels the node of a token may have: raw text has two.
 const LEAST: usize = 2;
 
+/// For how many nodes a stack has room from the start: most lines of a text have no more.
+const ROOM: usize = 16;
+
 /// An open frame: where in the syntax it is, and where its nodes begin.
 #[derive(Clone, Copy)]
 pub struct Frame {
@@ -36,13 +39,14 @@ pub struct Stack {
     pub(crate) nodes: Vec<SyntaxNode>,
     // How many of the nodes are before the white space before the next token.
     pub(crate) body: usize,
-    // Whether a line feed is in that white space, and what it does.
+    // Whether a line feed and whether a blank line is in that white space, and what they do.
     pub(crate) line: bool,
+    pub(crate) blank: bool,
     pub(crate) newline: Newline,
     // The innermost frame, and the others, the outermost first.
     pub(crate) top: Frame,
     pub(crate) below: Vec<Frame>,
-    // How many frames are around the one that says what the line feed does.
+    // How many frames are around the one that says what a line feed does.
     pub(crate) judge: usize,
 }
 
@@ -73,25 +77,26 @@ fn inherited(new: Option<Newline>, old: Newline) -> Newline
 
 impl Stack {
     /// The stack before the first token: one frame, in the state of a document, without nodes.
-    pub fn new(alloc: Global, table: &Table) -> Stack
-        ensures { stack_of result ≡ start table.now.most_deep }
+    pub(crate) fn new(alloc: Global, table: &Table) -> Result<Stack, AllocError>
+        ensures { IfOk result (λ stack. stack_of stack ≡ start table.now.most_deep) }
     {
-        Stack {
-            nodes: Vec::new(alloc),
+        Ok(Stack {
+            nodes: Vec::with_capacity(alloc, ROOM)?,
             body: 0,
             line: false,
-            newline: Newline::Go,
+            blank: false,
+            newline: Newline::Par,
             top: Frame {
                 state: State::Document,
                 start: 0,
                 levels: LEAST,
                 enters: true,
                 room: table.most_deep,
-                newline: Newline::Go,
+                newline: Newline::Par,
             },
             below: Vec::new(alloc),
             judge: 0,
-        }
+        })
     }
 
     /// Puts the node of a token behind all others.
@@ -101,14 +106,20 @@ impl Stack {
         self.nodes.push(node)?;
         self.body = self.nodes.len();
         self.line = false;
+        self.blank = false;
         self.newline = self.top.newline;
         self.judge = self.below.len();
         Ok(())
     }
 
-    /// Takes white space before the next token.
-    pub(crate) fn whiten(&mut self, node: SyntaxNode, line: bool) -> Result<(), AllocError>
-        ensures { OnOk result (stack_of self.new ≡ whitened node line (stack_of self.old)) }
+    /// Takes white space before the next token, in which there now is a line feed or a blank line, or not.
+    pub(crate) fn whiten(
+        &mut self,
+        node: SyntaxNode,
+        line: bool,
+        blank: bool,
+    ) -> Result<(), AllocError>
+        ensures { OnOk result (stack_of self.new ≡ whitened node line blank (stack_of self.old)) }
     {
         let leads = !self.top.enters && self.nodes.len() <= self.top.start;
         self.nodes.push(node)?;
@@ -116,6 +127,7 @@ impl Stack {
             self.top.start = self.nodes.len();
         }
         self.line = line;
+        self.blank = blank;
         Ok(())
     }
 

@@ -1,7 +1,7 @@
 //! The table, and which of its rows is done.
 ghost use Rattle.std.specs.Prelude.{◌≡◌};
 ghost use Rattle.typst_grammar.specs.Row.{rows_of};
-ghost use Rattle.typst_machine.specs.Rows.{class_of, class_of_next, first_row, holds, row_of_class, seen, stops};
+ghost use Rattle.typst_machine.specs.Rows.{class_of, class_of_next, first_row, holds, reads_as_end, row_of_class, seen, stops};
 ghost use Rattle.typst_machine.specs.View.{found_of, next_of, stack_of, table_of};
 
 use crate::stack::Stack;
@@ -45,19 +45,30 @@ pub(crate) fn class_of_next(next: Option<Token<'_>>) -> Class
     }
 }
 
-/// Whether a line feed ends what is open.
-fn stops(newline: Newline) -> bool
-    ensures { result ≡ stops newline }
+/// Whether the white space before a token ends what is open, if it has a line feed and a blank line or not.
+fn stops(newline: Newline, line: bool, blank: bool) -> bool
+    ensures { result ≡ stops newline line blank }
 {
-    matches!(newline, Newline::Stop)
+    match newline {
+        Newline::Go => false,
+        Newline::Stop => line,
+        Newline::Par => blank,
+    }
 }
 
 impl Stack {
+    /// Whether the next token reads as the end, whatever it is.
+    pub(crate) fn reads_as_end(&self) -> bool
+        ensures { result ≡ reads_as_end (stack_of self.now) }
+    {
+        stops(self.newline, self.line, self.blank)
+    }
+
     /// The class that a token of a class reads as.
     fn seen(&self, class: Class) -> Class
         ensures { result ≡ seen class (stack_of self.now) }
     {
-        if self.line && stops(self.newline) {
+        if self.reads_as_end() {
             Class::End
         } else {
             class

@@ -1,1 +1,2 @@
-pub mod OneToken
+pub mod Levels
+pub mod Made

@@ -1,9 +1,9 @@
 //! A part of Typst's markup, parsed a block at a time: [`Markup`] is a `BlockParser`.
 //!
-//! A block is the text up to the first blank line, which it includes. Its tokens become nodes from left to right.
-//! Strong and emphasized content nests, a heading and an item go on to the end of their line, raw text and references
-//! have parts, and every other token is a leaf or an error. Every byte is in exactly one leaf or error, in order,
-//! whatever the text.
+//! A block ends where a line feed leaves nothing open: after a heading, an item or a line of a paragraph. Its tokens
+//! become nodes from left to right. Strong and emphasized content nests, a heading and an item go on to the end of their
+//! line, raw text and references have parts, and every other token is a leaf or an error. Every byte is in exactly one
+//! leaf or error, in order, whatever the text.
 //!
 //! A source takes the parser, and has a tree with errors and warnings:
 //!

@@ -1,10 +1,12 @@
 //! Compares the trees of texts with trees that were worked out without the library. Then it turns each text into each
-//! other text by an edit.
+//! other text by an edit. At last it types a letter in some texts, and looks which bytes are parsed anew.
 //!
 //! Its arguments are names. The file `NAME.typ` has a text, and `NAME.tree` has its tree, one node a line, with two
-//! blanks a level. A leaf has its text as `{:?}` prints it, and an error has its text and its message.
+//! blanks a level. A leaf has its text as `{:?}` prints it, and an error has its text and its message. A name that
+//! begins with `whole/` is parsed by `Typst`, which knows the whole language, and any other by `Markup`.
 #![tactic(auto)]
 
+mod blocks;
 mod shown;
 
 use crate::shown::shown;
@@ -12,8 +14,9 @@ use anyhow::{Context, Result, ensure};
 use std::alloc::Global;
 use std::{env, fs};
 use typst_base::FileId;
+use typst_language::Typst;
 use typst_markup::Markup;
-use typst_source::Source;
+use typst_source::{BlockParser, Source};
 
 /// A text, and its tree as it is written down.
 #[derive(Drop)]
@@ -23,14 +26,30 @@ struct Case {
     tree: String,
 }
 
-/// The cases that the arguments name.
-fn cases(rt: &HostRuntime) -> Result<Vec<Case>> {
+/// The cases that the arguments name, by their parsers.
+#[derive(Drop)]
+struct Cases {
+    markup: Vec<Case>,
+    whole: Vec<Case>,
+}
+
+/// Reads the cases.
+fn read_cases(rt: &HostRuntime) -> Result<Cases> {
     let alloc = rt.alloc();
-    let mut cases = Vec::new(alloc);
+    let mut cases = Cases {
+        markup: Vec::new(alloc),
+        whole: Vec::new(alloc),
+    };
     for name in env::args(rt)?.skip(1) {
         let text = fs::read_to_string(rt, format!(in alloc; "{name}.typ")?)?;
         let tree = fs::read_to_string(rt, format!(in alloc; "{name}.tree")?)?;
-        cases.push(Case { name, text, tree })?;
+        let is_whole = name.starts_with("whole/");
+        let case = Case { name, text, tree };
+        if is_whole {
+            cases.whole.push(case)?;
+        } else {
+            cases.markup.push(case)?;
+        }
     }
     Ok(cases)
 }
@@ -46,7 +65,7 @@ fn differing_line(one: &str, other: &str) -> usize {
 }
 
 /// Fails if the text or the tree of a source isn't that of a case.
-fn check(alloc: Global, source: &Source<Markup>, case: &Case) -> Result<()> {
+fn check<P: BlockParser + Drop>(alloc: Global, source: &Source<P>, case: &Case) -> Result<()> {
     let name = &case.name;
     ensure!(
         source.text() == case.text.as_str(),
@@ -89,7 +108,11 @@ fn common_end(old: &str, new: &str) -> usize {
 }
 
 /// Turns the text of a source into another one, by an edit of the text between their common beginning and end.
-fn turn_into(alloc: Global, source: &mut Source<Markup>, new: &str) -> Result<()> {
+fn turn_into<P: BlockParser + Drop>(
+    alloc: Global,
+    source: &mut Source<P>,
+    new: &str,
+) -> Result<()> {
     let old = source.text();
     let start = common_beginning(old, new);
     let rest = old.get(start..).context("no place in the old text")?;
@@ -104,14 +127,17 @@ fn turn_into(alloc: Global, source: &mut Source<Markup>, new: &str) -> Result<()
     Ok(())
 }
 
-fn main(rt: HostRuntime) -> Result<()> {
-    let alloc = rt.alloc();
-    let cases = cases(&rt)?;
+/// Parses the text of each case, turns it into each other one and back, and returns the number of edits.
+fn check_all<P: BlockParser + Copy + Drop>(
+    alloc: Global,
+    parser: P,
+    cases: &[Case],
+) -> Result<usize> {
     let mut edits = 0usize;
-    for case in &cases {
-        let mut source = Source::new(alloc, FileId::FIRST, &case.text, Markup)?;
+    for case in cases {
+        let mut source = Source::new(alloc, FileId::FIRST, &case.text, parser)?;
         check(alloc, &source, case)?;
-        for other in &cases {
+        for other in cases {
             turn_into(alloc, &mut source, &other.text)?;
             check(alloc, &source, other)?;
             turn_into(alloc, &mut source, &case.text)?;
@@ -119,7 +145,19 @@ fn main(rt: HostRuntime) -> Result<()> {
             edits = edits.saturating_add(2);
         }
     }
-    let count = cases.len();
-    println!(rt; "{count} trees, {edits} edits")?;
+    Ok(edits)
+}
+
+fn main(rt: HostRuntime) -> Result<()> {
+    let alloc = rt.alloc();
+    let Cases { markup, whole } = read_cases(&rt)?;
+    let edits = check_all(alloc, Markup, &markup)?;
+    let count = markup.len();
+    println!(rt; "markup: {count} trees, {edits} edits")?;
+    let edits = check_all(alloc, Typst, &whole)?;
+    let count = whole.len();
+    println!(rt; "all of Typst: {count} trees, {edits} edits")?;
+    let letters = blocks::check(alloc)?;
+    println!(rt; "{letters} letters")?;
     Ok(())
 }

@@ -7,10 +7,10 @@ use typst_answers::views::of_node;
 use typst_answers::{Answers, Form};
 use typst_linked::LinkedNode;
 use typst_node::SyntaxNode;
-use typst_rows::{EditReport, Row};
-use typst_shown::Shown;
-use typst_shown::drawing::draw_row;
+use typst_shown::drawing::Sketch;
+use typst_shown::part::Line;
 use typst_shown::trail::Trail;
+use typst_shown::{EditReport, Shown};
 
 /// Draws a tree as `typst_shown` does, and writes what the view of each node answers below the node's line.
 pub fn draw_with_answers<W: Write>(
@@ -19,16 +19,21 @@ pub fn draw_with_answers<W: Write>(
     shown: &Shown<'_>,
     report: Option<&EditReport>,
 ) -> io::Result<()> {
-    let mut trail = Trail::new(alloc);
-    let mut rest = String::new(alloc);
+    let mut sketch = Sketch::new(alloc, shown, report)?;
     let mut answers = Answers::in_form(alloc, shown.root, Form::Ranges);
+    // How many nodes are left out from here on.
+    let mut hidden = 0usize;
     for node in LinkedNode::new(shown.root).preorder(alloc)? {
         let node = node?;
-        let row = Row::of(&node)?;
-        trail.go_to(&row)?;
-        trail.draw(out)?;
-        draw_row(out, &mut rest, shown.text, &row, report)?;
-        draw_answers(out, &mut answers, node.get(), &trail)?;
+        if let Some(less) = hidden.checked_sub(1) {
+            hidden = less;
+            continue;
+        }
+        match sketch.draw_next(out)? {
+            Some(Line::Node(_)) => draw_answers(out, &mut answers, node.get(), &sketch.trail)?,
+            Some(Line::Hidden(line)) => hidden = line.nodes.saturating_sub(1),
+            None => break,
+        }
     }
     Ok(())
 }

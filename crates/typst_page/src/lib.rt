@@ -8,11 +8,15 @@ pub use numbers::EditedNode;
 pub use windows::Change;
 pub use writer::PageWriter;
 
+mod anchors;
 mod answered;
 mod escaped;
+mod leaves;
 mod nodes;
 mod numbers;
 pub mod page;
 mod page_parts;
+mod reports;
+mod step;
 mod windows;
 mod writer;

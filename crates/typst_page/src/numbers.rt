@@ -4,7 +4,7 @@ use crate::windows::Change;
 use std::alloc::AllocError;
 use std::ops::Range;
 use typst_node::{Renumbered, SyntaxNode};
-use typst_rows::{EditReport, NodeStatus};
+use typst_shown::{EditReport, NodeStatus};
 
 /// How many children are drawn on each side of the window.
 const BESIDE: usize = 2;
@@ -56,7 +56,7 @@ pub(crate) fn push_numbers(
         "height=\"{height}\" role=\"img\" aria-label=\"numbers\">"
     )?;
     write!(out, "<line x1=\"0\" y1=\"40\" x2=\"{width}\" y2=\"40\" ")?;
-    writeln!(out, "stroke=\"#8a919b\"/>")?;
+    writeln!(out, "stroke=\"var(--faint)\"/>")?;
     for (index, child) in children.iter().enumerate() {
         if drawn.contains(&index) {
             let x = x_of(&drawn, index).saturating_add(WIDTH / 2);
@@ -132,7 +132,11 @@ fn push_windows(
         let y = TOP.saturating_add(turn.saturating_mul(HEIGHT));
         let (baseline, from) = (y.saturating_add(14), x.saturating_add(8));
         let has_room = turn.saturating_add(1) == renumbered.tried;
-        let colour = if has_room { "var(--new)" } else { "#8a919b" };
+        let colour = if has_room {
+            "var(--new)"
+        } else {
+            "var(--faint)"
+        };
         write!(out, "<rect x=\"{x}\" y=\"{y}\" width=\"{width}\" ")?;
         write!(out, "height=\"20\" rx=\"5\" fill=\"{colour}\" ")?;
         writeln!(out, "fill-opacity=\"0.15\" stroke=\"{colour}\"/>")?;

@@ -1,19 +1,17 @@
 //! A page for a browser. It shows a text next to its tree, and both again after each edit. The page is one file, and
 //! reads well without scripts.
-ghost use Rattle.typst_lines.specs.LineTable.{AreLines};
 
 use crate::escaped::push_escaped;
-use crate::nodes::{push_leaves, push_nodes};
+use crate::leaves::push_leaves;
+use crate::nodes::push_nodes;
 use crate::numbers::{EditedNode, push_numbers};
 use crate::page_parts::{HEAD, LEGEND, STYLE, TAIL};
+use crate::reports::push_reports;
+use crate::step::Step;
 use crate::writer::PageWriter;
 use std::alloc::{AllocError, Global};
 use std::rt::Files;
-use typst_lines::{ColumnUnit, Lines};
-use typst_linked::place_of;
-use typst_node::SyntaxDiagnostic;
-use typst_rows::{EditReport, rows};
-use typst_shown::{Problem, Shown};
+use typst_shown::{EditReport, Problem, Shown};
 
 /// Adds the beginning of a page about a file.
 pub fn push_head(out: &mut String, file: &str) -> Result<(), AllocError> {
@@ -47,15 +45,16 @@ pub struct Done<'a> {
     pub edited: Option<EditedNode<'a>>,
 }
 
-/// Adds a step: the numbers after an edit, the text next to the tree, and errors and warnings. The first step has no
-/// edit.
+/// Adds a step: the numbers after an edit, errors and warnings, and the tree and the text. The first step has no edit. The
+/// tree comes first, since it says which nodes are left out. A browser shows it after the text.
 pub fn push_step<'a, R: Files + Print>(
     alloc: Global,
     page: &mut PageWriter<'_, 'a, R>,
     shown: &Shown<'_>,
     done: Option<Done<'_>>,
 ) -> Result<(), Problem<'a>> {
-    let rows = rows(alloc, shown.root)?;
+    let step = Step::new(alloc, page.steps, shown, done.map(|done| done.report))?;
+    page.steps = page.steps.saturating_add(1);
     if let Some(
         Done {
             report,
@@ -65,55 +64,12 @@ pub fn push_step<'a, R: Files + Print>(
     {
         push_numbers(&mut page.text, report, &edited)?;
     }
+    push_reports(alloc, &mut page.text, &step)?;
     page.text
-        .push_str("<div class=\"pair\">\n<pre class=\"text\">")?;
-    push_leaves(page, shown.text, &rows)?;
-    page.text.push_str("</pre>\n<div class=\"tree\">\n")?;
-    push_nodes(alloc, page, shown, done.map(|done| done.report), &rows)?;
-    page.text.push_str("</div>\n</div>\n")?;
-    push_reports(alloc, &mut page.text, shown)?;
+        .push_str("<div class=\"pair\">\n<div class=\"tree\">\n")?;
+    let part = push_nodes(alloc, page, &step)?;
+    page.text.push_str("</div>\n<pre class=\"text\">")?;
+    push_leaves(page, &step, &part)?;
+    page.text.push_str("</pre>\n</div>\n")?;
     Ok(())
-}
-
-/// Adds the errors and then the warnings.
-fn push_reports(alloc: Global, out: &mut String, shown: &Shown<'_>) -> Result<(), AllocError> {
-    let (errors, warnings) = shown.root.errors_and_warnings(alloc)?;
-    if errors.is_empty() && warnings.is_empty() {
-        return Ok(());
-    }
-    let lines = Lines::new(alloc, shown.text)?;
-    out.push_str("<ul class=\"reports\">\n")?;
-    for found in errors.iter().chain(warnings.iter()) {
-        let severity = if found.is_error { "error" } else { "warning" };
-        write!(out, "<li class=\"{severity}\"><b>{severity}</b> ")?;
-        push_place(out, &lines, shown, found)?;
-        push_escaped(out, &found.message)?;
-        for hint in &found.hints {
-            out.push_str("<br>hint: ")?;
-            push_escaped(out, &hint.v)?;
-        }
-        out.push_str("</li>\n")?;
-    }
-    out.push_str("</ul>\n")
-}
-
-/// Adds the line and the column, both from 1, that a report is about.
-fn push_place(
-    out: &mut String,
-    lines: &Lines,
-    shown: &Shown<'_>,
-    found: &SyntaxDiagnostic,
-) -> Result<(), AllocError>
-    requires { AreLines lines.now shown.now.text.now }
-{
-    let Some(range) = place_of(shown.root, &found.span) else {
-        return Ok(());
-    };
-    let line = lines.byte_to_line(shown.text, range.start);
-    let column = lines.byte_to_column(shown.text, range.start, ColumnUnit::Character);
-    let (Some(line), Some(column)) = (line, column) else {
-        return Ok(());
-    };
-    let (line, column) = (line.saturating_add(1), column.saturating_add(1));
-    write!(out, "{line}:{column} ")
 }

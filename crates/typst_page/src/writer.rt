@@ -18,6 +18,10 @@ pub struct PageWriter<'r, 'a, R: Files + Print> {
     file: Option<R::File>,
     /// What is made and isn't written yet.
     pub text: String,
+    /// How many bytes are written.
+    written: usize,
+    /// How many steps are made.
+    pub(crate) steps: usize,
     /// How many bytes are made before they are written.
     most: usize,
 }
@@ -40,12 +44,19 @@ impl<'r, 'a, R: Files + Print + AllocGlobal> PageWriter<'r, 'a, R> {
             page,
             file: None,
             text: String::new(rt.alloc()),
+            written: 0,
+            steps: 0,
             most,
         }
     }
 }
 
 impl<'r, 'a, R: Files + Print> PageWriter<'r, 'a, R> {
+    /// How many bytes of the page are made.
+    pub(crate) fn made(&self) -> usize {
+        self.written.saturating_add(self.text.len())
+    }
+
     /// Writes what is made if it is a whole piece.
     pub(crate) fn pass_on(&mut self) -> Result<(), Problem<'a>> {
         if self.text.len() < self.most {
@@ -62,6 +73,7 @@ impl<'r, 'a, R: Files + Print> PageWriter<'r, 'a, R> {
         } else {
             self.write_to_file()?;
         }
+        self.written = self.made();
         self.text.clear();
         Ok(())
     }

@@ -1,29 +1,34 @@
-//! What a program shows of a tree: a row for each node, and what an edit of its text did.
+//! The syntax of Typst as a table: what a token does in each state of an open frame, and how trees get other kinds.
 //!
-//! [`rows`] lists the nodes in preorder, each with its own range, number and bound. An [`EditReport`] says what
-//! [`Source::edit`] answered, counted in bytes and nodes, and what became of each node. The program decides how it draws
-//! both.
-//!
-//! This goes over the rows of a tree, and indents each by its depth:
-//!
-//! ```text
-//! for row in &rows(alloc, shown.root)? {
-//!     for _ in 0..row.depth {
-//!         out.write_all(b"  ")?;
-//!     }
-//!     let kind = row.kind;
-//!     let own = shown.text.get(row.start..row.end).unwrap_or("");
-//!     ..
-//! }
-//! ```
-//!
-//! [`Source::edit`]: typst_source::Source::edit
+//! `crates/whole.table` has the table, and `bench/grammar_crate.py` writes [`rows`](rows::rows) and [`changes`](maps::changes) from
+//! it. The machine of `typst_parser` does what they say.
 #![tactic(auto)]
 
-pub use listed::rows;
-pub use report::{EditReport, NodeStatus};
-pub use row::Row;
+pub use change::{Change, Effect, Relabel, Test};
+pub use expectation::Expectation;
+pub use maps::Map;
+pub use row::{Action, Call, Condition, Mode, Newline, Row, Take, Unique};
+pub use rows::{Class, State};
 
-mod listed;
-mod report;
-mod row;
+mod arguments_rows;
+mod blocks_rows;
+pub mod change;
+mod code_rows;
+mod control_rows;
+mod delimiters_rows;
+pub mod expectation;
+mod groups_rows;
+mod imports_rows;
+mod lists_rows;
+pub mod maps;
+mod markup_rows;
+mod math_rows;
+pub mod modes;
+mod operators_rows;
+mod parameters_rows;
+mod patterns_rows;
+pub mod row;
+pub mod rows;
+mod scripts_rows;
+mod statements_rows;
+mod structure_rows;

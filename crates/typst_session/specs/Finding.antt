@@ -5,7 +5,7 @@ use Rattle.typst_node.specs.Text.{offset}
 use Rattle.typst_linked.specs.Place.{Place}
 use Rattle.typst_linked.specs.Finds.{HasNumberBelow}
 use Rattle.typst_linked.specs.LeafAt.{leaf_place}
-use Rattle.typst_linked.specs.Ranges.{FindsRange}
+use Rattle.typst_linked.specs.Ranges.{Covers, FindsCover, FindsRange}
 use Rattle.typst_linked.specs.Search.{with_number, found_below}
 use Rattle.typst_linked.specs.declared.cursor.Side.{Side}
 use Rattle.typst_session.specs.Sessions.{root_of}
@@ -47,6 +47,20 @@ FindsByRange start end s (Err NoTree) = root_of s.held ≡ None
 FindsByRange start end s (Err NotFound) = IsSomeAnd (root_of s.held) (λ root. FindsRange start end (place_in root []) None)
 FindsByRange start end s (Err Memory) = Unit {0}
 FindsByRange start end s (Err _) = ⊥
+
+-- a smallest node that covers a range of bytes is at the path that was found, and its text begins at the offset that was
+-- found
+pub record IsAtCover (start end : ℕ) (root : Tree) (found : Found) : Type 0 where
+  pub node : FindsCover start end (place_in root []) (Some (place_in root found.path.items))
+  pub begin : found.offset ≡ offset found.path.items root
+
+-- where the smallest node is that covers a range of bytes, or why there is none
+abbrev pub FindsByCover : ℕ → ℕ → Session → Result Found Refusal → Type 0
+FindsByCover start end s (Ok found) = IsSomeAnd (root_of s.held) (λ root. IsAtCover start end root found)
+FindsByCover start end s (Err NoTree) = root_of s.held ≡ None
+FindsByCover start end s (Err NotFound) = IsSomeAnd (root_of s.held) (λ root. ¬ (Covers start end (place_in root [])))
+FindsByCover start end s (Err Memory) = Unit {0}
+FindsByCover start end s (Err _) = ⊥
 
 -- the leaf at a cursor is at the path that was found, and its text begins at the offset that was found
 pub record IsLeafAt (side : Side) (cursor : ℕ) (root : Tree) (found : Found) : Type 0 where

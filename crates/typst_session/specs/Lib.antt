@@ -1,4 +1,5 @@
 pub mod Codes
+pub mod LinedText
 pub mod Sessions
 pub mod Flags
 pub mod Reading

@@ -9,6 +9,7 @@ use Rattle.typst_tree.specs.Edits.{IsUndone}
 use Rattle.typst_tree.specs.declared.edit.EditError.{EditError}
 use Rattle.typst_session.specs.Building.{below_top, top_of}
 use Rattle.typst_session.specs.Codes.{of_edit}
+use Rattle.typst_session.specs.LinedText.{LinedText}
 use Rattle.typst_session.specs.Sessions.{IsKept, Holds}
 use Rattle.typst_session.specs.declared.session.Session.{Session}
 use Rattle.typst_session.specs.declared.session.Held.TheVariants as held
@@ -59,7 +60,7 @@ WhyNotRenumbered file from to tree _ = ⊥
 abbrev pub Renumbers : ℕ → ℕ → ℕ → Session → Result (Unit {0}) Refusal → Session → Type 0
 Renumbers file from to old (Ok done) new = IsRenumbered file from to old new
 Renumbers file from to old (Err NoTree) new = (old.held ≡ held.Nothing) × IsKept old new
-Renumbers file from to old (Err IsDocument) new = (tree : Tree) × (old.held ≡ held.Document tree) × IsKept old new
+Renumbers file from to old (Err IsDocument) new = (document : LinedText) × (old.held ≡ held.Document document) × IsKept old new
 Renumbers file from to old (Err refusal) new =
     (tree : Tree) × (old.held ≡ held.Tree tree) × WhyNotRenumbered file from to tree refusal × IsKept old new
 
@@ -73,7 +74,7 @@ pub record IsTaken (old new : Session) : Type 0 where
 abbrev pub TakesTree : Session → Result (Unit {0}) Refusal → Session → Type 0
 TakesTree old (Ok done) new = IsTaken old new
 TakesTree old (Err NoTree) new = (old.held ≡ held.Nothing) × IsKept old new
-TakesTree old (Err IsDocument) new = (tree : Tree) × (old.held ≡ held.Document tree) × IsKept old new
+TakesTree old (Err IsDocument) new = (document : LinedText) × (old.held ≡ held.Document document) × IsKept old new
 TakesTree old (Err Memory) new = IsKept old new
 TakesTree old (Err _) new = ⊥
 
@@ -101,7 +102,7 @@ pub record IsRefusedEdit (path : List ℕ) (from to count : ℕ) (old : Session)
 -- why the top nodes of the stack don't replace children
 abbrev pub WhyNotReplaced : List ℕ → ℕ → ℕ → ℕ → Session → Refusal → Type 0
 WhyNotReplaced path from to count old NoTree = old.held ≡ held.Nothing
-WhyNotReplaced path from to count old IsDocument = (tree : Tree) × (old.held ≡ held.Document tree)
+WhyNotReplaced path from to count old IsDocument = (document : LinedText) × (old.held ≡ held.Document document)
 WhyNotReplaced path from to count old Stack = length old.stack.items < count
 WhyNotReplaced path from to count old Memory = Unit {0}
 WhyNotReplaced path from to count old refusal = IsRefusedEdit path from to count old refusal

@@ -1,13 +1,14 @@
-//! Edits of the tree whose moves a session keeps, so that kept numbers can be followed.
-ghost use Rattle.std.specs.Prelude.{◌≡◌};
-ghost use Rattle.typst_session.specs.Changes.{Follows, IsChangeBelow, Reconciles, Sends, Updates};
+//! Edits of the tree that a session keeps, so that kept numbers can be followed.
+ghost use Rattle.std.specs.Prelude.{◌≡◌, None, IfErr, IfOk, IsSomeAnd};
+ghost use Rattle.typst_session.specs.Changes.{Follows, IsChangeBelow, IsLastUpdate, Reconciles, Sends, Updates};
+ghost use Rattle.typst_session.specs.declared.refusal.Refusal.TheVariants.{NoEdit};
 
 use crate::building::copies;
 use crate::refusal::Refusal;
-use crate::session::{Held, Session};
+use crate::session::{Held, LastEdit, Session};
 use std::alloc::Global;
 use std::ops::Range;
-use typst_node::{Below, ReplaceError, Touched};
+use typst_node::{Below, ReplaceError, Touched, Updated};
 
 /// What an edit changed: children of one node.
 #[derive(Clone, Debug, PartialEq, Eq, Drop)]
@@ -16,22 +17,36 @@ pub struct Change {
     pub depth: usize,
     /// What changed of its children.
     pub touched: Touched,
+    /// How many nodes that stay were numbered anew.
+    pub moved: usize,
 }
 
-/// What an update changed below the root.
-fn change_below(below: Option<Below>) -> Option<Change>
-    ensures { IsChangeBelow below result }
+/// What an update changed below the root, and what is kept of it.
+fn change_below(alloc: Global, done: Updated) -> (Option<Change>, LastEdit)
+    ensures told { IsChangeBelow done.below done.moves result.0 }
+    ensures kept { IsLastUpdate done result.1 }
 {
+    let Updated { below, moves } = done;
     match below {
-        Some(below) => Some(Change {
-            depth: below.path.len(),
-            touched: below.touched,
-        }),
-        None => None,
+        Some(Below { path, touched }) => {
+            let change = Change {
+                depth: path.len(),
+                touched,
+                moved: moves.moved().0.len(),
+            };
+            (Some(change), LastEdit { path, moves })
+        }
+        None => (
+            None,
+            LastEdit {
+                path: Vec::new(alloc),
+                moves,
+            },
+        ),
     }
 }
 
-/// # Edits whose moves are kept
+/// # Edits that are kept
 impl Session {
     /// Takes the inner node that the path leads to in the tree that is held, and replaces its children in the range by
     /// the last `count` nodes of the stack. The range is of child indices. The nodes that go on keep their numbers, and
@@ -60,11 +75,16 @@ impl Session {
         match tree.reconcile(alloc, path, range, nodes) {
             Ok(done) => {
                 self.stack.truncate(start);
-                self.moves = Some(done.moves);
-                Ok(Change {
+                let change = Change {
                     depth: done.path.len(),
                     touched: done.touched,
-                })
+                    moved: done.moves.moved().0.len(),
+                };
+                self.last = Some(LastEdit {
+                    path: done.path,
+                    moves: done.moves,
+                });
+                Ok(change)
             }
             Err(error) => Err(Refusal::from(error)),
         }
@@ -90,8 +110,9 @@ impl Session {
         match tree.update(alloc, node) {
             Ok(done) => {
                 self.stack.pop();
-                self.moves = Some(done.moves);
-                Ok(change_below(done.below))
+                let (change, last) = change_below(alloc, done);
+                self.last = Some(last);
+                Ok(change)
             }
             Err(ReplaceError::Unnumberable) => Err(Refusal::Unnumberable),
             Err(ReplaceError::Memory) => Err(Refusal::Memory),
@@ -105,12 +126,23 @@ impl Session {
     pub fn follow(&self, number: u64) -> Result<u64, Refusal>
         ensures { Follows number self.now result }
     {
-        let Some(moves) = &self.moves else {
+        let Some(last) = &self.last else {
             return Err(Refusal::NoEdit);
         };
-        match moves.follow(number) {
+        match last.moves.follow(number) {
             Some(now) => Ok(now),
             None => Err(Refusal::NotFound),
+        }
+    }
+
+    /// The path to the node whose children the last edit changed. It is empty if the root itself was changed.
+    pub fn edited_path(&self) -> Result<&[usize], Refusal>
+        ensures ok { IfOk result (λ path. IsSomeAnd self.now.last (λ edit. edit.path.items ≡ path.now)) }
+        ensures err { IfErr result (λ refusal. (refusal ≡ NoEdit) × (self.now.last ≡ None)) }
+    {
+        match &self.last {
+            Some(last) => Ok(&last.path),
+            None => Err(Refusal::NoEdit),
         }
     }
 

@@ -1,7 +1,8 @@
 //! Texts that are edited together with their trees and lines.
-ghost use Rattle.std.specs.Prelude.{ℕ, ◌≡◌, ◌≤◌, ◌↔◌, length, IsTrue, MatchOption, MatchResult};
+ghost use Rattle.std.specs.Prelude.{ℕ, List, [], ◌∷◌, ◌≡◌, ◌≤◌, ◌↔◌, length, IsTrue, IfErr, IfOk, MatchOption, MatchResult, OnErr, OnOk};
 ghost use Rattle.std.specs.List.{replace_range, splice};
 ghost use Rattle.std.specs.Str.{IsCharBoundary};
+ghost use Rattle.typst_lines.specs.Clamped.{HasNoClampedPlace, IsClampedPlace};
 ghost use Rattle.typst_lines.specs.Columns.{IsPlace};
 ghost use Rattle.typst_lines.specs.LineStarts.{line_starts};
 ghost use Rattle.typst_lines.specs.LineTable.{AreLines};
@@ -9,23 +10,25 @@ ghost use Rattle.typst_lines.specs.TextLines.{lines};
 ghost use Rattle.typst_markup.specs.Block.{first};
 ghost use Rattle.typst_node.specs.Numbered.{IsNumbered};
 ghost use Rattle.typst_node.specs.Text.{text};
+ghost use Rattle.typst_source.specs.Blocks.{document};
+ghost use Rattle.typst_source.specs.Depth.{AreWithin};
 ghost use Rattle.typst_source.specs.Edited.{IsEdited, IsRefusedBy};
 ghost use Rattle.typst_source.specs.Fits.{FitsText};
 ghost use Rattle.typst_session.specs.Documents.{IsDocumentOf, WhyNoDocument};
 ghost use Rattle.typst_session.specs.Places.{IsRangeOfLine};
 
 use crate::places::LineColumn;
-use std::alloc::Global;
+use std::alloc::{AllocError, Global};
 use std::marker::Model;
 use std::ops::Range;
-use typst_lines::{ColumnUnit, Lines};
+use typst_lines::{ColumnUnit, LineEnds, Lines};
 use typst_markup::Markup;
 use typst_source::{Edited, Source, SourceError};
 use typst_tree::{FileId, SyntaxNode};
 
 /// A text of markup with its tree and its lines, edited together.
 ///
-/// In contracts a document is the root of the tree, and the root's text is the text.
+/// In contracts a document is the root of the tree, whose text is the text, and what ends the text's lines.
 #[derive(Drop)]
 pub struct Document {
     source: Source<Markup>,
@@ -33,17 +36,16 @@ pub struct Document {
 }
 
 impl Model for Document {
-    ghost use Rattle.typst_node.specs.Tree.{Tree};
-    ghost use Rattle.typst_node.specs.Codes.{tree_code};
+    ghost use Rattle.typst_session.specs.LinedText.{LinedText, lined_text_code};
 
-    ghost Value = { Tree };
+    ghost Value = { LinedText };
 
-    ghost coded = { tree_code };
+    ghost coded = { lined_text_code };
 
     ghost use Rattle.typst_lines.specs.LineTable.{AreLines};
     ghost use Rattle.typst_node.specs.Text.{text};
 
-    ghost view = { λ a. a.source };
+    ghost view = { λ a. record { tree = a.source; ends = a.lines.ends } };
 
     ghost invariant = { λ a. AreLines a.lines (text a.source) };
 }
@@ -52,8 +54,9 @@ impl Model for Document {
 fn follow_back(lines: &mut Lines, text: &str, range: Range<usize>, with: &str)
     requires lines { AreLines lines.old (splice text.now range.start range.end with.now) }
     requires fits { FitsText text.now range }
-    requires room { length (line_starts text.now) ≤ lines.old.room }
-    ensures { AreLines lines.new text.now }
+    requires room { length (line_starts lines.old.ends text.now) ≤ lines.old.room }
+    ensures lines { AreLines lines.new text.now }
+    ensures ends { lines.new.ends ≡ lines.old.ends }
 {
     let (front, gone, back) = (
         &text[..range.start],
@@ -79,29 +82,29 @@ impl Document {
 
     /// The text with its tree, for reading: [`Source`] finds nodes by number, and bytes of nodes.
     pub fn source(&self) -> &Source<Markup>
-        ensures { result.now ≡ self.now }
+        ensures { result.now ≡ self.now.tree }
     {
         &self.source
     }
 
     /// The text.
     pub fn text(&self) -> &str
-        ensures { result.now ≡ text self.now }
+        ensures { result.now ≡ text self.now.tree }
     {
         self.source.text()
     }
 
     /// The root of the tree.
     pub fn root(&self) -> &SyntaxNode
-        ensures same { result.now ≡ self.now }
-        ensures numbered { IsNumbered self.now }
+        ensures same { result.now ≡ self.now.tree }
+        ensures numbered { IsNumbered self.now.tree }
     {
         self.source.root()
     }
 
     /// Whether a range of bytes can be edited: it is a range of the text, and both of its ends lie between characters.
     pub fn fits(&self, range: &Range<usize>) -> bool
-        ensures { IsTrue result ↔ FitsText (text self.now) range.now }
+        ensures { IsTrue result ↔ FitsText (text self.now.tree) range.now }
     {
         self.source.fits(range)
     }
@@ -114,10 +117,12 @@ impl Document {
         range: Range<usize>,
         with: &str,
     ) -> Result<Edited, SourceError>
-        requires fits_ask_fits { FitsText (text self.old) range }
-        ensures { MatchResult result (λ done. IsEdited first self.old range with.now done self.new)
-            (λ error. IsRefusedBy error first self.old (replace_range (text self.old) range.start range.end with.now)
-            × (self.new ≡ self.old)) }
+        requires fits_ask_fits { FitsText (text self.old.tree) range }
+        ensures edited { IfOk result (λ done. IsEdited first self.old.tree range with.now done self.new.tree) }
+        ensures refused { IfErr result (λ error. IsRefusedBy error first self.old.tree
+            (replace_range (text self.old.tree) range.start range.end with.now)) }
+        ensures ends { self.new.ends ≡ self.old.ends }
+        ensures err { OnErr result (self.new ≡ self.old) }
     {
         let (start, end) = (range.start, range.end);
         self.lines.edit(self.source.text(), start..end, with)?;
@@ -131,11 +136,35 @@ impl Document {
     }
 }
 
+impl Clone for Document {
+    ghost is_clone = { λ document copy. copy ≡ document };
+
+    /// Copies the text, its tree with all numbers, and its lines.
+    fn clone(&self) -> Result<Document, AllocError> {
+        Ok(Document {
+            source: self.source.clone()?,
+            lines: self.lines.clone()?,
+        })
+    }
+}
+
 /// # Lines and columns
 impl Document {
+    /// Takes other line ends for the text. At first these are [`LineEnds::Unicode`]. After an error nothing has changed.
+    ///
+    /// It takes time in proportion to the text, and memory for the lines.
+    pub fn set_line_ends(&mut self, alloc: Global, ends: LineEnds) -> Result<(), AllocError>
+        ensures tree { self.new.tree ≡ self.old.tree }
+        ensures ok { OnOk result (self.new.ends ≡ ends) }
+        ensures err { OnErr result (self.new.ends ≡ self.old.ends) }
+    {
+        self.lines = Lines::with_ends(alloc, self.source.text(), ends)?;
+        Ok(())
+    }
+
     /// How many lines the text has: one more than it has line ends.
     pub fn len_lines(&self) -> usize
-        ensures { result ≡ length (lines (text self.now)) }
+        ensures { result ≡ length (lines self.now.ends (text self.now.tree)) }
     {
         self.lines.len_lines()
     }
@@ -143,8 +172,8 @@ impl Document {
     /// The line and the column of a byte, both from 0. `None` if the byte is past the end of the text or within a
     /// character. The cost is a walk over the line up to the byte.
     pub fn byte_to_line_column(&self, byte: usize, unit: ColumnUnit) -> Option<LineColumn>
-        ensures { MatchOption result (¬ (IsCharBoundary (text self.now) byte))
-            (λ place. IsPlace unit (text self.now) place.line place.column byte) }
+        ensures { MatchOption result (¬ (IsCharBoundary (text self.now.tree) byte))
+            (λ place. IsPlace self.now.ends unit (text self.now.tree) place.line place.column byte) }
     {
         let text = self.source.text();
         let line = self.lines.byte_to_line(text, byte)?;
@@ -154,8 +183,8 @@ impl Document {
 
     /// The bytes of a line with its line end. `None` if there is no such line.
     pub fn line_to_range(&self, line: usize) -> Option<Range<usize>>
-        ensures { MatchOption result (length (lines (text self.now)) ≤ line)
-            (λ range. IsRangeOfLine (text self.now) line range) }
+        ensures { MatchOption result (length (lines self.now.ends (text self.now.tree)) ≤ line)
+            (λ range. IsRangeOfLine self.now.ends (text self.now.tree) line range) }
     {
         self.lines.line_to_range(self.source.text(), line)
     }
@@ -163,11 +192,29 @@ impl Document {
     /// The byte at a line and a column, both from 0. `None` if no byte has them. The cost is a walk over the line.
     pub fn line_column_to_byte(&self, place: LineColumn, unit: ColumnUnit) -> Option<usize>
         ensures { MatchOption result
-            ((at : ℕ) → ¬ (IsPlace unit (text self.now) place.line place.column at))
-            (λ at. IsPlace unit (text self.now) place.line place.column at) }
+            ((at : ℕ) → ¬ (IsPlace self.now.ends unit (text self.now.tree) place.line place.column at))
+            (λ at. IsPlace self.now.ends unit (text self.now.tree) place.line place.column at) }
     {
         let text = self.source.text();
         self.lines
             .line_column_to_byte(text, place.line, place.column, unit)
     }
+
+    /// The byte at a line and a column, both from 0. A column past the line's text counts as its end, before the line
+    /// end. `None` if there is no such line, or if the column is within a character. The cost is a walk over the line.
+    pub fn line_column_to_byte_clamped(&self, place: LineColumn, unit: ColumnUnit) -> Option<usize>
+        ensures { MatchOption result
+            (HasNoClampedPlace self.now.ends unit (text self.now.tree) place.line place.column)
+            (λ at. IsClampedPlace self.now.ends unit (text self.now.tree) place.line place.column at) }
+    {
+        let text = self.source.text();
+        self.lines
+            .line_column_to_byte_clamped(text, place.line, place.column, unit)
+    }
 }
+
+/// A law of all texts: the tree of a text of markup has at most 133 levels, however its delimiters nest, since the trees of
+/// its blocks have at most 132. So a path in it has at most 132 child indices.
+pub fn documents_of_markup_are_shallow()
+    ensures { (source : List ℕ) → AreWithin 133 (document first source ∷ []) }
+{}

@@ -1,13 +1,14 @@
 //! Documents: texts that are edited together with their trees.
-ghost use Rattle.typst_session.specs.Documents.{Opens, EditsText};
+ghost use Rattle.typst_session.specs.Documents.{Opens, EditsText, SetsLineEnds};
 
 use crate::building::text_of;
 use crate::changes::Change;
 use crate::document::Document;
 use crate::refusal::Refusal;
-use crate::session::{Held, Session};
+use crate::session::{Held, LastEdit, Session};
 use std::alloc::Global;
 use std::ops::Range;
+use typst_lines::LineEnds;
 use typst_tree::FileId;
 
 /// What an edit of a text did.
@@ -32,7 +33,7 @@ impl Session {
         let text = text_of(text)?;
         let document = Document::new(alloc, file, text)?;
         self.held = Held::Document(document);
-        self.moves = None;
+        self.last = None;
         Ok(())
     }
 
@@ -55,13 +56,31 @@ impl Session {
             return Err(Refusal::Range);
         }
         let done = document.edit(alloc, range, with)?;
-        self.moves = Some(done.moves);
+        let change = Change {
+            depth: done.path.len(),
+            touched: done.touched,
+            moved: done.moves.moved().0.len(),
+        };
+        self.last = Some(LastEdit {
+            path: done.path,
+            moves: done.moves,
+        });
         Ok(TextChange {
             reparsed: done.reparsed,
-            change: Change {
-                depth: done.path.len(),
-                touched: done.touched,
-            },
+            change,
         })
+    }
+
+    /// Takes other line ends for the document's text. Until then these are [`LineEnds::Unicode`].
+    ///
+    /// It takes time in proportion to the text, and memory for the lines.
+    pub fn set_line_ends(&mut self, alloc: Global, ends: LineEnds) -> Result<(), Refusal>
+        ensures { SetsLineEnds ends self.old result self.new }
+    {
+        let Held::Document(document) = &mut self.held else {
+            return Err(Refusal::NoDocument);
+        };
+        document.set_line_ends(alloc, ends)?;
+        Ok(())
     }
 }

@@ -1,7 +1,7 @@
 //! Finding nodes of the tree that a session holds.
 ghost use Rattle.std.specs.Prelude.{◌≡◌, MatchResult};
 ghost use Rattle.typst_node.specs.Text.{offset};
-ghost use Rattle.typst_session.specs.Finding.{Finds, FindsByRange, FindsLeaf};
+ghost use Rattle.typst_session.specs.Finding.{Finds, FindsByCover, FindsByRange, FindsLeaf};
 ghost use Rattle.typst_session.specs.declared.refusal.Refusal.TheVariants.{Memory};
 
 use crate::refusal::Refusal;
@@ -63,6 +63,20 @@ impl Session {
             return Err(Refusal::NoTree);
         };
         match LinkedNode::new(root).find_range(alloc, range.start, range.end)? {
+            Some(node) => Found::of(alloc, &node),
+            None => Err(Refusal::NotFound),
+        }
+    }
+
+    /// Finds the smallest node that covers a range of bytes in the tree that is held, as [`LinkedNode::find_cover`] finds
+    /// it from the root.
+    pub fn find_cover(&self, alloc: Global, range: Range<usize>) -> Result<Found, Refusal>
+        ensures { FindsByCover range.start range.end self.now result }
+    {
+        let Some(root) = self.root() else {
+            return Err(Refusal::NoTree);
+        };
+        match LinkedNode::new(root).find_cover(alloc, range.start, range.end)? {
             Some(node) => Found::of(alloc, &node),
             None => Err(Refusal::NotFound),
         }

@@ -9,13 +9,13 @@
 
 pub use changes::Change;
 pub use diagnostics::{Diagnostic, DiagnosticSizes};
-pub use document::Document;
+pub use document::{Document, documents_of_markup_are_shallow};
 pub use documents::TextChange;
 pub use info::NodeInfo;
 pub use neighbors::Neighbor;
 pub use places::LineColumn;
 pub use refusal::Refusal;
-pub use session::{Held, Session};
+pub use session::{Held, LastEdit, Session};
 pub use views::{Asked, ViewAnswer};
 
 pub mod building;

@@ -1,7 +1,7 @@
 //! Lines and columns of the document's text.
 ghost use Rattle.std.specs.Prelude.{◌≡◌, IfOk, IfErr};
 ghost use Rattle.typst_session.specs.Documents.{HoldsNoDocument};
-ghost use Rattle.typst_session.specs.Places.{CountsLines, FindsByte, FindsLine, PlacesByte, WritesPart};
+ghost use Rattle.typst_session.specs.Places.{CountsLines, FindsByte, FindsByteClamped, FindsByteOfOffset, FindsLine, FindsOffset, PlacesByte, WritesPart};
 ghost use Rattle.typst_session.specs.declared.refusal.Refusal.TheVariants.{NoDocument};
 ghost use Rattle.typst_session.specs.declared.session.Held.TheVariants as held;
 
@@ -85,6 +85,41 @@ impl Session {
         ensures { FindsByte unit place.line place.column self.now result }
     {
         match self.document()?.line_column_to_byte(place, unit) {
+            Some(byte) => Ok(byte),
+            None => Err(Refusal::NoPlace),
+        }
+    }
+
+    /// The same with a column past the line's text taken as its end, before the line end. The cost is a walk over the
+    /// line.
+    pub fn line_column_to_byte_clamped(
+        &self,
+        place: LineColumn,
+        unit: ColumnUnit,
+    ) -> Result<usize, Refusal>
+        ensures { FindsByteClamped unit place.line place.column self.now result }
+    {
+        match self.document()?.line_column_to_byte_clamped(place, unit) {
+            Some(byte) => Ok(byte),
+            None => Err(Refusal::NoPlace),
+        }
+    }
+
+    /// How much of the document's text is before a byte. The cost is a walk over the text up to the byte.
+    pub fn byte_to_offset(&self, byte: usize, unit: ColumnUnit) -> Result<usize, Refusal>
+        ensures { FindsOffset unit byte self.now result }
+    {
+        match unit.byte_to_offset(self.document()?.text(), byte) {
+            Some(offset) => Ok(offset),
+            None => Err(Refusal::NoPlace),
+        }
+    }
+
+    /// The byte that has so much of the document's text before it. The cost is a walk over the text up to the byte.
+    pub fn offset_to_byte(&self, offset: usize, unit: ColumnUnit) -> Result<usize, Refusal>
+        ensures { FindsByteOfOffset unit offset self.now result }
+    {
+        match unit.offset_to_byte(self.document()?.text(), offset) {
             Some(byte) => Ok(byte),
             None => Err(Refusal::NoPlace),
         }

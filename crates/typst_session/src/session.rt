@@ -3,12 +3,13 @@ ghost use Rattle.std.specs.Prelude.{◌≡◌, [], None, Some, IfSome, IfOk, IfE
 ghost use Rattle.typst_node.specs.Numbered.{IsNumbered};
 ghost use Rattle.typst_node.specs.Paths.{IsPath, tree_at};
 ghost use Rattle.typst_session.specs.Reading.{IsNoNode};
-ghost use Rattle.typst_session.specs.Sessions.{root_of};
+ghost use Rattle.typst_session.specs.Sessions.{Copies, root_of};
 ghost use Rattle.typst_session.specs.declared.session.Held.TheVariants.{Nothing};
 
+use crate::building::copies;
 use crate::document::Document;
 use crate::refusal::Refusal;
-use std::alloc::Global;
+use std::alloc::{AllocError, Global};
 use typst_node::Moves;
 use typst_tree::{NumberedTree, SyntaxNode, node_at};
 
@@ -19,9 +20,18 @@ pub struct Session {
     pub stack: Vec<SyntaxNode>,
     /// The tree that is read and edited, if there is one.
     pub held: Held,
-    /// Where the nodes of the tree are after its last edit. `None` if the tree wasn't edited since it was made or
-    /// numbered, or if its last edit was [`Session::replace`].
-    pub moves: Option<Moves>,
+    /// The last edit of the tree. `None` if the tree wasn't edited since it was made, copied or numbered, or if its last
+    /// edit was [`Session::replace`].
+    pub last: Option<LastEdit>,
+}
+
+/// What a session keeps of the last edit of its tree.
+#[derive(Drop)]
+pub struct LastEdit {
+    /// The path to the node whose children were changed. It is empty if the root itself was changed.
+    pub path: Vec<usize>,
+    /// Where the nodes of the tree are after the edit.
+    pub moves: Moves,
 }
 
 /// The tree that a session holds.
@@ -35,18 +45,46 @@ pub enum Held {
     Document(Document),
 }
 
+impl Held {
+    /// A copy of the tree, with all its numbers. A document's text and lines come with it.
+    fn copy(&self) -> Result<Held, AllocError>
+        ensures { IfOk result (λ copy. copy ≡ self.now) }
+    {
+        match self {
+            Held::Nothing => Ok(Held::Nothing),
+            Held::Tree(tree) => Ok(Held::Tree(tree.clone()?)),
+            Held::Document(document) => Ok(Held::Document(document.clone()?)),
+        }
+    }
+}
+
 impl Session {
     /// An empty stack, and no tree.
     pub fn new(alloc: Global) -> Session
         ensures stack { result.stack.items ≡ [] }
         ensures held { result.held ≡ Nothing }
-        ensures moves { result.moves ≡ None }
+        ensures last { result.last ≡ None }
     {
         Session {
             stack: Vec::new(alloc),
             held: Held::Nothing,
-            moves: None,
+            last: None,
         }
+    }
+
+    /// A copy of the stack and of the tree that is held, with all its numbers. No number can be followed into the copy.
+    ///
+    /// It takes time and memory in proportion to the stack and the tree.
+    pub fn copy(&self, alloc: Global) -> Result<Session, Refusal>
+        ensures { Copies self.now result }
+    {
+        let stack = copies(alloc, &self.stack)?;
+        let held = self.held.copy()?;
+        Ok(Session {
+            stack,
+            held,
+            last: None,
+        })
     }
 
     /// The root of the tree that is held.

@@ -37,7 +37,7 @@ impl Session {
         match NumberedTree::number(root, file, within) {
             Ok(tree) => {
                 self.held = Held::Tree(tree);
-                self.moves = None;
+                self.last = None;
                 Ok(())
             }
             Err(_) => unreachable!(),
@@ -63,7 +63,7 @@ impl Session {
         }
         match tree.renumber(file, within) {
             Ok(()) => {
-                self.moves = None;
+                self.last = None;
                 Ok(())
             }
             Err(_) => Err(Refusal::Unnumberable),
@@ -83,7 +83,7 @@ impl Session {
         let Held::Tree(tree) = mem::replace(&mut self.held, Held::Nothing) else {
             unreachable!();
         };
-        self.moves = None;
+        self.last = None;
         match self.stack.push(tree.into_root()) {
             Ok(()) => Ok(()),
             Err(_) => unreachable!(),
@@ -117,7 +117,7 @@ impl Session {
         match tree.replace(alloc, path, range, nodes) {
             Ok(window) => {
                 self.stack.truncate(start);
-                self.moves = None;
+                self.last = None;
                 Ok(window)
             }
             Err(error) => Err(Refusal::from(error)),

@@ -33,12 +33,20 @@ pub(crate) fn window(alloc: Global, outcome: Result<Renumbered, Refusal>) -> Ans
     }
 }
 
-/// How deep the node is whose children were edited, and the window or the leaf there, as `1: 2..3 of 1` or `1: leaf 2`.
+/// How deep the node is whose children were edited, the window or the leaf there, and how many nodes moved, as
+/// `1: 2..3 of 1`, `1: 2..5 of 2, 2 moved` or `1: leaf 2`.
 fn changed(alloc: Global, change: &Change) -> Result<String, AllocError> {
-    let depth = change.depth;
+    let (depth, moved) = (change.depth, change.moved);
     match &change.touched {
         Touched::Leaf { index } => format!(in alloc; "{depth}: leaf {index}"),
-        Touched::Window(done) => format!(in alloc; "{depth}: {:?} of {}", done.window, done.tried),
+        Touched::Window(done) => {
+            let (window, tried) = (&done.window, done.tried);
+            if moved == 0 {
+                format!(in alloc; "{depth}: {window:?} of {tried}")
+            } else {
+                format!(in alloc; "{depth}: {window:?} of {tried}, {moved} moved")
+            }
+        }
     }
 }
 

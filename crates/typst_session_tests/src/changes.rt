@@ -2,9 +2,9 @@
 use crate::answers::{Answer, change, done, found, update, value};
 use crate::calls::Call::{Change, Held, Labels, Stack};
 use crate::calls::{Call, follow};
-use crate::held::HeldCall::{Number, Open, Renumber, Replace};
+use crate::held::HeldCall::{Copy, Edit, Number, Open, Renumber, Replace};
 use crate::stack::StackCall::{PushCopy, PushLeaf};
-use ChangeCall::{FindRange, Follow, LineToRange, Reconcile, Send, TextIn, Update};
+use ChangeCall::{EditedPath, FindRange, Follow, LineToRange, Reconcile, Send, TextIn, Update};
 use std::alloc::Global;
 use std::str;
 use std::test::Fail;
@@ -19,6 +19,8 @@ pub(crate) enum ChangeCall {
     Update,
     /// By a number.
     Follow(u64),
+    /// The path of the last edit.
+    EditedPath,
     /// Sends the last node to a session of its own, and shows its stack.
     Send,
     /// By the first byte and the end.
@@ -37,6 +39,7 @@ pub(crate) fn answer(alloc: Global, session: &mut Session, call: ChangeCall) -> 
         }
         ChangeCall::Update => update(alloc, session.update(alloc)),
         ChangeCall::Follow(number) => value(alloc, session.follow(number)),
+        ChangeCall::EditedPath => value(alloc, session.edited_path()),
         ChangeCall::Send => sent(alloc, session),
         ChangeCall::FindRange(from, to) => found(alloc, session.find_range(alloc, from..to)),
         ChangeCall::TextIn(from, to, room) => text_in(alloc, session, from, to, room),
@@ -69,6 +72,7 @@ fn text_in(alloc: Global, session: &Session, from: usize, to: usize, room: usize
 /// Calls on a tree whose six nodes get the numbers 7, 17, .. 57.
 const FOLLOWED: &[(Call, &str)] = &[
     (Change(Follow(47)), "there is no edit to follow"),
+    (Change(EditedPath), "there is no edit to follow"),
     (Change(Update), "there is no tree"),
     (Change(Reconcile(&[], 0, 0, 0)), "there is no tree"),
     (Held(Number(1, 2, 122)), "done"),
@@ -91,6 +95,7 @@ const FOLLOWED: &[(Call, &str)] = &[
     // A text becomes another one, and keeps its number.
     (Change(Reconcile(&[1], 1, 2, 1)), "1: leaf 1"),
     (Change(Follow(47)), "47"),
+    (Change(EditedPath), "[1]"),
     // A space comes before it. There is room between 37 and 47.
     (Stack(PushLeaf(7, b" ")), "done"),
     (Change(Reconcile(&[1], 1, 1, 1)), "1: 1..2 of 1"),
@@ -107,6 +112,7 @@ const FOLLOWED: &[(Call, &str)] = &[
     (Change(Follow(17)), "17"),
     (Stack(PushCopy(&[0])), "done"),
     (Change(Update), "root"),
+    (Change(EditedPath), "[]"),
     (Change(Follow(17)), "there is no such node"),
     // A leaf gets the number in the middle. No number is followed over new numbers.
     (Held(Renumber(1, 2, 4)), "done"),
@@ -173,4 +179,30 @@ const REPLACED: &[(Call, &str)] = &[
 #[test]
 fn no_number_is_followed_over_a_replacement(rt: HostRuntime) -> Result<(), Fail> {
     follow(&rt, rt.alloc(), "Markup[ Text:a ]", REPLACED)
+}
+
+/// Calls on a tree of three nodes with few numbers, and then on a document.
+const MOVED: &[(Call, &str)] = &[
+    (Held(Number(1, 10, 17)), "done"),
+    (Labels, "10..17[11..12 12..13]"),
+    // Between 11 and 12 there is no room, so both neighbors move.
+    (Stack(PushLeaf(7, b" ")), "done"),
+    (Change(Reconcile(&[], 1, 1, 1)), "0: 0..3 of 2, 2 moved"),
+    (Labels, "10..17[11..12 12..13 13..14]"),
+    (Change(Follow(12)), "13"),
+    (Change(EditedPath), "[]"),
+    // A copy has the same numbers, but no edit.
+    (Held(Copy), "done"),
+    (Labels, "10..17[11..12 12..13 13..14]"),
+    (Change(Follow(12)), "there is no edit to follow"),
+    (Change(EditedPath), "there is no edit to follow"),
+    // The title of a heading is its third child.
+    (Held(Open(1, b"= ab\n")), "done"),
+    (Held(Edit(3, 4, b"c")), "0..5 parsed, 2: leaf 0"),
+    (Change(EditedPath), "[0, 2]"),
+];
+
+#[test]
+fn nodes_that_stay_move_and_the_path_is_told(rt: HostRuntime) -> Result<(), Fail> {
+    follow(&rt, rt.alloc(), "Markup[ Text:a Text:b ]", MOVED)
 }

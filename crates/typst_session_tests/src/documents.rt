@@ -4,7 +4,7 @@ use DocumentCall::{ByteToLineColumn, Edit, LineColumnToByte, Shown};
 use std::alloc::{AllocError, Global};
 use std::ops::Range;
 use std::test::Fail;
-use typst_lines::ColumnUnit;
+use typst_lines::{ColumnUnit, LineEnds};
 use typst_session::{Change, Document, LineColumn, Refusal, TextChange};
 use typst_tree::FileId;
 
@@ -55,7 +55,12 @@ fn edit(alloc: Global, document: &mut Document, range: Range<usize>, with: &str)
     match document.edit(alloc, range, with) {
         Ok(done) => {
             let (depth, touched) = (done.path.len(), done.touched);
-            let change = Change { depth, touched };
+            let moved = done.moves.moved().0.len();
+            let change = Change {
+                depth,
+                touched,
+                moved,
+            };
             let reparsed = done.reparsed;
             edited(alloc, Ok(TextChange { reparsed, change }))
         }
@@ -101,5 +106,20 @@ fn a_document_answers_without_a_session(rt: HostRuntime) -> Result<(), Fail> {
         let said = said(alloc, &mut document, *call)?;
         assert_eq!(rt; said.as_str(), *wanted);
     }
+    Ok(())
+}
+
+#[test]
+fn line_ends_stay_over_edits_and_in_copies(rt: HostRuntime) -> Result<(), Fail> {
+    let alloc = rt.alloc();
+    let mut document = Document::new(alloc, FileId::FIRST, "a\x0bb\n")?;
+    document.set_line_ends(alloc, LineEnds::Editor)?;
+    assert_eq!(rt; document.len_lines(), 2);
+    assert!(rt; edit(alloc, &mut document, 3..3, "\x0bc\n").is_ok());
+    let copy = document.clone()?;
+    assert_eq!(rt; copy.len_lines(), 3);
+    assert_eq!(rt; copy.text(), "a\x0bb\x0bc\n\n");
+    document.set_line_ends(alloc, LineEnds::Unicode)?;
+    assert_eq!(rt; (document.len_lines(), copy.len_lines()), (5, 3));
     Ok(())
 }

@@ -3,7 +3,9 @@ use crate::answers::{Answer, found, value};
 use crate::calls::Call::{Find, Held};
 use crate::calls::{Call, follow};
 use crate::held::HeldCall::Number;
-use FindCall::{ByNumber, ChildOfClass, LeafAt, NextTo, RangeOf, SpanlessEq, SpanlessEqText};
+use FindCall::{
+    ByNumber, ChildOfClass, Covering, LeafAt, NextTo, RangeOf, SpanlessEq, SpanlessEqText,
+};
 use std::alloc::Global;
 use std::test::Fail;
 use typst_session::Neighbor::{NextLeaf, NextSibling, PrevLeaf, PrevSibling};
@@ -16,6 +18,8 @@ use typst_tree::Side::{After, Before};
 pub(crate) enum FindCall {
     /// By a number.
     ByNumber(u64),
+    /// By the first byte and the end.
+    Covering(usize, usize),
     /// By a cursor and a side of it.
     LeafAt(usize, Side),
     /// By a path.
@@ -34,6 +38,7 @@ pub(crate) enum FindCall {
 pub(crate) fn answer(alloc: Global, session: &Session, call: FindCall) -> Answer {
     match call {
         FindCall::ByNumber(number) => found(alloc, session.find(alloc, number)),
+        FindCall::Covering(from, to) => found(alloc, session.find_cover(alloc, from..to)),
         FindCall::LeafAt(cursor, side) => found(alloc, session.leaf_at(alloc, cursor, side)),
         FindCall::RangeOf(path) => value(alloc, session.range(alloc, path)),
         FindCall::NextTo(path, which) => found(alloc, session.neighbor(alloc, path, which)),
@@ -58,6 +63,7 @@ fn equals_text(alloc: Global, session: &Session, path: &[usize], text: &[u8]) ->
 const TREE: &[(Call, &str)] = &[
     (Find(ByNumber(10)), "there is no tree"),
     (Find(LeafAt(1, After)), "there is no tree"),
+    (Find(Covering(0, 1)), "there is no tree"),
     (Find(RangeOf(&[])), "there is no tree"),
     (Find(NextTo(&[], NextLeaf)), "there is no tree"),
     (Find(ChildOfClass(&[], 259, 0, false)), "there is no tree"),
@@ -72,6 +78,14 @@ const TREE: &[(Call, &str)] = &[
     (Find(LeafAt(5, Before)), "[0] at 0"),
     (Find(LeafAt(6, After)), "[2, 0] at 6"),
     (Find(LeafAt(14, After)), "there is no such node"),
+    (Find(Covering(0, 14)), "[] at 0"),
+    (Find(Covering(0, 5)), "[0] at 0"),
+    (Find(Covering(1, 3)), "[0] at 0"),
+    (Find(Covering(4, 7)), "[] at 0"),
+    (Find(Covering(7, 8)), "[2, 0] at 6"),
+    (Find(Covering(6, 6)), "[1] at 5"),
+    (Find(Covering(14, 14)), "[3] at 9"),
+    (Find(Covering(13, 15)), "there is no such node"),
     (Find(RangeOf(&[2, 0])), "6..9"),
     (Find(RangeOf(&[2, 1])), "the path leads to no node"),
     (Find(NextTo(&[0], NextLeaf)), "[2, 0] at 6"),

@@ -3,9 +3,10 @@ use crate::answers::{Answer, done, edited, window};
 use crate::calls::Call::{Held, Labels, Nodes, Stack};
 use crate::calls::{Call, follow};
 use crate::stack::StackCall::{PushCopy, PushLeaf};
-use HeldCall::{Edit, Number, Open, Renumber, Replace, TakeTree};
+use HeldCall::{Copy, Edit, Number, Open, Renumber, Replace, TakeTree};
 use std::alloc::Global;
 use std::test::Fail;
+use typst_lines::LineEnds;
 use typst_session::Session;
 
 /// A call that changes what is held.
@@ -23,6 +24,10 @@ pub(crate) enum HeldCall {
     Open(u16, &'static [u8]),
     /// By the first byte and the end of the bytes that go, and a text.
     Edit(usize, usize, &'static [u8]),
+    /// By what ends lines.
+    SetLineEnds(LineEnds),
+    /// Goes on with a copy of the session.
+    Copy,
 }
 
 /// What the call answers.
@@ -36,7 +41,16 @@ pub(crate) fn answer(alloc: Global, session: &mut Session, call: HeldCall) -> An
         }
         HeldCall::Open(file, text) => done(alloc, session.open(alloc, file, text)),
         HeldCall::Edit(start, end, with) => edited(alloc, session.edit(alloc, start..end, with)),
+        HeldCall::SetLineEnds(ends) => done(alloc, session.set_line_ends(alloc, ends)),
+        HeldCall::Copy => copied(alloc, session),
     }
+}
+
+/// Puts a copy in place of the session.
+fn copied(alloc: Global, session: &mut Session) -> Answer {
+    let copy = session.copy(alloc)?;
+    *session = copy;
+    done(alloc, Ok(()))
 }
 
 /// The end of all numbers.
@@ -93,6 +107,8 @@ const NUMBERED: &[(Call, &str)] = &[
     (Held(Replace(&[], 1, 1, 1)), "1..2 of 1"),
     (Labels, "7..62[17..18 20..21 27..28]"),
     (Stack(PushCopy(&[3])), "the path leads to no node"),
+    (Held(Copy), "done"),
+    (Labels, "7..62[17..18 20..21 27..28]"),
     (Stack(PushCopy(&[1])), "done"),
     (Held(TakeTree), "done"),
     (Held(TakeTree), "there is no tree"),
@@ -147,8 +163,13 @@ const EDITED: &[(Call, &str)] = &[
         Nodes,
         r#"[], Markup: 48 [Heading: 7 [HeadingMarker: "=", Space: " ", Markup: 5 [Text: "Notes"]], Parbreak: "\n\n", Text: "Some more", Space: " ", Strong: 6 [Star: "*", Markup: 4 [Text: "text"], Star: "*"], Text: ".", Parbreak: "\n\n", Text: "The last paragraph.", Space: "\n"]"#,
     ),
+    (Stack(PushLeaf(6, b"a")), "done"),
+    (Held(Copy), "done"),
+    (Held(Edit(20, 21, b"n")), "9..28 parsed, 2: leaf 0"),
     (Held(Open(2, b"")), "done"),
-    (Nodes, "[], Markup: 0"),
+    (Nodes, "[Text: \"a\"], Markup: 0"),
+    (Held(Copy), "done"),
+    (Nodes, "[Text: \"a\"], Markup: 0"),
 ];
 
 #[test]

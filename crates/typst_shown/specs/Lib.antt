@@ -1,2 +1,3 @@
-pub mod Asked
 pub mod PlacedEdit
+pub mod Report
+pub mod Rows

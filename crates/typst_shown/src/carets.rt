@@ -1,6 +1,8 @@
 //! Errors and warnings, each with its line of the text and with carets under the part that it is about.
 ghost use Rattle.typst_lines.specs.LineTable.{AreLines};
 
+use crate::line_end::without_end;
+use crate::paint::Ink;
 use crate::shown::Shown;
 use std::alloc::{AllocError, Global};
 use std::io;
@@ -38,11 +40,17 @@ pub fn write_reports<W: Write>(alloc: Global, out: &mut W, shown: &Shown<'_>) ->
     }
     let lines = Lines::new(alloc, shown.text)?;
     let (errors, warnings) = shown.root.errors_and_warnings(alloc)?;
+    let is_coloured = shown.manner.is_coloured;
     for found in errors.iter().chain(warnings.iter()) {
         out.write_all(b"\n")?;
-        let severity = if found.is_error { "error" } else { "warning" };
+        let (severity, ink) = if found.is_error {
+            ("error", Ink::Error)
+        } else {
+            ("warning", Ink::Warning)
+        };
         let message = found.message.as_str();
-        writeln!(out, "{severity}: {message}")?;
+        ink.write(out, is_coloured, severity)?;
+        writeln!(out, ": {message}")?;
         let part = match place_of(shown.root, &found.span) {
             Some(range) => excerpt_of(&lines, shown.text, &range),
             None => None,
@@ -72,7 +80,7 @@ fn excerpt_of<'a>(lines: &Lines, text: &'a str, part: &Range<usize>) -> Option<E
     let column = lines.byte_to_column(text, part.start, ColumnUnit::Character)?;
     let whole = lines.line_to_range(text, line)?;
     let rest = text.get(part.start..whole.end)?;
-    let rest = rest.trim_end_matches(['\r', '\n']);
+    let rest = without_end(rest);
     let len = part.end.saturating_sub(part.start).min(rest.len());
     Some(Excerpt {
         line: line.saturating_add(1),

@@ -2,10 +2,12 @@
 ghost use Rattle.std.specs.Prelude.{◌≡◌, IfOk, IsErr};
 ghost use Rattle.std.specs.Str.{IsCharBoundary};
 ghost use Rattle.typst_lines.specs.LineTable.{AreLines};
+ghost use Rattle.typst_lines.specs.declared.ends.LineEnds.TheVariants.{Unicode};
 ghost use Rattle.typst_source.specs.Fits.{FitsText};
 ghost use Rattle.typst_shown.specs.PlacedEdit.{IsByteOf, IsRangeOf};
 
 use crate::edit_line::{EditLine, LineError, Place};
+use crate::line_end::without_end;
 use crate::misfit::Misfit;
 use crate::problem::Problem;
 use std::alloc::{AllocError, Global};
@@ -54,7 +56,7 @@ pub(crate) fn range_of(
     edit: &EditLine,
 ) -> Result<Result<Range<usize>, Misfit>, AllocError>
     ensures fits { IfOk result (λ placed. IfOk placed (FitsText text.now)) }
-    ensures range { IfOk result (λ placed. IfOk placed (IsRangeOf text.now edit.now)) }
+    ensures range { IfOk result (λ placed. IfOk placed (IsRangeOf Unicode text.now edit.now)) }
 {
     let lines = Lines::new(alloc, text)?;
     Ok(placed(&lines, text, edit))
@@ -64,7 +66,7 @@ pub(crate) fn range_of(
 fn placed(lines: &Lines, text: &str, edit: &EditLine) -> Result<Range<usize>, Misfit>
     requires { AreLines lines.now text.now }
     ensures fits { IfOk result (FitsText text.now) }
-    ensures range { IfOk result (IsRangeOf text.now edit.now) }
+    ensures range { IfOk result (IsRangeOf lines.now.ends text.now edit.now) }
 {
     let start = byte_of(lines, text, edit.start, "starts")?;
     let end = byte_of(lines, text, edit.end, "ends")?;
@@ -78,7 +80,7 @@ fn placed(lines: &Lines, text: &str, edit: &EditLine) -> Result<Range<usize>, Mi
 fn byte_of(lines: &Lines, text: &str, place: Place, end: &'static str) -> Result<usize, Misfit>
     requires { AreLines lines.now text.now }
     ensures boundary { IfOk result (IsCharBoundary text.now) }
-    ensures byte { IfOk result (IsByteOf text.now place) }
+    ensures byte { IfOk result (IsByteOf lines.now.ends text.now place) }
 {
     match place {
         Place::Byte(byte) => boundary(text, byte, end),
@@ -129,7 +131,7 @@ fn no_place(lines: &Lines, text: &str, line: usize, column: usize, end: &'static
             end,
             line,
             column,
-            chars: whole.trim_end_matches(['\r', '\n']).chars().count(),
+            chars: without_end(whole).chars().count(),
         },
     }
 }

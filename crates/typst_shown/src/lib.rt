@@ -1,16 +1,33 @@
-//! What the programs of `./show` share: how they learn what is asked, what they read, what they draw in a terminal, and
-//! the problems that they report.
+//! What `./show` reads, what it draws in a terminal, and the problems that it reports.
 //!
-//! No code here asks for a view. So this crate doesn't build on the crates with the views, and neither does the program
-//! that shows the tree of a text. Nor does it read the words of `./show`: `typst_show_words` does.
-//! `typst_rows`, on which it builds, says in its contracts that the rows are those of all nodes in preorder, and that the
-//! report of an edit is what the edit returned.
+//! No code here asks for a view, so this crate is proved beside the crates with the views. [`rows`] lists the nodes of a
+//! tree in preorder, each with its own range, number and bound. An [`EditReport`] says what [`Source::edit`] answered,
+//! counted in bytes and nodes, and what became of each node.
+//!
+//! This goes over the rows of a tree, and indents each by its depth:
+//!
+//! ```text
+//! for row in &rows(alloc, shown.root)? {
+//!     for _ in 0..row.depth {
+//!         out.write_all(b"  ")?;
+//!     }
+//!     let kind = row.kind;
+//!     let own = shown.text.get(row.start..row.end).unwrap_or("");
+//!     ..
+//! }
+//! ```
+//!
+//! [`Source::edit`]: typst_source::Source::edit
 #![tactic(auto)]
 
-pub use asked::{Asked, Form};
+pub use asked::{Asked, Form, Manner, Wanted};
 pub use edits::NumberedEdit;
+pub use listed::rows;
 pub use problem::Problem;
+pub use report::{EditReport, NodeStatus};
+pub use row::Row;
 pub use shown::Shown;
+pub use status::Status;
 pub use text::Text;
 
 mod asked;
@@ -18,14 +35,22 @@ pub mod carets;
 pub mod drawing;
 mod edit_line;
 mod edits;
+mod line_end;
+mod listed;
 mod misfit;
+pub mod of_kind;
+mod paint;
+pub mod part;
+pub mod places;
 pub mod plain;
 mod problem;
 pub mod quoted;
 pub mod reading;
-pub mod report;
+mod report;
+mod row;
 mod shown;
-pub mod start;
+mod status;
 pub mod terminal;
 mod text;
+pub mod told;
 pub mod trail;

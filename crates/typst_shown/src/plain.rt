@@ -1,11 +1,11 @@
 //! Only kinds and texts, with two blanks for each level. Trees are compared in this form.
 
+use crate::listed::rows;
 use crate::shown::Shown;
 use std::alloc::Global;
 use std::io;
 use std::io::Write;
 use typst_base::SyntaxKind;
-use typst_rows::rows;
 
 /// Writes one node per line: a leaf with its text, an error with its text and message.
 pub fn write_plain<W: Write>(alloc: Global, out: &mut W, shown: &Shown<'_>) -> io::Result<()> {

@@ -1,7 +1,7 @@
 //! What can go wrong, as it is reported on standard error.
 
 use crate::misfit::Misfit;
-use crate::start::Report;
+use crate::status::Status;
 use std::alloc::{AllocError, AllocFailed};
 use std::io;
 use std::io::ErrorKind;
@@ -11,9 +11,15 @@ use typst_source::SourceError;
 /// Why nothing more is shown.
 #[derive(Debug, Drop, Error)]
 pub enum Problem<'a> {
-    #[error("{program} can't do what its arguments ask: run ./show, which starts it with the right ones")]
-    NotAsked {
-        program: &'static str,
+    #[error("standard input can't be both the text and its edits: name a file for one of them")]
+    TwoInputs,
+    #[error("--kind {name}: there is no such kind: docs/KINDS.md lists them, as in --kind Heading")]
+    NoKind {
+        name: &'a str,
+    },
+    #[error("--lines {word}: expected a first and a last line, which count from 1, as in --lines 3-8")]
+    NoLines {
+        word: &'a str,
     },
     #[error("{file}: there is no such file")]
     NoFile {
@@ -67,11 +73,15 @@ pub enum Problem<'a> {
     Write(io::Error),
 }
 
-impl<'a> Report for Problem<'a> {
-    /// The status: 1 for files and memory, and 2 for what is asked and for edits.
-    fn status(&self) -> u8 {
+impl<'a> Problem<'a> {
+    /// How `./show` ends after this problem.
+    pub fn status(&self) -> Status {
         match self {
-            Problem::NotAsked { .. } | Problem::BadEdit { .. } | Problem::Misfit { .. } => 2,
+            Problem::TwoInputs
+            | Problem::NoKind { .. }
+            | Problem::NoLines { .. }
+            | Problem::BadEdit { .. }
+            | Problem::Misfit { .. } => Status::Wrong,
             Problem::NoFile { .. }
             | Problem::Folder { .. }
             | Problem::Read { .. }
@@ -80,12 +90,10 @@ impl<'a> Report for Problem<'a> {
             | Problem::Refused { .. }
             | Problem::Memory
             | Problem::Save { .. }
-            | Problem::Write(_) => 1,
+            | Problem::Write(_) => Status::Failed,
         }
     }
-}
 
-impl<'a> Problem<'a> {
     /// A file can't be opened or read.
     pub fn of_reading(file: &'a str, error: io::Error) -> Problem<'a> {
         match error.kind() {

@@ -1,15 +1,15 @@
 //! A text that is shown, at first and again after each edit.
 
-use crate::asked::Asked;
+use crate::asked::{Asked, Manner, Wanted};
 use crate::edits::{NumberedEdit, parse_edits, range_of};
 use crate::problem::Problem;
 use crate::reading::read;
+use crate::report::EditReport;
 use crate::shown::Shown;
 use std::alloc::Global;
 use std::rt::Files;
 use typst_base::FileId;
 use typst_markup::Markup;
-use typst_rows::EditReport;
 use typst_source::Source;
 
 /// A text with its tree, and the names of its file and of the file with its edits.
@@ -17,6 +17,8 @@ use typst_source::Source;
 pub struct Text<'a> {
     file: &'a str,
     edits_file: &'a str,
+    wanted: Wanted,
+    manner: Manner,
     source: Source<Markup>,
 }
 
@@ -28,6 +30,9 @@ impl<'a> Text<'a> {
     ) -> Result<(Text<'a>, Vec<NumberedEdit>), Problem<'a>> {
         let alloc = rt.alloc();
         let file = asked.file;
+        if file == "-" && asked.edits == Some("-") {
+            return Err(Problem::TwoInputs);
+        }
         let text = read(rt, file)?;
         let edits = match asked.edits {
             None => Vec::new(alloc),
@@ -38,6 +43,8 @@ impl<'a> Text<'a> {
                 Text {
                     file,
                     edits_file: asked.edits.unwrap_or("-"),
+                    wanted: asked.wanted,
+                    manner: asked.manner,
                     source,
                 },
                 edits,
@@ -52,6 +59,8 @@ impl<'a> Text<'a> {
             file: self.file,
             text: self.source.text(),
             root: self.source.root(),
+            wanted: self.wanted,
+            manner: self.manner,
         }
     }
 

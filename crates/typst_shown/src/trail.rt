@@ -3,7 +3,6 @@
 use std::alloc::{AllocError, Global};
 use std::io;
 use std::io::Write;
-use typst_rows::Row;
 
 /// The nodes from a child of the root down to the last one that was drawn.
 #[derive(Drop)]
@@ -20,13 +19,13 @@ impl Trail {
         }
     }
 
-    /// Moves on to the node of a row. Rows come in preorder.
-    pub fn go_to(&mut self, row: &Row) -> Result<(), AllocError> {
-        let Some(above) = row.depth.checked_sub(1) else {
+    /// Moves on to a line with so many nodes above it, which may be the last one below its parent. Lines come in preorder.
+    pub fn go_to(&mut self, depth: usize, is_last: bool) -> Result<(), AllocError> {
+        let Some(above) = depth.checked_sub(1) else {
             return Ok(());
         };
         self.are_last.truncate(above);
-        self.are_last.push(row.is_last)?;
+        self.are_last.push(is_last)?;
         Ok(())
     }
 

@@ -10,3 +10,4 @@ pub mod Edits
 pub mod Ran
 pub mod Followed
 pub mod TooLarge
+pub mod Depths

@@ -1,4 +1,5 @@
 pub mod Blocks
+pub mod Depth
 pub mod Parsed
 pub mod Reparsed
 pub mod Extents

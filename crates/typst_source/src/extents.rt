@@ -57,6 +57,17 @@ impl Model for Extents {
     ghost invariant = { λ a. IsBeginning a.list.items a.near };
 }
 
+impl Clone for Extents {
+    ghost is_clone = { λ extents copy. copy.items ≡ extents.items };
+
+    fn clone(&self) -> Result<Extents, AllocError> {
+        Ok(Extents {
+            list: self.list.clone()?,
+            near: self.near,
+        })
+    }
+}
+
 impl Extent {
     /// The extent of no bytes.
     const EMPTY: Extent = Extent {

@@ -22,7 +22,7 @@
 
 pub use edited::Edited;
 pub use error::SourceError;
-pub use parser::{BlockParser, ParsedBlock};
+pub use parser::{BlockParser, ParsedBlock, documents_are_shallow};
 pub use runs::{Outcome, TextEdit};
 pub use source::Source;
 

@@ -29,7 +29,7 @@ use typst_node::SyntaxNode;
 const TOO_MANY_NODES: usize = 1 << 46;
 
 /// The tree of a text, with how far the text's blocks extend.
-#[derive(Drop)]
+#[derive(Clone, Drop)]
 pub(crate) struct Parsed {
     /// The root of the tree.
     pub(crate) root: SyntaxNode,

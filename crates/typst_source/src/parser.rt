@@ -1,10 +1,11 @@
 //! What a parser must keep so that a part of a text can be parsed anew.
-ghost use Rattle.std.specs.Prelude.{ℕ, ◌≡◌, ◌<◌, ◌≤◌, List, ◌↔◌, length, take, IfOk, IsErrOf};
+ghost use Rattle.std.specs.Prelude.{ℕ, suc, ◌≡◌, ◌<◌, ◌≤◌, List, [], ◌∷◌, ◌↔◌, length, take, IfOk, IsErrOf};
 ghost use Rattle.std.specs.Str.{IsUtf8, IsCharBoundary};
 ghost use Rattle.typst_node.specs.Count.{SumsFit};
 ghost use Rattle.typst_node.specs.Text.{text_of_all};
 ghost use Rattle.typst_node.specs.declared.node.build.InnerError.TheVariants.{Overflow};
-ghost use Rattle.typst_source.specs.Blocks.{Block, blocks, AreBlocks};
+ghost use Rattle.typst_source.specs.Blocks.{Block, blocks, document, AreBlocks};
+ghost use Rattle.typst_source.specs.Depth.{AreWithin};
 ghost use Rattle.typst_source.specs.Parsed.{IsParsedBlock};
 
 use std::alloc::Global;
@@ -59,4 +60,11 @@ pub trait BlockParser {
 /// A text has exactly one list of blocks: its first block, and then the blocks of the text after that.
 pub fn blocks_are_determined<P: BlockParser>()
     ensures { (text : List ℕ) (bs : List Block) → AreBlocks P.first text bs ↔ (bs ≡ blocks P.first text) }
+{}
+
+/// A law of all texts: if the trees of each block nest at most so deep, a whole tree nests at most one level deeper, since
+/// its root has the trees of all blocks as its children.
+pub fn documents_are_shallow<P: BlockParser>()
+    ensures { (depth : ℕ) → ((text : List ℕ) → AreWithin depth (P.first text).trees)
+        → (text : List ℕ) → AreWithin (suc depth) (document P.first text ∷ []) }
 {}

@@ -22,7 +22,7 @@ use crate::edited::Edited;
 use crate::error::SourceError;
 use crate::parsed::Parsed;
 use crate::parser::BlockParser;
-use std::alloc::Global;
+use std::alloc::{AllocError, Global};
 use std::fmt::{self, Debug, Formatter, Write};
 use std::marker::Model;
 use std::ops::Range;
@@ -124,6 +124,20 @@ impl<P: BlockParser + Drop> Source<P> {
         range.start <= range.end
             && text.is_char_boundary(range.start)
             && text.is_char_boundary(range.end)
+    }
+}
+
+impl<P: BlockParser + Clone + Drop> Clone for Source<P> {
+    ghost is_clone = { λ source copy. copy ≡ source };
+
+    /// Copies the text and its tree, with all spans. It takes time and memory in proportion to both, and fails only if
+    /// memory is refused.
+    fn clone(&self) -> Result<Source<P>, AllocError> {
+        Ok(Source {
+            content: self.content.clone()?,
+            parsed: self.parsed.clone()?,
+            parser: self.parser.clone()?,
+        })
     }
 }
 

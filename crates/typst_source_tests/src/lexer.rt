@@ -1,5 +1,6 @@
-//! Tests of `typst_scanner` and `typst_lexer`.
+//! Tests of `typst_scanner`, `typst_lexer` and `typst_tokens`.
 mod blocks;
+mod modes;
 mod rows;
 mod tokens;
 mod words;

@@ -15,7 +15,7 @@ ghost use Rattle.typst_tree.specs.Step.{Step};
 ghost use Rattle.typst_tree.specs.declared.session.Request.TheVariants.{Find};
 
 use crate::session::{self, Reply, Request, Slot};
-use std::alloc::Global;
+use std::alloc::{AllocError, Global};
 use std::fmt;
 use std::marker::Model;
 use std::ops::Range;
@@ -46,6 +46,17 @@ pub struct TooFewNumbers {
 pub struct NotNumbered {
     /// The tree, as it was.
     pub tree: SyntaxNode,
+}
+
+/// A copy with all spans. It takes time and memory in proportion to the tree, and fails only if memory is refused.
+impl Clone for NumberedTree {
+    ghost is_clone = { λ tree copy. copy ≡ tree };
+
+    fn clone(&self) -> Result<NumberedTree, AllocError> {
+        Ok(NumberedTree {
+            root: self.root.clone()?,
+        })
+    }
 }
 
 impl fmt::Debug for NumberedTree {

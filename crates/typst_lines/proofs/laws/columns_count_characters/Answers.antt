@@ -1,4 +1,4 @@
-use Rattle.typst_lines.proofs.Characters.{column_bytes, column_characters, column_units}
+use Rattle.typst_lines.proofs.Characters.{column_bytes, column_characters, column_units, offset_characters, offset_units}
 use Rattle.typst_lines.proofs.LinesOf.{is_in_line, before_is}
 use Rattle.typst_lines.proofs.laws.columns_count_characters.Goals as goal
 
@@ -16,3 +16,9 @@ returns-clause-characters c = column_characters
 
 pub returns-clause-utf16 : goal.returns-clause-utf16
 returns-clause-utf16 c = column_units
+
+pub returns-clause-characters_of_text : goal.returns-clause-characters_of_text
+returns-clause-characters_of_text c = offset_characters
+
+pub returns-clause-utf16_of_text : goal.returns-clause-utf16_of_text
+returns-clause-utf16_of_text c = offset_units

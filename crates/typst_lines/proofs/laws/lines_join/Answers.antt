@@ -17,7 +17,7 @@ pub returns-clause-only : goal.returns-clause-only
 returns-clause-only c = lines-only
 
 pub returns-clause-many : goal.returns-clause-many
-returns-clause-many c = λ text. count_lines (line_starts text) text refl
+returns-clause-many c = λ ends text. count_lines ends (line_starts ends text) text refl
 
 pub returns-clause-starts : goal.returns-clause-starts
 returns-clause-starts c = start_is

@@ -14,8 +14,8 @@ joined text front gone back i j le f g b =
 pub unreachable-requires : goal.unreachable-requires
 unreachable-requires c =
     let whole = joined c.args.text.now c.range-front.result.now c.range-gone.result.now c.range_from-back.result.now c.args.range.start c.args.range.end c.requires.fits.ordered c.range-front.ensures.value c.range-gone.ensures.value c.range_from-back.ensures.value in
-    false≢true (c.in-Err.ensures.succeeds (subst (λ (t : List ℕ). length (line_starts t) ≤ c.args.lines.now.room) (sym whole) c.requires.room))
+    false≢true (c.in-Err.ensures.succeeds (subst (λ (t : List ℕ). length (line_starts c.args.lines.now.ends t) ≤ c.args.lines.now.room) (sym whole) c.requires.room))
 
-pub returns : goal.returns
-returns c =
+pub returns-clause-lines : goal.returns-clause-lines
+returns-clause-lines c =
     subst (AreLines c.replace.new.self) (joined c.args.text.now c.range-front.result.now c.range-gone.result.now c.range_from-back.result.now c.args.range.start c.args.range.end c.requires.fits.ordered c.range-front.ensures.value c.range-gone.ensures.value c.range_from-back.ensures.value) c.in-Ok.ensures.ok

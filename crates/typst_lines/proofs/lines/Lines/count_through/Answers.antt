@@ -7,7 +7,7 @@ use Rattle.typst_lines.proofs.lines.Lines.count_through.Goals as goal
 
 pub returns : goal.returns
 returns c = λ text lines le.
-    let p = begins_line text in
+    let p = begins_line c.args.self.now.ends text in
     let b = length text + 1 in
     let m = c.args.place in
     let seam = c.self.inside.seam in

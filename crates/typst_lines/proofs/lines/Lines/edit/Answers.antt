@@ -10,4 +10,4 @@ exchange-requires-clause-lines c =
 
 pub returns-clause-back : goal.returns-clause-back
 returns-clause-back c =
-    subst (λ (t : List ℕ). length (line_starts t) ≤ c.exchange.new.self.room) (in_parts c.as_bytes-bytes.result.now c.args.range.start c.args.range.end c.requires.order ∙ c.as_bytes-bytes.ensures.value) c.exchange.ensures.back
+    subst (λ (t : List ℕ). length (line_starts c.args.self.now.ends t) ≤ c.exchange.new.self.room) (in_parts c.as_bytes-bytes.result.now c.args.range.start c.args.range.end c.requires.order ∙ c.as_bytes-bytes.ensures.value) c.exchange.ensures.back

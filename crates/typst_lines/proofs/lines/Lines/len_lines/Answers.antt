@@ -10,4 +10,4 @@ returns-clause-starts c =
     omega (arith, c.len.ensures, len, ap (λ (v : LineTable). length v.starts) c.self.view_is)
 
 pub returns-clause-counts : goal.returns-clause-counts
-returns-clause-counts c = λ text are. omega (arith, returns-clause-starts c, count_lines c.args.self.now.starts text are.starts)
+returns-clause-counts c = λ text are. omega (arith, returns-clause-starts c, count_lines c.args.self.now.ends c.args.self.now.starts text are.starts)

@@ -14,7 +14,7 @@ returns-then-line-len-clause-before c = λ text are.
     let len = length-seamed c.self.inside.seam c.self.inside.end c.self.inside.kept.items c.self.invariant in
     let inside : c.args.line < length c.args.self.now.starts = omega (arith, c.if-line-len.true, c.len.ensures, len, ap (λ (v : LineTable). length v.starts) c.self.view_is) in
     let is : slice_get c.args.self.now.starts c.args.line ≡ Some c.start.result = slice_get-get_or starts line 0 inside ∙ ap Some (sym c.start.ensures) in
-    subst (λ (o : Option ℕ). SomeIff o (c.args.line < length (lines text)) (bytes_before text c.args.line)) is (found_start starts text line are.starts)
+    subst (λ (o : Option ℕ). SomeIff o (c.args.line < length (lines c.args.self.now.ends text)) (bytes_before c.args.self.now.ends text c.args.line)) is (found_start c.args.self.now.ends starts text line are.starts)
 
 past : (c : goal.Else-line-len) → length c.args.self.now.starts ≤ c.args.line
 past c =
@@ -26,4 +26,4 @@ returns-else-line-len-clause-start c = sym (slice_get_past c.args.self.now.start
 
 pub returns-else-line-len-clause-before : goal.returns-else-line-len-clause-before
 returns-else-line-len-clause-before c = λ text are.
-    subst (λ (o : Option ℕ). SomeIff o (c.args.line < length (lines text)) (bytes_before text c.args.line)) (slice_get_past c.args.self.now.starts c.args.line (past c)) (found_start c.args.self.now.starts text c.args.line are.starts)
+    subst (λ (o : Option ℕ). SomeIff o (c.args.line < length (lines c.args.self.now.ends text)) (bytes_before c.args.self.now.ends text c.args.line)) (slice_get_past c.args.self.now.starts c.args.line (past c)) (found_start c.args.self.now.ends c.args.self.now.starts text c.args.line are.starts)

@@ -1,36 +1,43 @@
-use Rattle.std.proofs.Common.{arith}
+use Rattle.std.proofs.Common.{◌≡◌, ℕ, ◌-◌, List, not, eqb, get_or, ap, sym, ◌∙◌, arith, subst}
 use Rattle.std.proofs.lemmas.Bool.Decides.{nat_tests}
+use Rattle.typst_lines.specs.LineEnds.{newline_before}
 use Rattle.typst_lines.specs.LineStarts.{begins_line}
+use Rattle.typst_lines.specs.Parts.{whole}
+use Rattle.typst_lines.specs.declared.ends.LineEnds.{LineEnds}
+use Rattle.typst_lines.specs.declared.ends.LineEnds.TheVariants.{Unicode, Editor}
+use Rattle.typst_lines.proofs.Seams.{begins-first}
 use Rattle.typst_lines.proofs.parts.Parts.begins_line.Goals as goal
 
-pub returns-then-at-eq0 : goal.returns-then-at-eq0
+-- after a carriage return a line begins, but not before a line feed
+after_return : (ends : LineEnds) (text : List ℕ) (at : ℕ) → (at ≡ 0 → ⊥) → get_or text (at - 1) 0 ≡ 13 → not (eqb (get_or text at 0) 10) ≡ begins_line ends text at
 unfolding begins_line
-returns-then-at-eq0 c = grind (arith, nat_tests)
+after_return Unicode text at some last = grind (arith, nat_tests)
+after_return Editor text at some last = grind (arith, nat_tests)
+
+-- after another character that ends lines one begins
+after_other : (text : List ℕ) (at : ℕ) → (at ≡ 0 → ⊥) → (get_or text (at - 1) 0 ≡ 13 → ⊥) → newline_before Unicode text at ≡ begins_line Unicode text at
+unfolding begins_line
+after_other text at some last = grind (arith, nat_tests)
+
+after_feed : (text : List ℕ) (at : ℕ) → (at ≡ 0 → ⊥) → (get_or text (at - 1) 0 ≡ 13 → ⊥) → eqb (get_or text (at - 1) 0) 10 ≡ begins_line Editor text at
+unfolding begins_line
+after_feed text at some last = grind (arith, nat_tests)
+
+pub returns-then-at-eq0 : goal.returns-then-at-eq0
+returns-then-at-eq0 c =
+    sym (ap (begins_line c.args.self.now.ends (whole c.args.self.now)) c.if-at-eq0.true ∙ begins-first c.args.self.now.ends (whole c.args.self.now))
 
 pub returns-then-last-eq13 : goal.returns-then-last-eq13
-unfolding begins_line
-returns-then-last-eq13 c = grind (arith, nat_tests)
+returns-then-last-eq13 c =
+    ap (λ b. not (eqb b 10)) c.byte.ensures
+    ∙ after_return c.args.self.now.ends (whole c.args.self.now) c.args.at c.if-at-eq0.false (sym c.byte-last.ensures ∙ c.if-last-eq13.true)
 
-pub returns-then-at-ge2 : goal.returns-then-at-ge2
-unfolding begins_line
-returns-then-at-ge2 c = grind (arith, nat_tests)
+pub returns-in-Unicode : goal.returns-in-Unicode
+returns-in-Unicode c =
+    c.ends_by_unicode.ensures ∙ after_other (whole c.args.self.now) c.args.at c.if-at-eq0.false (λ e. c.if-last-eq13.false (c.byte-last.ensures ∙ e))
+    ∙ ap (λ ends. begins_line ends (whole c.args.self.now) c.args.at) (sym c.in-Unicode.is)
 
-pub returns-else-at-ge2 : goal.returns-else-at-ge2
-unfolding begins_line
-returns-else-at-ge2 c = grind (arith, nat_tests)
-
-pub returns-then-byte : goal.returns-then-byte
-unfolding begins_line
-returns-then-byte c = grind (arith, nat_tests)
-
-pub returns-else-byte : goal.returns-else-byte
-unfolding begins_line
-returns-else-byte c = grind (arith, nat_tests)
-
-pub returns-then-last-ge10 : goal.returns-then-last-ge10
-unfolding begins_line
-returns-then-last-ge10 c = grind (arith, nat_tests)
-
-pub returns-else-last-ge10 : goal.returns-else-last-ge10
-unfolding begins_line
-returns-else-last-ge10 c = grind (arith, nat_tests)
+pub returns-in-Editor : goal.returns-in-Editor
+returns-in-Editor c =
+    ap (λ b. eqb b 10) c.byte-last.ensures ∙ after_feed (whole c.args.self.now) c.args.at c.if-at-eq0.false (λ e. c.if-last-eq13.false (c.byte-last.ensures ∙ e))
+    ∙ ap (λ ends. begins_line ends (whole c.args.self.now) c.args.at) (sym c.in-Editor.is)

@@ -19,6 +19,6 @@ returns-in-Ok c =
           subst
           (λ (ts : List Tree). IsReconciled record { path = c.args.path.now; from = c.args.range.start; to = c.args.range.end; others = ts } c.in-Tree.tree c.in-Ok.done.path.items c.in-Ok.done.touched c.in-Ok.done.moves c.reconcile.new.self)
           nodes c.in-Ok.ensures.reconciliation.1;
-      change = record { depth = c.len-in-Ok.ensures ∙ c.in-Ok.done.path.ok.0; touched_is = refl };
-      holds = record { stack = c.truncate.ensures.items ∙ ap (λ (n : ℕ). take n old) start; held = refl; moves = refl };
+      change = record { depth = c.len-in-Ok.ensures ∙ c.in-Ok.done.path.ok.0; touched_is = refl; moved = ap length c.moved.ensures.before };
+      holds = record { stack = c.truncate.ensures.items ∙ ap (λ (n : ℕ). take n old) start; held = refl; last = refl };
     }

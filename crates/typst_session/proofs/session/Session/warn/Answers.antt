@@ -18,6 +18,6 @@ returns c =
         node = c.in-Some.node.now;
         was = last_apart stack.items stack.len c.in-Some.node.now stack.ok.0 some c.in-Some.ensures.value;
         holds = tt;
-        is = record { stack = put ∙ ap (λ (t : Tree). take (stack.len - 1) stack.items ++ t ∷ []) made; held = refl; moves = refl };
+        is = record { stack = put ∙ ap (λ (t : Tree). take (stack.len - 1) stack.items ++ t ∷ []) made; held = refl; last = refl };
       },
     )

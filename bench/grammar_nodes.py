@@ -1,0 +1,73 @@
+"""Nodes for bench/grammar_rows.py, and trees as lines: a node a line, two blanks a level, a leaf with its text, an error with both."""
+import re
+import unicodedata
+from dataclasses import dataclass
+
+LINE = re.compile(r'( *)(\w+)(?: ("(?:[^"\\]|\\.)*")(?:: (.*))?)?$')
+
+
+ESCAPES = {"n": "\n", "t": "\t", "r": "\r", "0": "\0", '"': '"', "'": "'", "\\": "\\"}
+ESCAPED = {c: f"\\{letter}" for letter, c in ESCAPES.items() if c != "'"}
+
+
+@dataclass(frozen=True)
+class Node:
+    """A leaf or an error has a text. Any other node has children."""
+
+    kind: str
+    text: str = ""
+    message: str = ""
+    children: tuple | None = None
+
+    def full_text(self):
+        return self.text if self.children is None else "".join(child.full_text() for child in self.children)
+
+    def levels(self):
+        return 1 + max((child.levels() for child in self.children or ()), default=0)
+
+    def with_children(self, children, kind=None):
+        return Node(kind or self.kind, children=tuple(children))
+
+
+def error(text, message):
+    return Node("Error", text, message)
+
+
+def unquoted(text):
+    """The text that `{:?}` prints so."""
+    return re.sub(r"\\(?:u\{(\w+)\}|(.))", lambda it: chr(int(it[1], 16)) if it[1] else ESCAPES[it[2]], text[1:-1])
+
+
+def quoted(text):
+    """A text as `{:?}` prints it."""
+
+    def shown(c):
+        is_plain = (c.isprintable() or c == " ") and unicodedata.category(c) not in ("Mn", "Me")
+        return ESCAPED.get(c) or (c if is_plain else f"\\u{{{ord(c):x}}}")
+
+    return '"' + "".join(map(shown, text)) + '"'
+
+
+def read(lines, depth=0):
+    """The nodes that lines of this depth tell, of a list of lines that it empties."""
+    nodes = []
+    while lines and len(lines[0]) - len(lines[0].lstrip(" ")) == 2 * depth:
+        _, kind, text, message = LINE.match(lines.pop(0)).groups()
+        if text is None:
+            nodes.append(Node(kind, children=tuple(read(lines, depth + 1))))
+        else:
+            nodes.append(Node(kind, unquoted(text), message or ""))
+    return nodes
+
+
+def tree_of(path):
+    """The nodes under the root of a tree that a file has."""
+    return read(path.read_text().splitlines())[0].children
+
+
+def lines_of(node, depth=0):
+    """The lines of a node and of those in it."""
+    said = f" {quoted(node.text)}" if node.children is None else ""
+    yield "  " * depth + node.kind + said + (f": {node.message}" if node.kind == "Error" else "")
+    for child in node.children or ():
+        yield from lines_of(child, depth + 1)

@@ -1,0 +1,27 @@
+mod Boundaries
+mod Changes
+mod Chars
+mod Cutting
+mod Fars
+mod Finding
+pub mod FirstBlocks
+mod Good
+mod Growing
+mod Heights
+mod Links
+mod Local
+mod Loops
+mod Mistaking
+mod Placing
+mod RawCuts
+mod RawLaws
+mod RawLines
+mod Retags
+mod Rising
+mod Spanning
+mod Sums
+mod Texts
+mod Tops
+mod Uniques
+mod Walking
+mod Within

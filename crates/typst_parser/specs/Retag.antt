@@ -1,0 +1,108 @@
+-- What maps do with the last tree. Lists of events that are named `back` have the last event first, and `text` ends with it.
+use Rattle.std.specs.Prelude.{ℕ, zero, suc, ◌+◌, ◌-◌, ◌==◌, ◌&&◌, min, nat_le, nat_lt, Bool, true, List, [], ◌∷◌, ◌++◌, length, reverse, replicate, Option, Some, None, if◌then◌else◌}
+use Rattle.typst_atoms.specs.ExprKinds.{is_expr_kind}
+use Rattle.typst_base.specs.declared.kind.SyntaxKind.{SyntaxKind}
+use Rattle.typst_parser.specs.Events.{but_last, bytes_of, kind_of, last_some}
+use Rattle.typst_parser.specs.Spans.{children_of, is_byte, span, text_but, width}
+use Rattle.typst_parser.specs.declared.event.Event.{Event}
+use Rattle.typst_parser.specs.declared.event.Event.TheVariants.{Leaf, Error, Node}
+use Rattle.typst_parser.specs.declared.fault.Fault.TheVariants as faults
+use Rattle.typst_rows.specs.Maps.{changes}
+use Rattle.typst_rows.specs.declared.change.Change.{Change}
+use Rattle.typst_rows.specs.declared.change.Effect.{Effect}
+use Rattle.typst_rows.specs.declared.change.Effect.TheVariants as effects
+use Rattle.typst_rows.specs.declared.change.Test.{Test}
+use Rattle.typst_rows.specs.declared.change.Test.TheVariants as tests
+use Rattle.typst_rows.specs.declared.expectation.Expectation.{Expectation}
+use Rattle.typst_rows.specs.declared.maps.Map.{Map}
+
+-- whether a test holds of the tree of an event, which comes behind those of `back`
+abbrev pub holds : Test → List ℕ → Event → List Event → Bool
+holds tests.Always text e back = true
+holds tests.Expr text e back = is_expr_kind (kind_of e)
+holds tests.Opening text e back = is_byte 40 (last_some (bytes_of e) text)
+holds tests.Closing text e back = is_byte 41 (last_some (bytes_of e) text)
+holds tests.Parenthesized text e back = is_byte 40 (text_but (children_of e - 1) text back) && is_byte 41 (text_but 0 text back)
+holds tests.Alone text e back = children_of e == 1
+
+-- the effect of the first change whose test holds
+abbrev pub effect_in : List Change → List ℕ → Event → List Event → Option Effect
+effect_in [] text e back = None
+effect_in (c ∷ cs) text e back = if holds c.test text e back then Some c.effect else effect_in cs text e back
+
+-- what a map does with the tree of an event
+abbrev pub effect_of : Option Map → List ℕ → Event → List Event → Option Effect
+effect_of None text e back = None
+effect_of (Some map) text e back = effect_in (changes map (kind_of e)) text e back
+
+-- the event with another kind
+abbrev pub with_kind : Option SyntaxKind → Event → Event
+with_kind None e = e
+with_kind (Some kind) (Leaf k len) = Leaf kind len
+with_kind (Some kind) (Error fault len) = Error fault len
+with_kind (Some kind) (Node k children) = Node kind children
+
+-- the maps for the children of a tree, the last child first
+abbrev pub child_maps : Option Map → Option Map → ℕ → List (Option Map)
+child_maps first others zero = []
+child_maps first others (suc n) = replicate n others ++ first ∷ []
+
+-- the map for the first child of a tree with an effect
+abbrev pub first_below : Option Effect → Option Map
+first_below (Some (effects.Become r)) = r.first
+first_below _ = None
+
+-- the map for the other children of a tree with an effect
+abbrev pub others_below : Option Effect → Option Map
+others_below (Some (effects.Become r)) = r.others
+others_below _ = None
+
+-- How many trees behind other events have maps of their own, as children of a tree with an effect. There are no more of them
+-- than events.
+abbrev pub count_below : Option Effect → Event → List Event → ℕ
+count_below (Some (effects.Wrong what)) e back = 0
+count_below _ e back = min (children_of e) (length back)
+
+-- how many events go, since their tree becomes an error
+abbrev pub gone : Option Effect → Event → List Event → ℕ
+gone (Some (effects.Wrong what)) e back = span (children_of e) back
+gone _ e back = 0
+
+-- whether an event is a node whose children are among the events before it
+abbrev pub is_parent : Event → List Event → Bool
+is_parent e back = nat_lt 0 (children_of e) && nat_le (children_of e) (length back)
+
+-- the event of a tree that becomes an error, where so many bytes come up to its end
+abbrev pub mistake_back : Expectation → ℕ → Event → List Event → List Event
+mistake_back what end e back = Error (faults.Mistake what (kind_of e)) (min (bytes_of e + width (children_of e) back) end) ∷ []
+
+-- the events of a tree that gets an empty error as its last child, if it is a node with children
+abbrev pub expected_back : Expectation → Event → List Event → List Event
+expected_back what e back =
+    if is_parent e back then Node (kind_of e) (children_of e + 1) ∷ Error (faults.Expected what) 0 ∷ [] else e ∷ []
+
+-- what comes of an event, where so many bytes come up to its end
+abbrev pub put_back : Option Effect → ℕ → Event → List Event → List Event
+put_back None end e back = e ∷ []
+put_back (Some (effects.Become r)) end e back = with_kind r.kind e ∷ []
+put_back (Some (effects.Wrong what)) end e back = mistake_back what end e back
+put_back (Some (effects.Expected what)) end e back = expected_back what e back
+
+-- the maps for the children of an event with an effect
+abbrev pub maps_below : Option Effect → Event → List Event → List (Option Map)
+maps_below f e back = child_maps (first_below f) (others_below f) (count_below f e back)
+
+-- The events after the changes. For each of the last trees there is a map, or none. So many events before are passed over,
+-- since their tree became an error.
+unfoldable pub retagged_back : ℕ → List (Option Map) → List ℕ → List Event → List Event
+retagged_back (suc n) maps text [] = []
+retagged_back (suc n) maps text (e ∷ back) = retagged_back n maps (but_last (bytes_of e) text) back
+retagged_back zero [] text back = back
+retagged_back zero (m ∷ maps) text [] = []
+retagged_back zero (m ∷ maps) text (e ∷ back) =
+    let f : Option Effect = effect_of m text e back in
+    put_back f (length text) e back ++ retagged_back (gone f e back) (maps_below f e back ++ maps) (but_last (bytes_of e) text) back
+
+-- the events after the change of the last tree by a map
+abbrev pub retagged : Map → List ℕ → List Event → List Event
+retagged map text es = reverse (retagged_back 0 (Some map ∷ []) text (reverse es))

@@ -1,0 +1,40 @@
+-- How contracts see the code's table, rows and stack.
+use Rattle.std.specs.Prelude.{◌≡◌, Option}
+use Rattle.std.specs.Option.{option_map}
+use Rattle.typst_rows.specs.Row.{Row, row_of}
+use Rattle.typst_rows.specs.declared.row.Row.{Row as CodeRow}
+use Rattle.typst_rows.specs.Table.{mode_of, rows}
+use Rattle.typst_parser.specs.declared.block.FirstBlock.{FirstBlock as CodeBlock}
+use Rattle.typst_parser.specs.FirstBlock.{FirstBlock}
+use Rattle.typst_parser.specs.declared.stack.Stack.{Stack as CodeStack}
+use Rattle.typst_parser.specs.declared.table.Table.{Table as CodeTable}
+use Rattle.typst_parser.specs.Rows.{Table}
+use Rattle.typst_parser.specs.Stack.{Stack}
+use denote.Ref.{Bor}
+
+abbrev pub stack_of : CodeStack → Stack
+stack_of s = record {
+  events = s.events.items;
+  white = s.white.items;
+  missing = s.missing;
+  from = s.from;
+  next = s.next;
+  far = s.far;
+  phase = s.phase;
+  top = s.top;
+  below = s.below.items;
+  judge = s.judge;
+}
+
+abbrev pub table_of : CodeTable → Table
+table_of t = record { rows = rows; modes = mode_of; most_deep = t.most_deep; most_looks = t.most_looks; most_levels = t.most_levels }
+
+-- a row that was found
+abbrev pub found_of : Option (Bor CodeRow) → Option Row
+found_of found = option_map (λ r. row_of r.now) found
+
+-- what was made is the block
+pub record IsBlock (block : FirstBlock) (made : CodeBlock) : Type 0 where
+  pub len : made.len ≡ block.len
+  pub reach : made.reach ≡ block.reach
+  pub trees : made.nodes.items ≡ block.trees

@@ -1,0 +1,273 @@
+//! Names that come again in the last tree, and second sinks.
+ghost use Rattle.std.specs.Option.{option_map};
+ghost use Rattle.std.specs.Prelude.{◌≡◌, ◌++◌, ◌≤◌, ◌<◌, [], ◌∷◌, drop, length, map, reverse, slice_index_or, IfOk, OnOk};
+ghost use Rattle.typst_parser.specs.Faults.{name_in};
+ghost use Rattle.typst_parser.specs.FoundViews.{found_of};
+ghost use Rattle.typst_parser.specs.declared.event.Event.{Event as AnyEvent};
+ghost use Rattle.typst_parser.specs.Unique.{bound_found, child_roles, fault_among, fault_gone, fault_put, faulted_back, faults_of, found_back, found_in, is_among, is_same, is_same_name, made_unique, name_found};
+ghost use Rattle.typst_parser.specs.Roles.{root_role};
+
+use crate::event::Event;
+use crate::fault::Fault;
+use crate::role::{Role, first_role, others_role, root_role};
+use crate::span::{span, width};
+use std::alloc::{AllocError, Global};
+use typst_base::SyntaxKind;
+use typst_rows::Unique;
+
+/// A name or a sink that was found.
+#[derive(Clone, Copy)]
+pub struct Found<'a> {
+    // The number of the list in which it may not come again.
+    list: usize,
+    // Its name, if it isn't a sink.
+    name: Option<&'a [u8]>,
+    // Why it is an error if it comes again.
+    fault: Fault,
+}
+
+/// A name in a list.
+fn name_found<'a>(what: Unique, list: usize, name: &'a [u8]) -> Option<Found<'a>>
+    ensures { option_map found_of result ≡ name_found what list name.now }
+{
+    Some(Found {
+        list,
+        name: Some(name),
+        fault: Fault::Duplicate(what),
+    })
+}
+
+/// A name that a pattern binds, unless only sinks are looked for.
+fn bound_found<'a>(what: Unique, name: &'a [u8]) -> Option<Found<'a>>
+    ensures { option_map found_of result ≡ bound_found what name.now }
+{
+    match what {
+        Unique::Sink => None,
+        _ => name_found(what, 0, name),
+    }
+}
+
+/// A name, or the value of a string.
+fn value_of(text: &[u8]) -> &[u8]
+    ensures { result.now ≡ name_in text.now }
+{
+    if !matches!(text, [b'"', ..]) {
+        return text;
+    }
+    let value = &text[1..];
+    let len = value.len();
+    if len > 0 && value[len - 1] == b'"' {
+        &value[..len - 1]
+    } else {
+        value
+    }
+}
+
+/// What is found in a tree of this role and kind, with this text if it is a leaf.
+fn found_in<'a>(what: Unique, role: Role, kind: SyntaxKind, text: &'a [u8]) -> Option<Found<'a>>
+    ensures { option_map found_of result ≡ found_in what role kind text.now }
+{
+    match (role, kind) {
+        (Role::Name, SyntaxKind::Ident) => name_found(what, 0, text),
+        (Role::Key(list), SyntaxKind::Ident) => name_found(what, list, text),
+        (Role::Key(list), SyntaxKind::Str) => name_found(what, list, value_of(text)),
+        (Role::Pattern | Role::Element(_) | Role::Parameter(_), SyntaxKind::Ident) => {
+            bound_found(what, text)
+        }
+        (Role::Element(list), SyntaxKind::Spread) => Some(Found {
+            list,
+            name: None,
+            fault: Fault::SecondSinkOfPattern,
+        }),
+        (Role::Parameter(list), SyntaxKind::Spread) => Some(Found {
+            list,
+            name: None,
+            fault: Fault::SecondSink,
+        }),
+        _ => None,
+    }
+}
+
+/// Puts the roles of children on top of others, that of the last child on top.
+fn push_roles(
+    roles: &mut Vec<Role>,
+    first: Role,
+    others: Role,
+    children: usize,
+) -> Result<(), AllocError>
+    ensures { OnOk result (reverse roles.new.items ≡ child_roles first others children ++ reverse roles.old.items) }
+{
+    if children > 0 {
+        roles.push(first)?;
+        for _ in 1..children {
+            roles.push(others)?;
+        }
+    }
+    Ok(())
+}
+
+/// The event at a place.
+fn event_at(events: &[Event], at: usize) -> Event
+    requires { at < length events.now }
+    ensures { (other : AnyEvent) → result ≡ slice_index_or events.now at other }
+{
+    events[at]
+}
+
+/// What is found at each event of the last tree, the last event first.
+fn find<'a>(
+    alloc: Global,
+    what: Unique,
+    text: &'a [u8],
+    events: &[Event],
+) -> Result<Vec<Option<Found<'a>>>, AllocError>
+    ensures { IfOk result (λ found. map (option_map found_of) found.items
+        ≡ found_back what (root_role what ∷ []) text.now (reverse events.now)) }
+{
+    let mut found = Vec::new(alloc);
+    let mut roles = vec![in alloc; root_role(what)]?;
+    let mut left = events.len();
+    let mut rest = text;
+    while let Some(role) = roles.pop() {
+        if left == 0 {
+            return Ok(found);
+        }
+        left -= 1;
+        let event = event_at(events, left);
+        let (before, piece) = rest.split_at(rest.len().saturating_sub(event.len()));
+        found.push(found_in(what, role, event.kind(), piece))?;
+        let first = first_role(role, event.kind(), left);
+        let others = others_role(role, event.kind(), left);
+        push_roles(&mut roles, first, others, event.children().min(left))?;
+        rest = before;
+    }
+    Ok(found)
+}
+
+/// Whether two names are the same, or both are sinks.
+fn is_same_name(one: Option<&[u8]>, other: Option<&[u8]>) -> bool
+    ensures { result ≡ is_same_name (option_map (λ n. n.now) one.entry) (option_map (λ n. n.now) other.entry) }
+{
+    match (one, other) {
+        (None, None) => true,
+        (Some(one), Some(other)) => one == other,
+        _ => false,
+    }
+}
+
+/// Whether two names in the same list are the same, or both are sinks.
+fn is_same(one: Found<'_>, other: Found<'_>) -> bool
+    ensures { result ≡ is_same (found_of one.entry) (found_of other.entry) }
+{
+    one.list == other.list && is_same_name(one.name, other.name)
+}
+
+/// Whether something is among what was found.
+fn is_among(one: Found<'_>, found: &[Option<Found<'_>>]) -> bool
+    ensures { result ≡ is_among (found_of one.entry) (map (option_map found_of) found.now) }
+{
+    for other in found {
+        if let Some(other) = other {
+            if is_same(one, *other) {
+                return true;
+            }
+        }
+    }
+    false
+}
+
+/// Why it is an error, if it comes before in the text.
+fn fault_among(one: Option<Found<'_>>, before: &[Option<Found<'_>>]) -> Option<Fault>
+    ensures { result ≡ fault_among (option_map found_of one.entry) (map (option_map found_of) before.now) }
+{
+    match one {
+        Some(one) => {
+            if is_among(one, before) {
+                Some(one.fault)
+            } else {
+                None
+            }
+        }
+        None => None,
+    }
+}
+
+/// Why each event's tree is an error, if what was found at it comes before in the text.
+fn faults_of(alloc: Global, found: &[Option<Found<'_>>]) -> Result<Vec<Option<Fault>>, AllocError>
+    ensures { IfOk result (λ faults. faults.items ≡ faults_of (map (option_map found_of) found.now)) }
+{
+    let mut faults = Vec::new(alloc);
+    for (i, one) in found.iter().enumerate() {
+        faults.push(fault_among(*one, &found[i + 1..]))?;
+    }
+    Ok(faults)
+}
+
+/// Takes an event, or makes its tree an error, if it has a fault. It tells how many events are gone with it.
+fn take_one(
+    events: &mut Vec<Event>,
+    taken: &mut Vec<Event>,
+    event: Event,
+    fault: Option<Fault>,
+    end: usize,
+) -> Result<usize, AllocError>
+    ensures taken { OnOk result (taken.new.items ≡ taken.old.items ++ fault_put fault end event (reverse events.old.items)) }
+    ensures events { OnOk result (reverse events.new.items
+        ≡ drop (fault_gone fault event (reverse events.old.items)) (reverse events.old.items)) }
+    ensures gone { IfOk result (λ gone. gone ≡ fault_gone fault event (reverse events.old.items)) }
+    ensures fewer { OnOk result (length events.new.items ≤ length events.old.items) }
+{
+    let Some(fault) = fault else {
+        taken.push(event)?;
+        return Ok(0);
+    };
+    let children = width(events, event.children());
+    let len = event.len().saturating_add(children).min(end);
+    let gone = span(events, event.children());
+    taken.push(Event::Error { fault, len })?;
+    let at = events.len() - gone;
+    events.truncate(at);
+    Ok(gone)
+}
+
+/// Takes the last events, with errors in place of the trees that have faults. The last of them comes first.
+fn take_faulted(
+    alloc: Global,
+    events: &mut Vec<Event>,
+    faults: &[Option<Fault>],
+    end: usize,
+) -> Result<Vec<Event>, AllocError>
+    ensures { IfOk result (λ taken. taken.items ++ reverse events.new.items ≡ faulted_back 0 end faults.now (reverse events.old.items)) }
+{
+    let mut taken = Vec::new(alloc);
+    let mut at = 0;
+    while at < faults.len() {
+        let Some(event) = events.pop() else {
+            return Ok(taken);
+        };
+        let gone = take_one(events, &mut taken, event, faults[at], end)?;
+        let left = faults.len() - at - 1;
+        at += 1 + gone.min(left);
+    }
+    Ok(taken)
+}
+
+/// Makes errors of names that come again in the last tree, and of second sinks. The text ends with that tree. After an
+/// error the events are gone.
+///
+/// It takes time in proportion to the events of the tree, and to the square of the number of names in it.
+pub(crate) fn make_unique(
+    alloc: Global,
+    events: &mut Vec<Event>,
+    text: &[u8],
+    what: Unique,
+) -> Result<(), AllocError>
+    ensures { OnOk result (events.new.items ≡ made_unique what text.now events.old.items) }
+{
+    let found = find(alloc, what, text, events)?;
+    let faults = faults_of(alloc, &found)?;
+    let mut taken = take_faulted(alloc, events, &faults, text.len())?;
+    taken.reverse();
+    events.append(&mut taken)?;
+    Ok(())
+}

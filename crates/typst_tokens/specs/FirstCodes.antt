@@ -1,0 +1,22 @@
+-- The first character of a text, as private functions read it, byte by byte.
+use Rattle.std.specs.Prelude.{ℕ, ◌+◌, ◌-◌, ◌*◌, nat_lt, List, [], ◌∷◌, Option, Some, None, if◌then◌else◌}
+
+-- the bits so far, followed by those of one more byte
+abbrev pub with_byte : ℕ → ℕ → ℕ
+with_byte code b = code * 64 + (b - 128)
+
+abbrev pub code_of_four : ℕ → ℕ → ℕ → List ℕ → Option ℕ
+code_of_four a b c [] = None
+code_of_four a b c (d ∷ ds) = Some (with_byte (with_byte (with_byte (a - 240) b) c) d)
+
+abbrev pub code_of_three : ℕ → ℕ → List ℕ → Option ℕ
+code_of_three a b [] = None
+code_of_three a b (c ∷ cs) = if nat_lt a 240 then Some (with_byte (with_byte (a - 224) b) c) else code_of_four a b c cs
+
+abbrev pub code_of_two : ℕ → List ℕ → Option ℕ
+code_of_two a [] = None
+code_of_two a (b ∷ bs) = if nat_lt a 224 then Some (with_byte (a - 192) b) else code_of_three a b bs
+
+abbrev pub first_code : List ℕ → Option ℕ
+first_code [] = None
+first_code (a ∷ bs) = if nat_lt a 128 then Some a else code_of_two a bs
