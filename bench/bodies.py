@@ -66,6 +66,7 @@ import time
 import zlib
 from collections import Counter
 from concurrent.futures import ThreadPoolExecutor
+from contextlib import nullcontext
 from pathlib import Path
 
 from bodies_forms import change_of_form, right_bodies
@@ -656,14 +657,23 @@ class Judge:
 
 
 class Proved:
-    """The libraries that a run of `rt ci` has proved so far or kept from an earlier run. Each is copied as soon as the log names it."""
+    """The libraries that a run of `rt ci` has proved so far or kept from an earlier run. Each is copied as soon as the log names it,
+    until the `with` statement ends."""
 
     def __init__(self, log, place):
         self.log, self.place, self.names, self.lost, self.is_over = Path(log), Path(place), set(), set(), False
-        threading.Thread(target=self.watch, daemon=True).start()
+        self.left, self.watcher = threading.Event(), threading.Thread(target=self.watch, daemon=True)
+        self.watcher.start()
+
+    def __enter__(self):
+        return self
+
+    def __exit__(self, *_):
+        self.left.set()
+        self.watcher.join()
 
     def watch(self):
-        while not self.is_over:
+        while not self.is_over and not self.left.is_set():
             text = self.log.read_text(errors="replace") if self.log.exists() else ""
             ended = re.search(r"^\d+ passed, \d+ failed$", text, re.M)
             for name in re.findall(r"^rt: (\w+) (?:proved$|is kept: )", text, re.M):
@@ -673,7 +683,7 @@ class Proved:
                     self.names.add(name)
             self.lost |= set(re.findall(r"^rt: (\w+) NOT PROVED", text, re.M))
             self.is_over = bool(ended)
-            time.sleep(2)
+            self.left.wait(2)
 
     def is_decided(self, names):
         """Whether these are proved, or can't be any more."""
@@ -754,13 +764,11 @@ def judge_all(given):
         count = sum(len(judged_in(given.turn, TOP / "crates" / it)) for it in given.crates)
         print(f"{given.how}: {count} of {sum(edits.values())} wrong bodies are judged, with those of every turn", flush=True)
     names = sorted(edits, key=lambda it: -edits[it])
-    with tempfile.TemporaryDirectory(prefix="proved-") as place, ThreadPoolExecutor(given.lanes) as pool:
-        proved = Proved(given.beside, place) if given.beside else None
+    with (tempfile.TemporaryDirectory(prefix="proved-") as place, ThreadPoolExecutor(given.lanes) as pool,
+          Proved(given.beside, place) if given.beside else nullcontext() as proved):
         waiting = Waiting(names, proved)
         lane = lambda _: [report(name, given, proved, 0 if edits[name] > MANY else 9) for name in waiting]
         bad = [lines for some in pool.map(lane, range(given.lanes)) for lines in some]
-        if proved:
-            proved.is_over = True
     used = resource.getrusage(resource.RUSAGE_CHILDREN)
     for line in [line for lines in bad for line in lines]:
         print(f"not well: {line}")

@@ -267,10 +267,10 @@ def crate_over_proved(log, place):
     """A copy of the crate of the exports, on top of the libraries that the run of `rt ci` with this log proves."""
     proved_at = place / "proved"
     proved_at.mkdir()
-    proved = Proved(log, proved_at)
-    if not proved.has(below(EXPORTS.name, needs_of(TOP))):
-        raise Differs(f"a crate below {EXPORTS.name} isn't proved")
-    crate = Room(TOP, EXPORTS.name, place / "room", 1, proved).crate
+    with Proved(log, proved_at) as proved:
+        if not proved.has(below(EXPORTS.name, needs_of(TOP))):
+            raise Differs(f"a crate below {EXPORTS.name} isn't proved")
+        crate = Room(TOP, EXPORTS.name, place / "room", 1, proved).crate
     for part in ("specs", "proofs"):
         shutil.copytree(EXPORTS / part, crate / part)
     return crate
