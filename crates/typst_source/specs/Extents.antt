@@ -9,6 +9,7 @@ use Rattle.typst_source.specs.declared.extents.Sums.{Sums}
 abbrev pub extent_of : Block → Extent
 extent_of b = record { bytes = b.len; nodes = length b.trees; reach = b.reach }
 
+-- the extents of blocks, in order
 abbrev pub extents_of : List Block → List Extent
 extents_of bs = map extent_of bs
 
@@ -17,6 +18,7 @@ abbrev pub bytes_in : List Extent → ℕ
 bytes_in [] = 0
 bytes_in (e ∷ es) = e.bytes + bytes_in es
 
+-- how many trees the extents have together
 abbrev pub nodes_in : List Extent → ℕ
 nodes_in [] = 0
 nodes_in (e ∷ es) = e.nodes + nodes_in es

@@ -1,6 +1,6 @@
 use Rattle.std.proofs.Common.{ℕ, ◌-◌, ◌<◌, ◌≤◌, length, drop}
 use Rattle.typst_source.specs.Extents.{bytes_in, AreSums}
-use Rattle.typst_source.proofs.window.pass.Given as goal
+use Rattle.typst_source.proofs.new_blocks.pass.Given as goal
 
 abbrev pub invariant-loop-now : goal.invariant-loop-now
 invariant-loop-now l = record {

@@ -3,7 +3,7 @@ ghost use Rattle.std.specs.Prelude.{ℕ, ◌≡◌, ◌+◌, ◌^◌, ◌<◌, �
 ghost use Rattle.typst_node.specs.declared.node.build.InnerError.TheVariants.{Overflow};
 ghost use Rattle.typst_source.specs.Extents.{bytes_in, nodes_in, AreSums};
 ghost use Rattle.typst_source.specs.Source.{IsTooLarge};
-ghost use Rattle.typst_source.specs.Window.{IsWindow};
+ghost use Rattle.typst_source.specs.NewBlocks.{AreNewBlocks};
 
 use crate::extents::{Extent, Sums};
 use crate::parser::BlockParser;
@@ -21,7 +21,7 @@ pub(crate) struct Olds<'a> {
 
 /// Blocks that were parsed, and the old ones that they replace.
 #[derive(Drop)]
-pub(crate) struct Window {
+pub(crate) struct NewBlocks {
     /// The nodes of the new blocks, side by side.
     pub(crate) nodes: Vec<SyntaxNode>,
     /// The extents of the new blocks.
@@ -58,12 +58,12 @@ pub(crate) fn parse_until<P: BlockParser>(
     text: &str,
     olds: &Olds<'_>,
     tail: usize,
-) -> Result<Window, InnerError>
+) -> Result<NewBlocks, InnerError>
     requires bytes { bytes_in olds.now.extents.now ≡ olds.now.bytes }
     requires nodes { nodes_in olds.now.extents.now < 2 ^ 64 }
     requires within { tail ≤ length text.now }
     requires old { tail ≤ olds.now.bytes }
-    ensures window { IfOk result (IsWindow P.first text.now olds.now.extents.now tail) }
+    ensures blocks { IfOk result (AreNewBlocks P.first text.now olds.now.extents.now tail) }
     ensures overflow { IsErrOf result Overflow → IsTooLarge P.first text.now }
 {
     let mut nodes = Vec::new(alloc);
@@ -73,7 +73,7 @@ pub(crate) fn parse_until<P: BlockParser>(
     loop {
         passed = pass(olds, passed, rest.len());
         if rest.len() <= tail && olds.bytes - passed.bytes == rest.len() {
-            return Ok(Window {
+            return Ok(NewBlocks {
                 nodes,
                 extents,
                 passed,

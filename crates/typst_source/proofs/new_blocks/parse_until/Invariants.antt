@@ -1,8 +1,8 @@
 use Rattle.std.proofs.Common.{ℕ, ◌<◌, ◌≤◌, length, drop, IsUtf8}
 use Rattle.typst_source.specs.Extents.{bytes_in, AreSums}
-use Rattle.typst_source.specs.Window.{Meet}
+use Rattle.typst_source.specs.NewBlocks.{Meet}
 use Rattle.typst_source.proofs.SoFar.{IsSoFar}
-use Rattle.typst_source.proofs.window.parse_until.Given as goal
+use Rattle.typst_source.proofs.new_blocks.parse_until.Given as goal
 
 abbrev pub invariant-loop-rest : goal.invariant-loop-rest
 invariant-loop-rest g l = record {

@@ -4,7 +4,7 @@ use Rattle.typst_node.specs.Plain.{plain}
 use Rattle.typst_source.specs.Blocks.{Block, blocks, trees_of, bytes_of}
 use Rattle.typst_source.specs.Extents.{extents_of, bytes_in, AreSums}
 use Rattle.typst_source.specs.declared.extents.Extent.{Extent}
-use Rattle.typst_source.specs.declared.window.Window.{Window}
+use Rattle.typst_source.specs.declared.new_blocks.NewBlocks.{NewBlocks}
 
 -- A block of the text ends `left` bytes before the end of the text, and so does an old block. At most `tail` bytes are
 -- left.
@@ -13,7 +13,7 @@ Meet first text olds tail many passed left =
     (left ≤ tail) × (left + bytes_of (take many (blocks first text)) ≡ length text) × (bytes_in (drop passed olds) ≡ left)
 
 -- the blocks of a text that were parsed, up to the first place where they meet old ones
-pub record IsWindow (first : List ℕ → Block) (text : List ℕ) (olds : List Extent) (tail : ℕ) (w : Window) : Type 0 where
+pub record AreNewBlocks (first : List ℕ → Block) (text : List ℕ) (olds : List Extent) (tail : ℕ) (w : NewBlocks) : Type 0 where
   pub many : length w.extents.items ≤ length (blocks first text)
   pub extents_are : w.extents.items ≡ extents_of (take (length w.extents.items) (blocks first text))
   pub nodes_are : map plain w.nodes.items ≡ trees_of (take (length w.extents.items) (blocks first text))

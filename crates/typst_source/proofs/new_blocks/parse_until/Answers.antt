@@ -9,9 +9,9 @@ use Rattle.typst_source.proofs.Laws.{AreLaws}
 use Rattle.typst_source.proofs.Sums.{bytes_parts}
 use Rattle.typst_source.proofs.SoFar.{so_far_step, so_far_left, earliest_more}
 use Rattle.typst_source.proofs.TooLarge.{next_too_large}
-use Rattle.typst_source.proofs.window.parse_until.Given as given
-use Rattle.typst_source.proofs.window.parse_until.Goals as goal
-use Rattle.typst_source.proofs.window.parse_until.Goals.{else-rest-tail-via-then-rest-tail+else-olds-passed, else-rest-tail-via-else-rest-tail}
+use Rattle.typst_source.proofs.new_blocks.parse_until.Given as given
+use Rattle.typst_source.proofs.new_blocks.parse_until.Goals as goal
+use Rattle.typst_source.proofs.new_blocks.parse_until.Goals.{else-rest-tail-via-then-rest-tail+else-olds-passed, else-rest-tail-via-else-rest-tail}
 
 laws : (g : given.Over) → AreLaws g.P.BlockParser.first
 laws g = record {
@@ -26,8 +26,8 @@ laws g = record {
 pub overflow_sub-olds : goal.overflow_sub-olds
 overflow_sub-olds g c = omega (arith, c.pass-passed.ensures.sums.bytes, bytes_parts c.args.olds.now.extents.now c.pass-passed.result.blocks, c.requires.bytes)
 
-pub returns-then-olds-passed-clause-window : goal.returns-then-olds-passed-clause-window
-returns-then-olds-passed-clause-window g c =
+pub returns-then-olds-passed-clause-blocks : goal.returns-then-olds-passed-clause-blocks
+returns-then-olds-passed-clause-blocks g c =
     let s = c.loop-rest.invariant.so_far in
     record {
       many = s.many;

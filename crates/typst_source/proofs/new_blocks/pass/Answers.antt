@@ -2,7 +2,7 @@ use Rattle.std.proofs.Common.{◌≡◌, ◌+◌, ◌<◌, inl, inr, length, dro
 use Rattle.std.proofs.lemmas.Bool.{cases_lt}
 use Rattle.typst_source.specs.Extents.{bytes_in}
 use Rattle.typst_source.proofs.Sums.{bytes_parts, nodes_parts, some_left, sums_more}
-use Rattle.typst_source.proofs.window.pass.Goals as goal
+use Rattle.typst_source.proofs.new_blocks.pass.Goals as goal
 
 pub overflow_add-now-in-loop-now : goal.overflow_add-now-in-loop-now
 overflow_add-now-in-loop-now c =
