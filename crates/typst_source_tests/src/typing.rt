@@ -3,8 +3,8 @@ use std::alloc::Global;
 use std::process::Abort;
 use std::test::Fail;
 use typst_base::{FileId, Span, SpanNumber, SyntaxKind};
+use typst_language::Typst;
 use typst_linked::LinkedNode;
-use typst_markup::Markup;
 use typst_source::{Edited, Outcome, Source, TextEdit};
 
 /// An edit: where the bytes that go begin and end, and the text that comes.
@@ -167,7 +167,7 @@ const ROWS: [Row; 19] = [
 ];
 
 /// The span of the first node of a kind, in preorder.
-fn first_of(alloc: Global, source: &Source<Markup>, kind: SyntaxKind) -> Result<Span, Fail> {
+fn first_of(alloc: Global, source: &Source<Typst>, kind: SyntaxKind) -> Result<Span, Fail> {
     for node in LinkedNode::new(source.root()).preorder(alloc)? {
         let node = node?;
         if node.get().kind() == kind {
@@ -178,7 +178,7 @@ fn first_of(alloc: Global, source: &Source<Markup>, kind: SyntaxKind) -> Result<
 }
 
 /// Makes an edit.
-fn edit(alloc: Global, source: &mut Source<Markup>, edit: &Edit) -> Result<Edited, Fail> {
+fn edit(alloc: Global, source: &mut Source<Typst>, edit: &Edit) -> Result<Edited, Fail> {
     let (start, end, with) = edit;
     let edit = TextEdit {
         range: *start..*end,
@@ -192,7 +192,7 @@ fn edit(alloc: Global, source: &mut Source<Markup>, edit: &Edit) -> Result<Edite
 
 /// Where the node of a row is after its edits.
 fn followed(alloc: Global, row: &Row) -> Result<String, Fail> {
-    let mut source = Source::new(alloc, FileId::FIRST, row.text, Markup)?;
+    let mut source = Source::new(alloc, FileId::FIRST, row.text, Typst)?;
     let first = first_of(alloc, &source, row.kind)?;
     let mut span = first;
     for each in row.edits {
@@ -226,7 +226,7 @@ fn a_node_is_followed_while_its_text_is_typed(rt: HostRuntime) -> Result<(), Fai
 
 #[test]
 fn a_span_of_no_node_stays_as_it_is(rt: HostRuntime) -> Result<(), Fail> {
-    let mut source = Source::new(rt.alloc(), FileId::FIRST, "a\n", Markup)?;
+    let mut source = Source::new(rt.alloc(), FileId::FIRST, "a\n", Typst)?;
     let done = edit(rt.alloc(), &mut source, &(0, 2, ""))?;
     let other = FileId::new(2).ok_or("no file")?;
     // A detached span, one of another file, and one of bytes.
