@@ -1,4 +1,4 @@
-//! Where nodes of markup are after edits of its text, by their spans.
+//! Where nodes are after edits of their text, by their spans.
 use std::alloc::Global;
 use std::process::Abort;
 use std::test::Fail;
@@ -25,7 +25,7 @@ struct Row {
 const NEXT: Edit = (3, 3, "a\n\n");
 
 /// Texts, edits, and where a node is after them.
-const ROWS: [Row; 19] = [
+const ROWS: [Row; 24] = [
     Row {
         shows: "a letter in its title",
         text: "= A\n\nb\n",
@@ -137,6 +137,41 @@ const ROWS: [Row; 19] = [
         kind: SyntaxKind::Strong,
         edits: &[(4, 4, "x")],
         wanted: "same 2..6",
+    },
+    Row {
+        shows: "a letter in a name in code",
+        text: "#let a = 1\nb\n",
+        kind: SyntaxKind::LetBinding,
+        edits: &[(6, 6, "b")],
+        wanted: "same 1..11",
+    },
+    Row {
+        shows: "its hash is deleted",
+        text: "#let a = 1\nb\n",
+        kind: SyntaxKind::LetBinding,
+        edits: &[(0, 1, "")],
+        wanted: "gone",
+    },
+    Row {
+        shows: "lines in a bracket, which end no block",
+        text: "#[a\n\nb]\nc\n",
+        kind: SyntaxKind::ContentBlock,
+        edits: &[(6, 6, "c\n= d\n")],
+        wanted: "same 1..13",
+    },
+    Row {
+        shows: "its other branch, in a line of its own",
+        text: "#{\nif a {}\n}\nb\n",
+        kind: SyntaxKind::Conditional,
+        edits: &[(11, 11, "else {}\n")],
+        wanted: "same 3..18",
+    },
+    Row {
+        shows: "a script in an equation",
+        text: "$a$\nb\n",
+        kind: SyntaxKind::Equation,
+        edits: &[(2, 2, "^2")],
+        wanted: "same 0..5",
     },
     Row {
         shows: "the root",
