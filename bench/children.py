@@ -4,7 +4,7 @@
     bench/children.py            writes it, and says whether it changed
     bench/children.py --check    says whether it is what would be written, and compares the lines with trees and views
 
-- Each inner node without errors in the trees of crates/typst_markup_tests/data/whole, which were worked out apart from the
+- Each inner node without errors in the trees of crates/typst_language_tests/data, which were worked out apart from the
   library, must have the children that its kind's line says. Each name in a line must be needed by one of them.
 - A line gives children to accessors. The definition that the contract of the accessor cites, in typst_accessors/specs, must
   give the same children of each of these nodes.
@@ -19,7 +19,7 @@ from kinds import TABLE, Table
 
 TOP = Path(__file__).resolve().parent.parent
 CLASSES = ("pattern", "arg", "array_item", "dict_item", "param", "destructuring_item", "import_item")
-LINES, PAGE, CORPUS = TOP / "crates/children.txt", TOP / "docs/CHILDREN.md", TOP / "crates/typst_markup_tests/data/whole"
+LINES, PAGE, CORPUS = TOP / "crates/children.txt", TOP / "docs/CHILDREN.md", TOP / "crates/typst_language_tests/data"
 HEAD = """<!-- Written by bench/children.py from crates/children.txt: change that and run it. -->
 # The children of each kind
 

@@ -3,7 +3,7 @@
 
     bench/grammar_corpus.py
 
-It fails if the tree of a text in crates/typst_markup_tests/data/whole isn't the one beside it, with a few exceptions that are named here
+It fails if the tree of a text in crates/typst_language_tests/data isn't the one beside it, with a few exceptions that are named here
 and have errors; if there is a row without which all those trees stay the same; if a row could take the end of the text, or rows
 could go round without a token; if a text of the grammar has an error, or a byte of any text is lost; or if the work isn't linear.
 """
@@ -16,8 +16,8 @@ from grammar_nodes import Node, tree_of
 from grammar_table import TOP, Table
 from grammar_texts import soup, valid_text
 
-TABLE = TOP / "crates/whole.table"
-DATA = TOP / "crates/typst_markup_tests/data/whole"
+TABLE = TOP / "crates/grammar.table"
+DATA = TOP / "crates/typst_language_tests/data"
 # Texts with errors whose trees may be others, with the reason.
 OTHERS = {
     "bad_dicts": "a colon that comes first makes a dictionary of `(: 1)`, and not a parenthesis",

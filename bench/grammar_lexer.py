@@ -1,4 +1,4 @@
-"""A plain lexer of Typst for bench/grammar_rows.py: white space and tokens in each mode.
+"""A plain lexer of Typst for bench/grammar_corpus.py: white space and tokens in each mode.
 
 It is written from the rules for tokens in words, and looks at a text anew for each token. The library's lexer is another program.
 """

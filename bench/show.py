@@ -5,7 +5,7 @@
 
 `bench/shown.py` works out what the program must print, apart from it, from trees that no program here made:
 
-- each text of crates/typst_markup_tests/data must give the tree next to it, with --plain and without, and turn into the
+- each text of crates/typst_language_tests/data must give the tree next to it, with --plain and without, and turn into the
   next text by an edit;
 - each tree of crates/typst_look whose views were asked must give with --views the answers that are written there;
 - `examples/mistake.typ` and `examples/letter.typ` with their edits, a text, and the program's own run of a look with remarks must give
@@ -33,7 +33,7 @@ import show_page
 import shown
 
 TOP = Path(__file__).resolve().parent.parent
-PAIRS = TOP / "crates/typst_markup_tests/data"
+PAIRS = TOP / "crates/typst_language_tests/data"
 PROVED = TOP / "crates/typst_show/out/typst_show"
 # Without these the program draws without colours.
 SETTINGS = {name: value for name, value in os.environ.items() if name not in ("CLICOLOR_FORCE", "NO_COLOR")}
