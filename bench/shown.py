@@ -90,7 +90,7 @@ def tree_of(lines):
     above = []
     for line in lines.splitlines():
         depth = (len(line) - len(line.lstrip(" "))) // 2
-        kind, _, rest = line.strip(" ").partition(" ")
+        kind, _, rest = line.lstrip(" ").partition(" ")
         # An error's text is in quotes, and its message comes after them.
         quoted = re.match(r'"((?:\\.|[^"\\])*)"(?:: (.*))?$', rest, re.S)
         node = Node(kind, unquoted(quoted[1]), message=quoted[2]) if quoted else Node(kind, children=[])
