@@ -4,6 +4,8 @@ import unicodedata
 from dataclasses import dataclass
 
 LINE = re.compile(r'( *)(\w+)(?: ("(?:[^"\\]|\\.)*")(?:: (.*))?)?$')
+# A warning or a hint of the node above it.
+TOLD = re.compile(r" *(warning|hint): ")
 
 
 ESCAPES = {"n": "\n", "t": "\t", "r": "\r", "0": "\0", '"': '"', "'": "'", "\\": "\\"}
@@ -61,8 +63,9 @@ def read(lines, depth=0):
 
 
 def tree_of(path):
-    """The nodes under the root of a tree that a file has."""
-    return read(path.read_text().splitlines())[0].children
+    """The nodes under the root of a tree that a file has. Warnings and hints are left out."""
+    lines = [it for it in path.read_text().splitlines() if not TOLD.match(it)]
+    return read(lines)[0].children
 
 
 def lines_of(node, depth=0):

@@ -86,9 +86,11 @@ def is_printed(char):
 
 
 def tree_of(lines):
-    """The tree that lines of kinds and texts describe, two blanks a level."""
+    """The tree that lines of kinds and texts describe, two blanks a level. Lines of warnings and hints are left out."""
     above = []
     for line in lines.splitlines():
+        if re.match(r" *(warning|hint): ", line):
+            continue
         depth = (len(line) - len(line.lstrip(" "))) // 2
         kind, _, rest = line.strip(" ").partition(" ")
         # An error's text is in quotes, and its message comes after them.
