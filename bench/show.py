@@ -429,7 +429,7 @@ def differing_pairs(program):
     """What differs between trees of texts, with --plain and without."""
     wrong = []
     for text in TEXTS:
-        plain = text.with_suffix(".tree").read_bytes()
+        plain = shown.without_remarks(text.with_suffix(".tree").read_bytes().decode()).encode()
         drawing = shown.printed(tree_beside(text), text.name).encode()
         piped = shown.printed(tree_beside(text), "-").encode()
         for words, given, wanted in (
