@@ -6,7 +6,7 @@ from grammar_nodes import Node, error
 from grammar_table import START, Row, Table
 from grammar_unique import unique
 
-MOST_DEEP, MOST_LOOKS, MOST_LEVELS = 64, 1024, 256
+MOST_DEEP, MOST_LOOKS, MOST_LEVELS = 64, 1024, 255
 LEAST_LEVELS = 2  # of a frame: the node of a token has at most two
 NO_LINE_FEED = ("else", "Dot", "Field")
 

@@ -2,7 +2,7 @@
  * The syntax tree of Typst documents, from C.
  *
  * A session holds a stack of nodes that are being built, and at most one tree. The tree is either a numbered tree that was built on
- * the stack, or the tree of a document. A document is a text of markup that is edited as a text.
+ * the stack, or the tree of a document. A document is a text of Typst that is edited as a text.
  *
  * Most calls return a status. After any status other than TYPST_DONE the session holds what it held before the call, and the call has
  * written nothing to the memory that it was passed. There are two exceptions. With TYPST_SHORT_BUFFER a call writes the length that it
@@ -147,7 +147,7 @@ typedef struct typst_node_info {
 } typst_node_info;
 
 /** The most child indices in a path of a document. */
-#define TYPST_DOCUMENT_DEPTH 132
+#define TYPST_DOCUMENT_DEPTH 255
 
 /** Where a node was found. */
 typedef struct typst_place {
@@ -739,7 +739,7 @@ TYPST_NODISCARD typst_status typst_neighbor(const typst_session *session, const 
 /** @{ */
 
 /**
- * Parses a text of markup, numbers its tree for a file, and holds both. It frees the tree or document that was held before. The
+ * Parses a text of Typst, numbers its tree for a file, and holds both. It frees the tree or document that was held before. The
  * stack stays as it is.
  * @param file the number of a file: any but 0. No call returns it.
  * @return TYPST_DONE, TYPST_NOT_MADE, TYPST_BAD_FILE, TYPST_BAD_TEXT, TYPST_TOO_LARGE, TYPST_UNNUMBERABLE or TYPST_NO_MEMORY.

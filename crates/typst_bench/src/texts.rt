@@ -4,7 +4,7 @@ use crate::stopwatch::Stopwatch;
 use anyhow::{Result, ensure};
 use std::alloc::{AllocError, Global};
 use std::ops::Range;
-use typst_markup::Markup;
+use typst_language::Typst;
 use typst_source::Source;
 use typst_tree::FileId;
 
@@ -128,7 +128,7 @@ fn edited(
     edit: Edit,
     asked: Asked<'_>,
 ) -> Result<usize> {
-    let mut source = Source::new(alloc, FileId::FIRST, text, Markup)?;
+    let mut source = Source::new(alloc, FileId::FIRST, text, Typst)?;
     let mut seen = 0usize;
     watch.start()?;
     for turn in 0..asked.rounds {
@@ -141,7 +141,7 @@ fn edited(
 }
 
 /// Makes an edit at a byte and takes it back, and returns how many bytes were parsed anew.
-fn round(alloc: Global, source: &mut Source<Markup>, at: usize, edit: Edit) -> Result<usize> {
+fn round(alloc: Global, source: &mut Source<Typst>, at: usize, edit: Edit) -> Result<usize> {
     let come = put(alloc, source, at..at, edit.with)?;
     let gone = put(alloc, source, at..at.saturating_add(edit.with.len()), "")?;
     Ok(come.saturating_add(gone))
@@ -151,10 +151,10 @@ fn round(alloc: Global, source: &mut Source<Markup>, at: usize, edit: Edit) -> R
 /// memory that the process hasn't had before, so it is neither timed nor counted.
 fn parsed(alloc: Global, watch: &mut Stopwatch<'_>, text: &str, rounds: usize) -> Result<usize> {
     let mut seen = 0usize;
-    drop(Source::new(alloc, FileId::FIRST, text, Markup)?);
+    drop(Source::new(alloc, FileId::FIRST, text, Typst)?);
     for _ in 0..rounds {
         watch.start()?;
-        let source = Source::new(alloc, FileId::FIRST, text, Markup)?;
+        let source = Source::new(alloc, FileId::FIRST, text, Typst)?;
         watch.stop()?;
         seen = seen.saturating_add(source.root().len());
     }
@@ -164,7 +164,7 @@ fn parsed(alloc: Global, watch: &mut Stopwatch<'_>, text: &str, rounds: usize) -
 /// Replaces a range of bytes by a text, and returns how many bytes were parsed anew.
 fn put(
     alloc: Global,
-    source: &mut Source<Markup>,
+    source: &mut Source<Typst>,
     range: Range<usize>,
     with: &str,
 ) -> Result<usize> {

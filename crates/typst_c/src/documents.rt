@@ -11,7 +11,7 @@ use crate::told::{Edited, NOT_MADE, status, tell_edit};
 use std::alloc::Global;
 use typst_lines::LineEnds;
 
-/// Parses a text of markup, and makes it the document.
+/// Parses a text of Typst, and makes it the document.
 #[unsafe(no_mangle)]
 pub extern "C" fn typst_open(alloc: Global, handle: &mut Handle, file: u16, text: &[u8]) -> u32
     ensures { Does (Opens file text.now) handle.old.at.value result handle.new.at.value }

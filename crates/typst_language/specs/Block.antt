@@ -8,7 +8,7 @@ use Rattle.typst_source.specs.Blocks.{Block}
 -- the table of the language: its rows, how the lexer reads in each state, how many deep frames may be open, how often a
 -- token is looked at, and how many levels a node may have
 unfoldable pub language : Table
-language = record { rows = rows; modes = mode_of; most_deep = 64; most_looks = 1024; most_levels = 256 }
+language = record { rows = rows; modes = mode_of; most_deep = 64; most_looks = 1024; most_levels = 255 }
 
 abbrev pub first : List ℕ → Block
 first text = let block = first_block language text in record { len = block.len; reach = block.reach; trees = block.trees }

@@ -16,7 +16,7 @@ use Rattle.typst_source.specs.Source.{IsTooLarge}
 use Rattle.typst_source.specs.declared.edited.Edited.{Edited}
 use Rattle.typst_source.specs.declared.error.SourceError.{SourceError}
 use Rattle.typst_source.specs.declared.error.SourceError.TheVariants as source_error
-use Rattle.typst_markup.specs.Block.{first}
+use Rattle.typst_language.specs.Block.{first}
 use Rattle.typst_session.specs.Changes.{IsChange}
 use Rattle.typst_session.specs.LinedText.{LinedText}
 use Rattle.typst_session.specs.Sessions.{IsKept, Holds}
@@ -26,7 +26,7 @@ use Rattle.typst_session.specs.declared.session.Held.TheVariants as held
 use Rattle.typst_session.specs.declared.refusal.Refusal.{Refusal}
 use Rattle.typst_session.specs.declared.refusal.Refusal.TheVariants.{Memory, Text, Size, NoDocument, File, Unnumberable, Range}
 
--- the tree of a text of markup, numbered for a file, and all line ends of Unicode
+-- the tree of a text of Typst, numbered for a file, and all line ends of Unicode
 pub record IsDocumentOf (file : ℕ) (source : List ℕ) (new : LinedText) : Type 0 where
   pub text_is : text new.tree ≡ source
   pub fresh : plain new.tree ≡ document first source

@@ -22,7 +22,7 @@ pub struct TextChange {
 
 /// # Documents
 impl Session {
-    /// Parses a text of markup, numbers its tree for a file, and holds both and the text's lines. They replace what was
+    /// Parses a text of Typst, numbers its tree for a file, and holds both and the text's lines. They replace what was
     /// held before.
     pub fn open(&mut self, alloc: Global, file: u16, text: &[u8]) -> Result<(), Refusal>
         ensures { Opens file text.now self.old result self.new }

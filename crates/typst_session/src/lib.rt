@@ -9,7 +9,7 @@
 
 pub use changes::Change;
 pub use diagnostics::{Diagnostic, DiagnosticSizes};
-pub use document::{Document, documents_of_markup_are_shallow};
+pub use document::{Document, documents_are_shallow};
 pub use documents::TextChange;
 pub use info::NodeInfo;
 pub use neighbors::Neighbor;
