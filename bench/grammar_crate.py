@@ -1,5 +1,5 @@
 #!/usr/bin/env python3
-"""Writes the rows and maps of the whole syntax, in code and in specs, from crates/whole.table.
+"""Writes the rows and maps of the whole syntax, in code and in specs, from crates/grammar.table.
 
     bench/grammar_crate.py CRATE            writes the files of this crate that are tables, and says which changed
     bench/grammar_crate.py CRATE --check    says which differ from what it would write, and changes nothing
@@ -15,7 +15,7 @@ from grammar_maps import maps_in_code, maps_in_specs
 from grammar_table import TOP, Row, Table
 from grammar_words import WIDTH, arm, camel, flat, head_of, list_in_code, list_in_specs, snake
 
-TABLE = TOP / "crates/whole.table"
+TABLE = TOP / "crates/grammar.table"
 WRITTEN = f"Written by bench/grammar_crate.py from {TABLE.relative_to(TOP)}: change that and run it."
 DECLARED = "Rattle.typst_rows.specs.declared"
 # The enum of each action's word, by the action.

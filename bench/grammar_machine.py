@@ -1,4 +1,4 @@
-"""A plain machine for the rows of a table, for bench/grammar_rows.py. Nothing is taken from the library's machine."""
+"""A plain machine for the rows of a table, for bench/grammar_corpus.py. Nothing is taken from the library's machine."""
 from dataclasses import dataclass
 
 from grammar_lexer import Gap, Lexer, Token

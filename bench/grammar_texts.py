@@ -245,7 +245,7 @@ def main():
     sys.setrecursionlimit(10_000)
     folder, count, seed = Path(sys.argv[1]), int(sys.argv[2]), int((sys.argv[3:] or [0])[0])
     folder.mkdir(parents=True, exist_ok=True)
-    rows = Rows(Table(TOP / "crates/whole.table"))
+    rows = Rows(Table(TOP / "crates/grammar.table"))
     for number in range(seed, seed + count):
         for name, make in (("valid", valid_text), ("soup", soup)):
             text = make(random.Random(number))

@@ -213,6 +213,21 @@ fn code_and_equations_are_read_by_views() -> Result<(), Error> {
 }
 
 #[test]
+fn no_text_makes_a_deep_tree() -> Result<(), Error> {
+    for text in [
+        "#a".to_owned() + &".b".repeat(1000),
+        "#[".repeat(1000),
+        "- ".repeat(1000),
+    ] {
+        let source = opened(&text)?;
+        let depth = source.root().preorder().map(|node| node.path().len()).max();
+        assert!(depth.is_some_and(|depth| depth <= 255));
+        assert_eq!(source.text(), text);
+    }
+    Ok(())
+}
+
+#[test]
 fn a_copy_has_the_same_spans_and_goes_its_own_way() -> Result<(), Error> {
     let mut source = opened("= One\n\ntext")?;
     let title = source.at(&[0, 2, 0]).unwrap().span();

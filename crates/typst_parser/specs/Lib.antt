@@ -3,6 +3,7 @@ pub mod Classes
 pub mod Columns
 pub mod Depth
 pub mod Events
+pub mod FaultHints
 pub mod Faults
 pub mod FirstBlock
 pub mod FoundViews
@@ -25,4 +26,5 @@ pub mod Sums
 pub mod Tokens
 pub mod Unique
 pub mod View
+pub mod Warnings
 pub mod Walks

@@ -1,4 +1,4 @@
--- Written by bench/grammar_crate.py from crates/whole.table: change that and run it.
+-- Written by bench/grammar_crate.py from crates/grammar.table: change that and run it.
 -- What the machine may expect.
 use Rattle.std.specs.Prelude.{ℕ, List, codes}
 use Rattle.typst_rows.specs.declared.expectation.Expectation.{Expectation}

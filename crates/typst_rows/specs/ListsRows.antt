@@ -1,4 +1,4 @@
--- Written by bench/grammar_crate.py from crates/whole.table: change that and run it.
+-- Written by bench/grammar_crate.py from crates/grammar.table: change that and run it.
 -- The rows of arrays and dictionaries.
 use Rattle.std.specs.Prelude.{List, [], ◌∷◌, false, Some, None}
 use Rattle.typst_base.specs.declared.kind.SyntaxKind.TheVariants as kinds

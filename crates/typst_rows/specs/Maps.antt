@@ -1,4 +1,4 @@
--- Written by bench/grammar_crate.py from crates/whole.table: change that and run it.
+-- Written by bench/grammar_crate.py from crates/grammar.table: change that and run it.
 -- The maps that give nodes other kinds.
 use Rattle.std.specs.Prelude.{List, [], ◌∷◌, Some, None}
 use Rattle.typst_base.specs.declared.kind.SyntaxKind.{SyntaxKind}

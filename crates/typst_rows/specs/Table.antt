@@ -1,4 +1,4 @@
--- Written by bench/grammar_crate.py from crates/whole.table: change that and run it.
+-- Written by bench/grammar_crate.py from crates/grammar.table: change that and run it.
 -- The rows of the syntax.
 use Rattle.std.specs.Prelude.{List, Option, Some, None}
 use Rattle.typst_rows.specs.declared.row.Mode.{Mode}

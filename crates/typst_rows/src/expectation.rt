@@ -1,4 +1,4 @@
-// Written by bench/grammar_crate.py from crates/whole.table: change that and run it.
+// Written by bench/grammar_crate.py from crates/grammar.table: change that and run it.
 //! What the machine may expect.
 ghost use Rattle.std.specs.Prelude.{◌≡◌};
 ghost use Rattle.typst_rows.specs.Expectations.{expectation_text, expectation_what};

@@ -1,6 +1,6 @@
 //! The syntax of Typst as a table: what a token does in each state of an open frame, and how trees get other kinds.
 //!
-//! `crates/whole.table` has the table, and `bench/grammar_crate.py` writes [`rows`](rows::rows) and [`changes`](maps::changes) from
+//! `crates/grammar.table` has the table, and `bench/grammar_crate.py` writes [`rows`](rows::rows) and [`changes`](maps::changes) from
 //! it. The machine of `typst_parser` does what they say.
 #![tactic(auto)]
 

@@ -1,4 +1,4 @@
-// Written by bench/grammar_crate.py from crates/whole.table: change that and run it.
+// Written by bench/grammar_crate.py from crates/grammar.table: change that and run it.
 //! The maps that give nodes other kinds.
 ghost use Rattle.std.specs.Prelude.{◌≡◌};
 ghost use Rattle.typst_rows.specs.Maps.{changes, entry, item, mistaken, param, params, paren, part, pattern, sink, target, unparen, value};

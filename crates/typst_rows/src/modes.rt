@@ -1,4 +1,4 @@
-// Written by bench/grammar_crate.py from crates/whole.table: change that and run it.
+// Written by bench/grammar_crate.py from crates/grammar.table: change that and run it.
 //! How the lexer reads in each state.
 ghost use Rattle.std.specs.Prelude.{◌≡◌};
 ghost use Rattle.typst_rows.specs.Table.{mode_of};

@@ -1,4 +1,4 @@
-// Written by bench/grammar_crate.py from crates/whole.table: change that and run it.
+// Written by bench/grammar_crate.py from crates/grammar.table: change that and run it.
 //! The rows of what may follow an expression in math.
 ghost use Rattle.std.specs.Prelude.{◌≡◌};
 ghost use Rattle.typst_rows.specs.Row.{rows_of};
