@@ -25,6 +25,11 @@ run_within mode k text =
 pub first_looked : (mode : Mode) (k : Behind) (text : List ℕ) → (first mode k text).len ≤ (first mode k text).look
 first_looked mode k text = omega (arith, begun_len stay accepts 10 (begin mode k) text)
 
+pub first_looks : (mode : Mode) (k : Behind) (text : List ℕ) → (first mode k text).look ≤ length text + 10
+first_looks mode k text =
+    let passed : (run_of mode k text).passed ≤ length text = begun_passed stay accepts 10 (begin mode k) text in
+    omega arith
+
 pub first_boundary : (mode : Mode) (k : Behind) (text : List ℕ) → IsCharBoundary text (first mode k text).len
 first_boundary mode k text = begun_boundary stay accepts stay_stops stay_keeps 10 (begin mode k) machine_sees (begin_accepts mode k) text
 

@@ -6,3 +6,9 @@ pub mod MachineLaws
 pub mod Runs
 pub mod Letters
 pub mod WhiteRuns
+pub mod Tokens
+pub mod Steps
+pub mod LineComments
+pub mod BlockComments
+pub mod OpenComments
+pub mod RawTexts

@@ -30,10 +30,10 @@ code_window (a ∷ b ∷ []) = refl
 code_window (a ∷ b ∷ c ∷ []) = refl
 code_window (a ∷ b ∷ c ∷ d ∷ ds) = refl
 
-abbrev as_char : Option ℕ → Option ℕ
+abbrev pub as_char : Option ℕ → Option ℕ
 as_char o = elim o as (λ _. Option ℕ) [ None ↦ None | Some c ↦ char_of c ]
 
-char_window : (p : ℕ → Bool) (t : List ℕ) → begins_char p (take 10 t) ≡ begins_char p t
+pub char_window : (p : ℕ → Bool) (t : List ℕ) → begins_char p (take 10 t) ≡ begins_char p t
 char_window p t = ap (λ (o : Option ℕ). option_map_or p (as_char o) false) (sym (first_code_is (take 10 t)) ∙ code_window t ∙ first_code_is t)
 
 pair_window : (t : List ℕ) → begins_with (codes "\r\n") (take 10 t) ≡ begins_with (codes "\r\n") t
@@ -60,13 +60,13 @@ or_true true v e = refl
 or_true false v e = e
 
 -- a run that goes on with one more byte, where the rest ends in a place where a token may end
-more_len : (s : Reading) (r : Run) (p : Place) (n : ℕ) → r.last.place ≡ p → may_end p ≡ true → r.len ≡ n → (longer accepts s r).len ≡ suc n
+pub more_len : (s : Reading) (r : Run) (p : Place) (n : ℕ) → r.last.place ≡ p → may_end p ≡ true → r.len ≡ n → (longer accepts s r).len ≡ suc n
 more_len s r p n is may len = ap (λ (v : Bool). if v then suc r.len else 0) (ap may_end is ∙ may) ∙ ap suc len
 
-more_place : (s : Reading) (r : Run) (p : Place) → r.last.place ≡ p → may_end p ≡ true → (longer accepts s r).last.place ≡ p
+pub more_place : (s : Reading) (r : Run) (p : Place) → r.last.place ≡ p → may_end p ≡ true → (longer accepts s r).last.place ≡ p
 more_place s r p is may = ap (λ (v : Bool). (let t : Reading = if v then r.last else s in t.place)) (ap may_end is ∙ may) ∙ is
 
-abbrev at : Place → Behind → Reading
+abbrev pub at : Place → Behind → Reading
 at p k = record { place = p; behind = k }
 
 -- what a run makes of the rest
@@ -74,7 +74,7 @@ abbrev rest : Place → Behind → List ℕ → Run
 rest p h bs = run stay accepts 10 (at p h) bs
 
 -- what a run makes of a byte, given where the token is after it
-abbrev went : Reading → Option Place → Behind → List ℕ → Run
+abbrev pub went : Reading → Option Place → Behind → List ℕ → Run
 went s o h bs = elim (elim o as (λ _. Option Reading) [ None ↦ None | Some now ↦ Some (at now h) ]) as (λ _. Run) [
   | None ↦ stopped s
   | Some t ↦ longer accepts s (run stay accepts 10 t bs)

@@ -18,3 +18,8 @@ pub mod Letters
 pub mod Escapes
 pub mod Spaces
 pub mod White
+pub mod Tokens
+pub mod Left
+pub mod Before
+pub mod RawTexts
+pub mod Nested

@@ -17,7 +17,7 @@ use crate::machine::{accepts, begin, kind_of, stay};
 use crate::mode::Mode;
 use crate::place::{Behind, Reading};
 use crate::token::TokenKind;
-use typst_scanner::window;
+use crate::window::window;
 
 /// The first token of a text.
 #[derive(Clone, Copy, Debug, PartialEq, Eq, Hash)]
@@ -103,13 +103,14 @@ pub fn token_of_bytes(mode: Mode, behind: Behind, bytes: &[u8]) -> FirstToken
     }
 }
 
-#[tactic(auto, using(crate::proofs::FirstTokens::first_boundary))]
+#[tactic(auto, using(crate::proofs::FirstTokens::first_boundary, crate::proofs::FirstTokens::first_looks))]
 /// The first token of a text that isn't empty, in a mode, given what is directly before the text. It takes a step for
 /// each byte that is looked at.
 pub fn first_token(mode: Mode, behind: Behind, text: &str) -> FirstToken
     requires { 0 < length text.now }
     ensures token { result ≡ first mode behind text.now }
     ensures boundary { IsCharBoundary text.now result.len }
+    ensures look { result.look ≤ length text.now + 10 }
 {
     token_of_bytes(mode, behind, text.as_bytes())
 }

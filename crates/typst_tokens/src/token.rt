@@ -220,3 +220,12 @@ pub enum TokenKind {
     /// A character that isn't valid in code.
     InvalidCharacter,
 }
+
+/// A token and its text.
+#[derive(Clone, Copy, Debug, PartialEq, Eq, Hash)]
+pub struct Token<'a> {
+    /// What it is.
+    pub kind: TokenKind,
+    /// Its text, which is never empty.
+    pub text: &'a str,
+}

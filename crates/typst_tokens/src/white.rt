@@ -6,7 +6,7 @@ use crate::AHEAD;
 use crate::machine::begin;
 use crate::mode::Mode;
 use crate::place::{Behind, Place};
-use typst_scanner::window;
+use crate::window::window;
 
 /// Whether a token that is inside of this after its first byte is white space or a comment.
 fn is_white(place: Place) -> bool
