@@ -516,7 +516,7 @@ TYPST_NODISCARD typst_status typst_replace(typst_session *session, const size_t 
                                            size_t count, typst_window *window);
 
 /**
- * Makes the same edit as `typst_replace`, as far down in the tree as it can, so that the nodes that go on keep their numbers. While all
+ * Makes the same edit as `typst_replace`, as far down in the tree as it can, so that the nodes that go on can be followed. While all
  * that changes is below one child, and that child and its new node are inner nodes of one kind with the same warnings, the child stays,
  * and its children are replaced instead. If a single leaf or error then changes into another one of its kind, it keeps its number.
  * `typst_follow` then says what became of each number.
@@ -528,9 +528,9 @@ TYPST_NODISCARD typst_status typst_reconcile(typst_session *session, const size_
                                              size_t to, size_t count, typst_change *change);
 
 /**
- * Removes the last node of the stack, and puts it in place of the whole tree. The nodes that go on keep their numbers, as after
+ * Removes the last node of the stack, and puts it in place of the whole tree. The nodes that go on can be followed, as after
  * `typst_reconcile` of all children of the root. So a parser that makes the whole tree anew after each edit of its text gets numbers
- * that can be kept. If the two roots differ in their kinds or warnings, or the old root has too few numbers for all nodes, then no
+ * that can be followed. What stands between two changed siblings is gone, so update once for each place that changed. If the two roots differ in their kinds or warnings, or the old root has too few numbers for all nodes, then no
  * node goes on, and the new tree is numbered in TYPST_FIRST_NUMBER .. TYPST_END_NUMBER.
  * @param change receives where children were replaced, and which were numbered anew, or that the root itself was changed.
  * @return TYPST_DONE, TYPST_NOT_MADE, TYPST_NO_TREE, TYPST_IS_DOCUMENT, TYPST_SHORT_STACK, TYPST_UNNUMBERABLE or TYPST_NO_MEMORY.
@@ -749,7 +749,7 @@ TYPST_NODISCARD typst_status typst_open(typst_session *session, uint16_t file, c
 /**
  * Replaces the bytes `from .. to` of the document's text by a text, and parses anew only the blocks that this can touch. The block before
  * them is one of these if the parser had read the bytes that go, or at the place where others come.
- * The nodes that go on keep their numbers, as after `typst_reconcile`, and `typst_follow` says what became of each number.
+ * The nodes that go on can be followed, as after `typst_reconcile`: `typst_follow` says what became of each number.
  * @param edited receives which bytes were parsed, and which nodes were numbered anew.
  * @return TYPST_DONE, TYPST_NOT_MADE, TYPST_NO_DOCUMENT, TYPST_BAD_TEXT, TYPST_BAD_RANGE, TYPST_TOO_LARGE, TYPST_UNNUMBERABLE or
  *     TYPST_NO_MEMORY.
