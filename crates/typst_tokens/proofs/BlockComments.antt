@@ -11,8 +11,7 @@ use Rattle.typst_tokens.specs.declared.token.TokenKind.TheVariants as kinds
 use Rattle.typst_tokens.specs.Characters.{begins, begins_with, goes_on}
 use Rattle.typst_tokens.specs.FirstToken.{first}
 use Rattle.typst_tokens.specs.Machine.{may_end, stay_inside}
-use Rattle.typst_tokens.specs.Nested.{IsClosedBefore, IsNested, Nested, begins_mark, written}
-use Rattle.typst_tokens.specs.Nested.Nested.{nothing, byte, comment}
+use Rattle.typst_tokens.specs.Nested.{IsClosedBefore, IsNested, Nested, begins_mark, byte, comment, nothing, written}
 use Rattle.typst_tokens.specs.Shared.{stay_comment, stay_mark}
 use Rattle.typst_tokens.proofs.Steps.{EachRun, IsRun, block_enters, ended, first_kind, first_len, from, step}
 use Rattle.typst_tokens.proofs.WhiteRuns.{at}
@@ -83,12 +82,12 @@ some_open depth h = grind (arith, nat_tests)
 -- after both bytes of a mark
 pub after_mark : (depth b n : ℕ) (end : Place) (bs : List ℕ) → 0 < depth → may_end end ≡ true → goes_on b ≡ false
     → EachRun n end (place.BlockComment depth) bs → EachRun (suc n) end (place.CommentMark depth) (b ∷ bs)
-after_mark depth b n end bs open may whole each k =
+after_mark depth b n end bs deep may whole each k =
     step (place.CommentMark depth) (place.BlockComment depth) end n b bs k (by (goes_on b) whole) may each
   where
     by : (g : Bool) → g ≡ false → (if g then Some (place.CommentMark depth) else Some (stay_mark depth)) ≡ Some (place.BlockComment depth)
     by true e = cc
-    by false e = ap (λ (p : Place). (let o : Option Place = Some p in o)) (mark_by depth (some_open depth open))
+    by false e = ap (λ (p : Place). (let o : Option Place = Some p in o)) (mark_by depth (some_open depth deep))
 
 pub opens : (depth n : ℕ) (end : Place) (bs : List ℕ) → may_end end ≡ true
     → EachRun n end (place.BlockComment (depth + 1)) bs → EachRun (suc (suc n)) end (place.BlockComment depth) (47 ∷ 42 ∷ bs)
@@ -98,22 +97,22 @@ opens depth n end bs may each k =
 
 pub closes : (depth n : ℕ) (end : Place) (bs : List ℕ) → 0 < depth → may_end end ≡ true
     → EachRun n end (place.BlockComment depth) bs → EachRun (suc (suc n)) end (place.BlockComment (depth + 1)) (42 ∷ 47 ∷ bs)
-closes depth n end bs open may each k =
+closes depth n end bs deep may each k =
     let less : depth + 1 - 1 ≡ depth = omega arith in
     step (place.BlockComment (depth + 1)) (place.CommentMark depth) end (suc n) 42 (47 ∷ bs) k
     (ap (λ (n : ℕ). (let o : Option Place = Some (place.CommentMark n) in o)) less) may
-    (after_mark depth 47 n end bs open may refl each)
+    (after_mark depth 47 n end bs deep may refl each)
 
 -- the machine goes over a tree
 nested_run : (t : Nested) (after : List ℕ) (depth n : ℕ) (end : Place) → IsNested t after → 0 < depth → may_end end ≡ true
     → EachRun n end (place.BlockComment depth) after → EachRun (long t n) end (place.BlockComment depth) (written t after)
-nested_run nothing after depth n end is open may each = each
-nested_run (byte b more) after depth n end is open may each = λ k.
+nested_run nothing after depth n end is deep may each = each
+nested_run (byte b more) after depth n end is deep may each = λ k.
     step (place.BlockComment depth) (place.BlockComment depth) end (long more n) b (written more after) k
-    (byte_stays depth b (written more after) k is.0) may (nested_run more after depth n end is.1 open may each)
-nested_run (comment inner more) after depth n end is open may each =
-    let later = nested_run more after depth n end is.1 open may each in
-    let close = closes depth (long more n) end (written more after) open may later in
+    (byte_stays depth b (written more after) k is.0) may (nested_run more after depth n end is.1 deep may each)
+nested_run (comment inner more) after depth n end is deep may each =
+    let later = nested_run more after depth n end is.1 deep may each in
+    let close = closes depth (long more n) end (written more after) deep may later in
     opens depth (long inner (suc (suc (long more n)))) end (written inner (42 ∷ 47 ∷ written more after)) may
     (nested_run inner (42 ∷ 47 ∷ written more after) (depth + 1) (suc (suc (long more n))) end is.0 (omega arith) may close)
 
@@ -138,8 +137,8 @@ closed_at t how k after whole is =
     let end : Place = place.Rest kinds.BlockComment 0 in
     let text : List ℕ = written t (42 ∷ 47 ∷ after) in
     let inside = block_enters how k (take 8 text) in
-    let open : 0 < 1 = omega arith in
-    let each = after_mark 1 42 (long t 2) end text open refl refl (nested_run t (42 ∷ 47 ∷ after) 1 2 end is open refl (last_mark after whole)) in
+    let deep : 0 < 1 = omega arith in
+    let each = after_mark 1 42 (long t 2) end text deep refl refl (nested_run t (42 ∷ 47 ∷ after) 1 2 end is deep refl (last_mark after whole)) in
     let len = first_len how k 47 (42 ∷ text) (place.CommentMark 1) end (suc (long t 2)) inside each in
     let same : long t 2 + length after ≡ length text = long_more t 2 (length after) ∙ ap (long t) (two (length after)) ∙ sym (written_long t (42 ∷ 47 ∷ after)) in (
       first_kind how k 47 (42 ∷ text) (place.CommentMark 1) end (suc (long t 2)) inside each,

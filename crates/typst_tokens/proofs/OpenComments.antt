@@ -9,8 +9,7 @@ use Rattle.typst_tokens.specs.declared.place.Place.TheVariants as place
 use Rattle.typst_tokens.specs.declared.token.TokenKind.TheVariants as kinds
 use Rattle.typst_tokens.specs.Characters.{begins_with}
 use Rattle.typst_tokens.specs.FirstToken.{first}
-use Rattle.typst_tokens.specs.Nested.{IsClosedBefore, IsNested, Nested, begins_mark, written}
-use Rattle.typst_tokens.specs.Nested.Nested.{nothing, byte, comment}
+use Rattle.typst_tokens.specs.Nested.{IsClosedBefore, IsNested, Nested, begins_mark, byte, comment, nothing, written}
 use Rattle.typst_tokens.proofs.BlockComments.{after_mark, byte_stays, closes, opens}
 use Rattle.typst_tokens.proofs.Steps.{EachRun, block_enters, first_kind, first_len, step}
 
@@ -64,9 +63,9 @@ found_close (suc n) bs found = by (found n)
     by : Found n bs → Found (suc n) (42 ∷ 47 ∷ bs)
     by (inl c) = inl (bs, (nothing, tt, refl), c)
     by (inr o) =
-        let open : 0 < suc n = omega arith in
+        let deep : 0 < suc n = omega arith in
         inr (o.0, subst (λ (m : ℕ). EachRun (suc (suc (length bs))) (place.BlockComment o.0) (place.BlockComment m) (42 ∷ 47 ∷ bs)) (sym (one_more (suc n)))
-            (closes (suc n) (length bs) (place.BlockComment o.0) bs open refl o.1))
+            (closes (suc n) (length bs) (place.BlockComment o.0) bs deep refl o.1))
 
 both : (u v : Bool) → (u && v) ≡ true → (u ≡ true) × (v ≡ true)
 both true v e = (refl, e)
@@ -111,8 +110,8 @@ comment_open how k rest never = by (found_in rest 0)
     by (inl c) = absurd (never c.0 c.1)
     by (inr o) =
         let inside = block_enters how k (take 8 rest) in
-        let open : 0 < 1 = omega arith in
-        let each = after_mark 1 42 (length rest) (place.BlockComment o.0) rest open refl refl o.1 in
+        let deep : 0 < 1 = omega arith in
+        let each = after_mark 1 42 (length rest) (place.BlockComment o.0) rest deep refl refl o.1 in
         let len = first_len how k 47 (42 ∷ rest) (place.CommentMark 1) (place.BlockComment o.0) (suc (length rest)) inside each in (
           first_kind how k 47 (42 ∷ rest) (place.CommentMark 1) (place.BlockComment o.0) (suc (length rest)) inside each,
           omega (arith, len),

@@ -127,7 +127,7 @@ other_by : (n r : ℕ) (g v : Bool) → v ≡ false → (r ≡ 0) ⊎ (g ≡ fal
 other_by n r g true e h = cc
 other_by n r false false e h = refl
 other_by n r true false e (inl zero_r) = some_place _ _ (ap (place.RawText n) zero_r)
-other_by n r true false e (inr no) = cc
+other_by n r true false e (inr whole) = cc
 
 tick_test : (b : ℕ) (w : List ℕ) → eqb 96 b ≡ false → begins_with (codes "`") (b ∷ w) ≡ false
 tick_test b w e = ap (λ (v : Bool). v && true) e
@@ -216,7 +216,7 @@ utf8_whole bs u = whole_from bs next
     next i l e m =
         let one : i + 1 ≡ suc i = omega arith in
         no_middle (get_or bs (suc i) 0)
-        (subst (λ j. 128 ≤ get_or bs j 0 → 192 ≤ get_or bs j 0) one (lead_after_ascii bs i u l (omega arith) (omega arith)))
+        (subst (λ j. 128 ≤ get_or bs j 0 → 192 ≤ get_or bs j 0) one (lead_after_ascii bs i u (omega arith) (omega arith)))
 
 rest_whole : (j : ℕ) (rest : List ℕ) → AreWhole (96 ∷ ticks j ++ rest) → (begins goes_on rest ≡ false) × AreWhole rest
 rest_whole zero rest w = (w.0 refl, w.1)
