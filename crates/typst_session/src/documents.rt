@@ -38,8 +38,7 @@ impl Session {
     }
 
     /// Replaces a range of bytes of the document's text by another text, and tells which bytes were parsed anew and
-    /// what the edit changed in the tree. Nodes that go on keep their numbers, and [`Session::follow`] follows each
-    /// number.
+    /// what the edit changed in the tree. [`Session::follow`] follows each node that goes on.
     pub fn edit(
         &mut self,
         alloc: Global,
