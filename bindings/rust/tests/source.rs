@@ -1,7 +1,7 @@
 //! Tests of texts that are edited.
 use typst_tree::{
-    Accessor, Answer, ColumnUnit, Error, FileId, LineColumn, LineEnds, NodeClass, Side, Source, Span, SyntaxKind,
-    Touched,
+    Accessor, Answer, ColumnUnit, Error, FileId, LineColumn, LineEnds, NodeClass, Severity, Side, Source, Span,
+    SyntaxKind, Touched,
 };
 
 fn opened(text: &str) -> Result<Source, Error> {
@@ -208,6 +208,38 @@ fn code_and_equations_are_read_by_views() -> Result<(), Error> {
     assert_eq!(
         (told[0].message.as_str(), told[0].range.clone()),
         ("expected semicolon or line break", 9..9)
+    );
+    Ok(())
+}
+
+#[test]
+fn errors_and_warnings_are_told_with_their_hints() -> Result<(), Error> {
+    let source = opened("#{a & b}\n**\n")?;
+    let told = source.diagnostics()?;
+    let hints: Vec<_> = told
+        .iter()
+        .flat_map(|told| &told.hints)
+        .map(|hint| hint.text.as_str())
+        .collect();
+    assert_eq!(
+        (
+            told.len(),
+            &told[0].severity,
+            told[0].range.clone(),
+            told[0].message.as_str()
+        ),
+        (2, &Severity::Error, 4..5, "the character `&` is not valid in code")
+    );
+    assert_eq!(
+        (&told[1].severity, told[1].range.clone(), told[1].message.as_str()),
+        (&Severity::Warning, 9..11, "no text within stars")
+    );
+    assert_eq!(
+        hints,
+        [
+            "in Typst, `and` is used for logical AND",
+            "using multiple consecutive stars (e.g. **) has no additional effect"
+        ]
     );
     Ok(())
 }
