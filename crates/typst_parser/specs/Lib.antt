@@ -19,6 +19,7 @@ pub mod Reads
 pub mod Retag
 pub mod Roles
 pub mod Rows
+pub mod Seen
 pub mod Spans
 pub mod Stack
 pub mod Steps
