@@ -13,6 +13,7 @@ mod Local
 mod Loops
 mod Mistaking
 mod Placing
+mod Printable
 mod RawCuts
 mod RawLaws
 mod RawLines
