@@ -14,8 +14,8 @@ With --parsed the texts are those of bench/grammar_texts.py: valid ones, and pie
 
 - The tree of each text must be that of the plain machine (bench/grammar_machine.py), with its errors.
 - The tree of a valid text must have no error.
-- Each inner node, unless an error is among its children, must have the children that its kind's line says. So the accessors of its view
-  find what they ask for, and return no placeholder.
+- Each inner node must have the children that its kind's line says, unless an error is among them or directly before the node. So the
+  accessors of its view find what they ask for, and return no placeholder. (Where an error is last, no further one tells what is missing.)
 """
 import random
 import re
@@ -36,6 +36,7 @@ TOP = Path(__file__).resolve().parent.parent
 CLASSES = ("pattern", "arg", "array_item", "dict_item", "param", "destructuring_item", "import_item")
 LINES, PAGE, CORPUS = TOP / "crates/children.txt", TOP / "docs/CHILDREN.md", TOP / "crates/typst_language_tests/data"
 COMMENTS = ("LineComment", "BlockComment", "Shebang")
+WHITE = (*COMMENTS, "Space", "Parbreak")
 PROVED = TOP / "crates/typst_show/out/typst_show"
 # How many texts of each sort are made.
 TEXTS = 5_000
@@ -343,11 +344,21 @@ def plain_tree(node, start=0):
     return made, told
 
 
-def unlike(forms, root):
-    """The inner nodes without the children that their lines say, unless an error is among these."""
+def behind_errors(root):
+    """The nodes directly behind an error, white space aside."""
+    found = set()
     for _, node in root.rows():
-        if node.children and all(it.kind != "Error" for it in node.children):
-            form = forms.get(node.kind)
+        kids = [it for it in node.children if it.kind not in WHITE]
+        found |= {id(it) for last, it in zip(kids, kids[1:]) if last.kind == "Error"}
+    return found
+
+
+def unlike(forms, root):
+    """The inner nodes without the children that their lines say, unless an error is among these or directly before the node."""
+    excused = behind_errors(root)
+    for _, node in root.rows():
+        form = forms.get(node.kind)
+        if (node.children or form) and id(node) not in excused and all(it.kind != "Error" for it in node.children):
             kids = children_of(node, form) if form else []
             if not form or all(end != len(kids) for end, _ in matches(form, kids, 0, classes())):
                 yield f"{node.kind}[{' '.join(it.kind for it in node.children)}]"

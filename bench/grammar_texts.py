@@ -97,7 +97,7 @@ class Maker:
     def mark(self):
         return self.chance.choice(
             ["\\#", "\\u{1F600}", "\\ ", "--", "...", "~", "'q'", '"q"', "https://a.b/c(d)?e", "@ref", "`raw`", "```py x\n  y\n ```", "``",
-             "/* c /* d */ */", "<label>", "a: b", "= no", "- no"]
+             "/* c /* d */ */", "<label>", "a: b", "a = no", "- no"]
         )  # fmt: skip
 
     # Code.
@@ -232,7 +232,7 @@ class Maker:
             lambda: f"[{inner()}, {inner()})",
             lambda: f"{self.chance.choice(MATH_NAMES)}({', '.join([inner(), *names()])}; {inner()})",
             lambda: f"#{self.atom(depth - 1)};",
-            lambda: self.chance.choice(["&", "\\ ", "->", "<=>", "...", "\\#", ", ;", "|x|", "a'", "f'(x)", "x_a_b", "a/b/c", "/* c */"]),
+            lambda: self.chance.choice(["&", "\\ ", "->", "<=>", "...", "\\#", "(, ;)", "|x|", "a'", "f'(x)", "x_a_b", "a/b/c", "/* c */"]),
             lambda: f"f(..{inner()})",
         )
 

@@ -7,7 +7,7 @@ It works in a clean clone, four parts at a time, the longest first:
 
 - the checks of bench/seconds;
 - the tests of each crate that has some, by `rt try --test`;
-- the programs of examples/README.md, by `rt try`, and the trees of texts in typst_language_tests, which takes some 70,000 edits, by a build
+- the programs of examples/README.md, by `rt try`, and the trees of texts in typst_language_tests, which takes some 130,000 edits, by a build
   of which nothing is tested: each must print its `stdout`;
 - the scripts and the looks in examples/ by ./run and ./look, and the text with a mistake and its edit by ./show: each must print its
   `NAME.stdout`.

@@ -716,7 +716,7 @@ HEADED_ANSWERS = [
 # The block that the edit is in, after the paragraph break.
 PARSED = range(9, 26)
 # The edit of examples/letter.typ: the line before which a line is inserted, that line, and the lines of the tree that it makes. Below is
-# how the block begins that the edit is in, and the block after it. The letter's tree was worked out by hand, too.
+# how the block begins that the edit is in, and the block after it. The letter's tree was worked out by the plain machine, and read.
 LETTER_EDIT = ("- All other", "- New nodes get numbers between those beside them.\n", """\
   ListItem
     ListMarker "-"

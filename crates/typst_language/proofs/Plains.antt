@@ -46,9 +46,11 @@ event_plain : (e : Event) (piece : List ℕ) (ts : List Tree) → ArePlain ts �
 event_plain (Leaf kind len) piece ts p = join ts _ p (refl, tt)
 event_plain (Error fault len) piece ts p = join ts _ p (refl, tt)
 event_plain (Node kind children) piece ts p =
-    join (take (length ts - children) ts) _ (front (length ts - children) ts p)
-    (plain_warned (warning_for (proper kind) (drop (length ts - children) ts)) (inner_tree (proper kind) (drop (length ts - children) ts))
-    (plain_inner (proper kind) (drop (length ts - children) ts) (behind (length ts - children) ts p)), tt)
+    join (take (length ts - children) ts) _ (front (length ts - children) ts p) (
+      plain_warned (warning_for (proper kind) (drop (length ts - children) ts)) (inner_tree (proper kind) (drop (length ts - children) ts))
+          (plain_inner (proper kind) (drop (length ts - children) ts) (behind (length ts - children) ts p)),
+      tt,
+    )
 
 grown_plain : (ts : List Tree) (text : List ℕ) (es : List Event) → ArePlain ts → ArePlain (grown_onto ts text es)
 grown_plain ts text [] p = p

@@ -2,7 +2,8 @@
 //! other text by an edit. At last it types a letter in some texts, and looks which bytes are parsed anew.
 //!
 //! Its arguments are names. The file `NAME.typ` has a text, and `NAME.tree` has its tree, one node a line, with two
-//! blanks a level. A leaf has its text as `{:?}` prints it, and an error has its text and its message.
+//! blanks a level. A leaf has its text as `{:?}` prints it, and an error has its text and its message. Below a node its
+//! warnings and hints have a line each.
 #![tactic(auto)]
 
 mod blocks;

@@ -115,15 +115,3 @@ past_all (x ∷ xs) (suc n) low = past_all xs n (omega arith)
 pub take_all : (faults : List (Option Fault)) (at end : ℕ) (before taken whole : List Event) → length faults ≤ at → taken ++ faulted_back 0 end (drop at faults) before ≡ whole → taken ++ before ≡ whole
 take_all faults at end before taken whole low so_far =
     ap (λ es. taken ++ es) (sym (faulted_end end before) ∙ sym (ap (λ fs. faulted_back 0 end fs before) (past_all faults at low))) ∙ so_far
-
--- one fault more
-pub faults_next : {X : Type 0} (f : X → Option Found) (xs rest : List X) (i : ℕ) (d : X) (one : Option Fault) (faults new whole : List (Option Fault)) → i < length xs
-    → one ≡ fault_among (f (get_or xs i d)) (map f rest) → rest ≡ drop (i + 1) xs → new ≡ faults ++ one ∷ []
-    → faults ++ faults_of (map f (drop i xs)) ≡ whole → new ++ faults_of (map f (drop (i + 1) xs)) ≡ whole
-faults_next f xs rest i d one faults new whole within one_is rest_is new_is so_far =
-    let split : drop i xs ≡ get_or xs i d ∷ drop (i + 1) xs = drop-cons xs i d within ∙ ap (λ n. get_or xs i d ∷ drop n xs) (sym (add-one i)) in
-    ap (λ fs. fs ++ faults_of (map f (drop (i + 1) xs))) new_is
-    ∙ append_assoc faults (one ∷ []) (faults_of (map f (drop (i + 1) xs)))
-    ∙ ap (λ o. faults ++ (o ∷ faults_of (map f (drop (i + 1) xs)))) (one_is ∙ ap (λ ys. fault_among (f (get_or xs i d)) (map f ys)) rest_is)
-    ∙ sym (ap (λ ys. faults ++ faults_of (map f ys)) split)
-    ∙ so_far

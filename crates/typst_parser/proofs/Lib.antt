@@ -13,12 +13,14 @@ mod Local
 mod Loops
 mod Mistaking
 mod Placing
+mod Printable
 mod RawCuts
 mod RawLaws
 mod RawLines
 mod Retags
 mod Rising
 mod Spanning
+mod Seen
 mod Sums
 mod Texts
 mod Tops

@@ -14,11 +14,13 @@ pub mod LineViews
 pub mod Lines
 pub mod Lists
 pub mod Mistakes
+pub mod Printable
 pub mod Raw
 pub mod Reads
 pub mod Retag
 pub mod Roles
 pub mod Rows
+pub mod Seen
 pub mod Spans
 pub mod Stack
 pub mod Steps

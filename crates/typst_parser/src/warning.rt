@@ -1,7 +1,6 @@
 //! Warnings of nodes.
 ghost use Rattle.std.specs.Prelude.{◌≡◌, IfOk};
 ghost use Rattle.std.specs.List.{list_any};
-ghost use Rattle.typst_node.specs.Tree.{trees};
 ghost use Rattle.typst_parser.specs.Warnings.{empty_warning, holds_text, is_visible, warned_by, warning_for, warning_hint, warning_message};
 
 use std::alloc::{AllocError, Global};
@@ -52,22 +51,46 @@ fn is_visible(node: &SyntaxNode) -> bool
     is_expr(kind) || kind == SyntaxKind::Space
 }
 
+/// Whether one of some nodes is an expression or white space.
+fn has_visible(nodes: &[SyntaxNode]) -> bool
+    ensures { result ≡ list_any is_visible nodes.now }
+{
+    for node in nodes {
+        if is_visible(node) {
+            return true;
+        }
+    }
+    false
+}
+
 /// Whether a child of strong or emphasized content holds text, or is an error.
 fn holds_text(child: &SyntaxNode) -> bool
     ensures { result ≡ holds_text child.now }
 {
     match child.kind() {
         SyntaxKind::Error => true,
-        SyntaxKind::Markup => child.children().any(is_visible),
+        SyntaxKind::Markup => has_visible(child.child_slice()),
         _ => false,
     }
+}
+
+/// Whether one of the children of strong or emphasized content holds text, or is an error.
+fn have_text(children: &[SyntaxNode]) -> bool
+    ensures { result ≡ list_any holds_text children.now }
+{
+    for child in children {
+        if holds_text(child) {
+            return true;
+        }
+    }
+    false
 }
 
 /// The warning of strong or emphasized content over these children.
 fn empty_warning(warning: Warning, children: &[SyntaxNode]) -> Option<Warning>
     ensures { result ≡ empty_warning warning children.now }
 {
-    if children.iter().any(holds_text) {
+    if have_text(children) {
         None
     } else {
         Some(warning)

@@ -1,19 +1,18 @@
 -- Where a block comment ends.
-use Rattle.std.proofs.Common.{◌≡◌, ℕ, suc, zero, ◌+◌, ◌-◌, ◌<◌, ◌⊎◌, inl, inr, Bool, true, false, List, [], ◌∷◌, length, take, refl, sym, ap, subst, ◌∙◌, arith}
-use Rattle.std.specs.Prelude.{◌&&◌, ◌||◌, ◌==◌, codes, Option, Some, None, if◌then◌else◌}
+use Rattle.std.proofs.Common.{◌≡◌, ℕ, suc, ◌+◌, ◌-◌, ◌<◌, Bool, true, false, List, [], ◌∷◌, length, take, refl, sym, ap, subst, ◌∙◌, arith}
+use Rattle.std.specs.Prelude.{◌||◌, ◌==◌, codes, Option, Some, None, if◌then◌else◌}
 use Rattle.std.proofs.lemmas.Bool.Decides.{nat_tests}
 use Rattle.typst_tokens.specs.declared.mode.Mode.{Mode}
 use Rattle.typst_tokens.specs.declared.place.Behind.{Behind}
 use Rattle.typst_tokens.specs.declared.place.Place.{Place}
 use Rattle.typst_tokens.specs.declared.place.Place.TheVariants as place
-use Rattle.typst_tokens.specs.declared.token.TokenKind.{TokenKind}
 use Rattle.typst_tokens.specs.declared.token.TokenKind.TheVariants as kinds
 use Rattle.typst_tokens.specs.Characters.{begins, begins_with, goes_on}
 use Rattle.typst_tokens.specs.FirstToken.{first}
 use Rattle.typst_tokens.specs.Machine.{may_end, stay_inside}
 use Rattle.typst_tokens.specs.Nested.{IsClosedBefore, IsNested, Nested, begins_mark, byte, comment, nothing, written}
-use Rattle.typst_tokens.specs.Shared.{stay_comment, stay_mark}
-use Rattle.typst_tokens.proofs.Steps.{EachRun, IsRun, block_enters, ended, first_kind, first_len, from, step}
+use Rattle.typst_tokens.specs.Shared.{stay_mark}
+use Rattle.typst_tokens.proofs.Steps.{EachRun, block_enters, ended, first_kind, first_len, step}
 use Rattle.typst_tokens.proofs.WhiteRuns.{at}
 
 -- how many bytes a tree has, and n more
@@ -37,8 +36,8 @@ long_more (byte b more) n m = out (long more n) m ∙ ap suc (long_more more n m
 long_more (comment inner more) n m =
     out (suc (long inner (suc (suc (long more n))))) m
     ∙ ap suc (out (long inner (suc (suc (long more n)))) m
-        ∙ ap suc (long_more inner (suc (suc (long more n))) m
-            ∙ ap (long inner) (out (suc (long more n)) m ∙ ap suc (out (long more n) m ∙ ap suc (long_more more n m)))))
+    ∙ ap suc (long_more inner (suc (suc (long more n))) m
+    ∙ ap (long inner) (out (suc (long more n)) m ∙ ap suc (out (long more n) m ∙ ap suc (long_more more n m)))))
 
 -- the marks are seen at once
 open_window : (t : List ℕ) → begins_with (codes "/*") (take 10 t) ≡ begins_with (codes "/*") t

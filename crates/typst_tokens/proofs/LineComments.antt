@@ -1,5 +1,5 @@
 -- A line comment ends before the first newline.
-use Rattle.std.proofs.Common.{◌≡◌, ℕ, suc, ◌+◌, Bool, true, false, List, [], ◌∷◌, take, refl, sym, ap, ◌∙◌, arith}
+use Rattle.std.proofs.Common.{◌≡◌, ℕ, suc, ◌+◌, Bool, true, false, List, [], ◌∷◌, take, refl, ap, arith}
 use Rattle.std.specs.Prelude.{◌&&◌, not, Option, Some, None, if◌then◌else◌}
 use Rattle.typst_tokens.specs.declared.mode.Mode.{Mode}
 use Rattle.typst_tokens.specs.declared.place.Behind.{Behind}

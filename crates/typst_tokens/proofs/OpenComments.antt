@@ -4,12 +4,11 @@ use Rattle.std.specs.Prelude.{◌&&◌, ◌||◌, eqb, codes}
 use Rattle.std.proofs.lemmas.Bool.{eqb-true}
 use Rattle.typst_tokens.specs.declared.mode.Mode.{Mode}
 use Rattle.typst_tokens.specs.declared.place.Behind.{Behind}
-use Rattle.typst_tokens.specs.declared.place.Place.{Place}
 use Rattle.typst_tokens.specs.declared.place.Place.TheVariants as place
 use Rattle.typst_tokens.specs.declared.token.TokenKind.TheVariants as kinds
 use Rattle.typst_tokens.specs.Characters.{begins_with}
 use Rattle.typst_tokens.specs.FirstToken.{first}
-use Rattle.typst_tokens.specs.Nested.{IsClosedBefore, IsNested, Nested, begins_mark, byte, comment, nothing, written}
+use Rattle.typst_tokens.specs.Nested.{IsClosedBefore, IsNested, begins_mark, byte, comment, nothing, written}
 use Rattle.typst_tokens.proofs.BlockComments.{after_mark, byte_stays, closes, opens}
 use Rattle.typst_tokens.proofs.Steps.{EachRun, block_enters, first_kind, first_len, step}
 
@@ -45,16 +44,22 @@ comment_before (suc n) bs mid c d = (d.0, closed_comment bs mid d.0 c d.1, d.2)
 
 found_byte : (n a : ℕ) (bs : List ℕ) → begins_mark (a ∷ bs) ≡ false → Found n bs → Found n (a ∷ bs)
 found_byte n a bs plain (inl c) = inl (byte_before n a bs plain c)
-found_byte n a bs plain (inr o) = inr (o.0, λ k.
-    step (place.BlockComment (suc n)) (place.BlockComment (suc n)) (place.BlockComment o.0) (length bs) a bs k (byte_stays (suc n) a bs k plain) refl o.1)
+found_byte n a bs plain (inr o) = inr (
+  o.0,
+  λ k.
+      step (place.BlockComment (suc n)) (place.BlockComment (suc n)) (place.BlockComment o.0) (length bs) a bs k (byte_stays (suc n) a bs k plain) refl o.1,
+)
 
 one_more : (n : ℕ) → suc n ≡ n + 1
 one_more n = omega arith
 
 found_open : (n : ℕ) (bs : List ℕ) → Found (suc n) bs → Found n (47 ∷ 42 ∷ bs)
 found_open n bs (inl c) = inl (comment_before n bs c.0 c.1 c.2)
-found_open n bs (inr o) = inr (o.0, opens (suc n) (length bs) (place.BlockComment o.0) bs refl
-    (subst (λ (m : ℕ). EachRun (length bs) (place.BlockComment o.0) (place.BlockComment m) bs) (one_more (suc n)) o.1))
+found_open n bs (inr o) = inr (
+  o.0,
+  opens (suc n) (length bs) (place.BlockComment o.0) bs refl
+      (subst (λ (m : ℕ). EachRun (length bs) (place.BlockComment o.0) (place.BlockComment m) bs) (one_more (suc n)) o.1),
+)
 
 found_close : (n : ℕ) (bs : List ℕ) → ((m : ℕ) → Found m bs) → Found n (42 ∷ 47 ∷ bs)
 found_close zero bs found = inl (bs, (nothing, tt, refl))
@@ -64,8 +69,11 @@ found_close (suc n) bs found = by (found n)
     by (inl c) = inl (bs, (nothing, tt, refl), c)
     by (inr o) =
         let deep : 0 < suc n = omega arith in
-        inr (o.0, subst (λ (m : ℕ). EachRun (suc (suc (length bs))) (place.BlockComment o.0) (place.BlockComment m) (42 ∷ 47 ∷ bs)) (sym (one_more (suc n)))
-            (closes (suc n) (length bs) (place.BlockComment o.0) bs deep refl o.1))
+        inr (
+          o.0,
+          subst (λ (m : ℕ). EachRun (suc (suc (length bs))) (place.BlockComment o.0) (place.BlockComment m) (42 ∷ 47 ∷ bs)) (sym (one_more (suc n)))
+              (closes (suc n) (length bs) (place.BlockComment o.0) bs deep refl o.1),
+        )
 
 both : (u v : Bool) → (u && v) ≡ true → (u ≡ true) × (v ≡ true)
 both true v e = (refl, e)

@@ -10,9 +10,7 @@ use Rattle.typst_tokens.specs.declared.mode.Mode.TheVariants as modes
 use Rattle.typst_tokens.specs.declared.place.Behind.{Behind}
 use Rattle.typst_tokens.specs.declared.place.Place.{Place}
 use Rattle.typst_tokens.specs.declared.place.Place.TheVariants as place
-use Rattle.typst_tokens.specs.declared.token.TokenKind.{TokenKind}
 use Rattle.typst_tokens.specs.declared.token.TokenKind.TheVariants as kinds
-use Rattle.typst_tokens.specs.Before.{before}
 use Rattle.typst_tokens.specs.Characters.{begins, begins_with, goes_on}
 use Rattle.typst_tokens.specs.Classes.{is_blank, is_newline}
 use Rattle.typst_tokens.specs.FirstToken.{first}
@@ -101,22 +99,36 @@ tick_last n r bs e whole =
     let same : suc r ≡ n = grind (arith, nat_tests) in
     let some : 0 < n = omega arith in
     let none : body_len n (ticks r ++ 96 ∷ bs) ≡ 0 = ap (body_len n) (shift r bs ∙ ap (λ m. ticks m ++ bs) same) ∙ at_once n bs some in
-    inl (1, omega (arith, none), omega (arith, none, length_ticks r (96 ∷ bs)), λ k.
-        step (place.RawText n r) (place.Rest kinds.Raw 0) (place.Rest kinds.Raw 0) 0 96 bs k (tick_place n r k bs true e) refl (over bs whole))
+    inl (
+      1,
+      omega (arith, none),
+      omega (arith, none, length_ticks r (96 ∷ bs)),
+      λ k.
+          step (place.RawText n r) (place.Rest kinds.Raw 0) (place.Rest kinds.Raw 0) 0 96 bs k (tick_place n r k bs true e) refl (over bs whole),
+    )
 
 tick_more : (n r : ℕ) (bs : List ℕ) → (r + 1 == n) ≡ false → Found n (suc r) bs → Found n r (96 ∷ bs)
 tick_more n r bs e (inl c) =
     let one : suc r ≡ r + 1 = omega arith in
     let same : body_len n (ticks r ++ 96 ∷ bs) ≡ body_len n (ticks (suc r) ++ bs) = ap (body_len n) (shift r bs) in
     let long : length (ticks r ++ 96 ∷ bs) ≡ length (ticks (suc r) ++ bs) = ap length (shift r bs) in
-    inl (suc c.0, omega (arith, c.1, same), omega (arith, c.2, same, long), λ k.
-        step (place.RawText n r) (place.RawText n (r + 1)) (place.Rest kinds.Raw 0) c.0 96 bs k (tick_place n r k bs false e) refl
-        (subst (λ (m : ℕ). EachRun c.0 (place.Rest kinds.Raw 0) (place.RawText n m) bs) one c.3))
+    inl (
+      suc c.0,
+      omega (arith, c.1, same),
+      omega (arith, c.2, same, long),
+      λ k.
+          step (place.RawText n r) (place.RawText n (r + 1)) (place.Rest kinds.Raw 0) c.0 96 bs k (tick_place n r k bs false e) refl
+          (subst (λ (m : ℕ). EachRun c.0 (place.Rest kinds.Raw 0) (place.RawText n m) bs) one c.3),
+    )
 tick_more n r bs e (inr o) =
     let one : suc r ≡ r + 1 = omega arith in
-    inr (o.0, ap (body_len n) (shift r bs) ∙ o.1 ∙ ap length (sym (shift r bs)), λ k.
-        step (place.RawText n r) (place.RawText n (r + 1)) (place.RawText n o.0) (length bs) 96 bs k (tick_place n r k bs false e) refl
-        (subst (λ (m : ℕ). EachRun (length bs) (place.RawText n o.0) (place.RawText n m) bs) one o.2))
+    inr (
+      o.0,
+      ap (body_len n) (shift r bs) ∙ o.1 ∙ ap length (sym (shift r bs)),
+      λ k.
+          step (place.RawText n r) (place.RawText n (r + 1)) (place.RawText n o.0) (length bs) 96 bs k (tick_place n r k bs false e) refl
+          (subst (λ (m : ℕ). EachRun (length bs) (place.RawText n o.0) (place.RawText n m) bs) one o.2),
+    )
 
 less_or_last : (n r : ℕ) → r < n → (r + 1 == n) ≡ false → suc r < n
 less_or_last n r less e = grind (arith, nat_tests)
@@ -136,13 +148,22 @@ other_more : (n r b : ℕ) (bs : List ℕ) → r < n → eqb 96 b ≡ false → 
 other_more n r b bs less e h (inl c) =
     let long = length_ticks r (b ∷ bs) in
     let here = past n r b bs less e in
-    inl (suc c.0, omega (arith, c.1, here), omega (arith, c.2, here, long), λ k.
-        step (place.RawText n r) (place.RawText n 0) (place.Rest kinds.Raw 0) c.0 b bs k
-        (other_by n r (goes_on b) (begins_with (codes "`") (take 10 (b ∷ bs))) (tick_test b (take 9 bs) e) h) refl c.3)
+    inl (
+      suc c.0,
+      omega (arith, c.1, here),
+      omega (arith, c.2, here, long),
+      λ k.
+          step (place.RawText n r) (place.RawText n 0) (place.Rest kinds.Raw 0) c.0 b bs k
+          (other_by n r (goes_on b) (begins_with (codes "`") (take 10 (b ∷ bs))) (tick_test b (take 9 bs) e) h) refl c.3,
+    )
 other_more n r b bs less e h (inr o) =
-    inr (o.0, omega (arith, o.1, past n r b bs less e, length_ticks r (b ∷ bs)), λ k.
-        step (place.RawText n r) (place.RawText n 0) (place.RawText n o.0) (length bs) b bs k
-        (other_by n r (goes_on b) (begins_with (codes "`") (take 10 (b ∷ bs))) (tick_test b (take 9 bs) e) h) refl o.2)
+    inr (
+      o.0,
+      omega (arith, o.1, past n r b bs less e, length_ticks r (b ∷ bs)),
+      λ k.
+          step (place.RawText n r) (place.RawText n 0) (place.RawText n o.0) (length bs) b bs k
+          (other_by n r (goes_on b) (begins_with (codes "`") (take 10 (b ∷ bs))) (tick_test b (take 9 bs) e) h) refl o.2,
+    )
 
 found_by : (n r b : ℕ) (bs : List ℕ) (v : Bool) → eqb 96 b ≡ v → r < n → AreWhole (b ∷ bs) → (r ≡ 0) ⊎ (goes_on b ≡ false)
     → ((m : ℕ) → m < n → (m ≡ 0) ⊎ (begins goes_on bs ≡ false) → Found n m bs) → Found n r (b ∷ bs)
@@ -290,8 +311,8 @@ raw_ends how k (suc j) (b ∷ bs) has utf some two other =
         let n : ℕ = suc j in
         let closes : has_ticks n (b ∷ bs) ≡ true = is_less (body_len n (b ∷ bs)) (length (b ∷ bs)) (omega (arith, here, c.2)) in
         let found = raw_at how k j (suc c.0) (b ∷ bs) (place.Rest kinds.Raw 0) has refl (λ h.
-            step (place.RawOpening n) (place.RawText n 0) (place.Rest kinds.Raw 0) c.0 b bs h
-            (text_by n (goes_on b) (begins_with (codes "`") (take 10 (b ∷ bs))) (n == 2) g other two) refl c.3) in
+        step (place.RawOpening n) (place.RawText n 0) (place.Rest kinds.Raw 0) c.0 b bs h
+        (text_by n (goes_on b) (begins_with (codes "`") (take 10 (b ∷ bs))) (n == 2) g other two) refl c.3) in
         let len : (first how k (ticks n ++ b ∷ bs)).len ≡ n + body_len n (b ∷ bs) + n = omega (arith, found.1, c.1, here) in (
           found.0 ∙ ap (λ (v : Bool). if v then kinds.Raw else kinds.UnclosedRaw) (sym closes),
           len ∙ ap (λ (v : Bool). if v then n + body_len n (b ∷ bs) + n else n + length (b ∷ bs)) (sym closes),
@@ -300,8 +321,8 @@ raw_ends how k (suc j) (b ∷ bs) has utf some two other =
         let n : ℕ = suc j in
         let opens : has_ticks n (b ∷ bs) ≡ false = not_less (body_len n (b ∷ bs)) (length (b ∷ bs)) (here ∙ ap suc o.1) in
         let found = raw_at how k j (suc (length bs)) (b ∷ bs) (place.RawText n o.0) has refl (λ h.
-            step (place.RawOpening n) (place.RawText n 0) (place.RawText n o.0) (length bs) b bs h
-            (text_by n (goes_on b) (begins_with (codes "`") (take 10 (b ∷ bs))) (n == 2) g other two) refl o.2) in (
+        step (place.RawOpening n) (place.RawText n 0) (place.RawText n o.0) (length bs) b bs h
+        (text_by n (goes_on b) (begins_with (codes "`") (take 10 (b ∷ bs))) (n == 2) g other two) refl o.2) in (
           found.0 ∙ ap (λ (v : Bool). if v then kinds.Raw else kinds.UnclosedRaw) (sym opens),
           found.1 ∙ ap (λ (v : Bool). if v then n + body_len n (b ∷ bs) + n else n + length (b ∷ bs)) (sym opens),
         )

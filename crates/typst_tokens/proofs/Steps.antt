@@ -1,6 +1,6 @@
 -- Runs step by step: where a token goes on, where it ends, and what that makes of the first token.
-use Rattle.std.proofs.Common.{◌≡◌, ℕ, suc, zero, Bool, true, false, List, [], ◌∷◌, take, refl, sym, ap, ◌∙◌}
-use Rattle.std.specs.Prelude.{◌&&◌, ◌||◌, codes, Option, Some, None, if◌then◌else◌}
+use Rattle.std.proofs.Common.{◌≡◌, ℕ, suc, Bool, true, false, List, ◌∷◌, take, refl, sym, ap, ◌∙◌}
+use Rattle.std.specs.Prelude.{◌&&◌, codes, Option, Some, None, if◌then◌else◌}
 use Rattle.std.specs.Char.{is_whitespace}
 use Rattle.std.specs.Option.{option_map_or}
 use Rattle.typst_tokens.specs.declared.head.Run.{Run}
@@ -9,7 +9,6 @@ use Rattle.typst_tokens.specs.declared.mode.Mode.TheVariants as modes
 use Rattle.typst_tokens.specs.declared.place.Behind.{Behind}
 use Rattle.typst_tokens.specs.declared.place.Place.{Place}
 use Rattle.typst_tokens.specs.declared.place.Place.TheVariants as place
-use Rattle.typst_tokens.specs.declared.place.Reading.{Reading}
 use Rattle.typst_tokens.specs.Characters.{goes_on, begins_with}
 use Rattle.typst_tokens.specs.Classes.{begins_char, is_blank, is_newline}
 use Rattle.typst_tokens.specs.FirstToken.{first, run_of}

@@ -1,10 +1,10 @@
 -- What holds of the tokens of any text.
-use Rattle.std.proofs.Common.{◌≡◌, ℕ, zero, suc, ◌+◌, ◌-◌, ◌<◌, ◌≤◌, List, [], ◌∷◌, ◌++◌, length, take, drop, refl, sym, ap, ◌∙◌, arith}
+use Rattle.std.proofs.Common.{◌≡◌, ℕ, zero, suc, ◌-◌, ◌<◌, List, [], ◌∷◌, ◌++◌, length, take, drop, refl, sym, ap, ◌∙◌, arith}
 use Rattle.typst_tokens.specs.declared.mode.Mode.{Mode}
 use Rattle.typst_tokens.specs.declared.place.Behind.{Behind}
 use Rattle.typst_tokens.specs.declared.head.FirstToken.{FirstToken}
 use Rattle.typst_tokens.specs.FirstToken.{first}
-use Rattle.typst_tokens.specs.Tokens.{Piece, AreFilled, cut, found_in, joined, tokens}
+use Rattle.typst_tokens.specs.Tokens.{AreFilled, cut, found_in, joined, tokens}
 use Rattle.typst_tokens.proofs.FirstTokens.{first_within}
 
 less_one : (n : ℕ) → suc n - 1 ≡ n

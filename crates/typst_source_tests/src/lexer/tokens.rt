@@ -264,3 +264,20 @@ fn nothing_comes_after_the_end(rt: HostRuntime) {
     lexer.set_mode(Mode::Code);
     assert!(rt; lexer.next().is_none());
 }
+
+#[test]
+fn a_heading_has_three_tokens(rt: HostRuntime) -> Result<(), Fail> {
+    let text = "= Title";
+    let mut shown = String::new(rt.alloc());
+    let mut lexer = Lexer::new(text, Mode::Markup);
+    while let Some(token) = lexer.next() {
+        write!(shown, "{:?}[{}]", token.kind, token.text)?;
+    }
+    assert_in(
+        &rt,
+        text,
+        &shown.as_str(),
+        &"HeadingMarker[=]Space[ ]Text[Title]",
+    );
+    Ok(())
+}

@@ -38,12 +38,12 @@ fn is_star_text(text: &str, c: char) -> bool {
     is_text(lexer.next(), c.len_utf8()) && is_text(lexer.next(), 1 + c.len_utf8())
 }
 
-/// No letter and no number has this code or a larger one.
-const LETTERS_END: u32 = 0x4_0000;
+/// No wordy character has this code or a larger one: the letters from here on are Han.
+const WORDY_END: u32 = 0x2_0000;
 
 #[test]
 fn a_star_between_wordy_characters_is_text(rt: HostRuntime) -> Result<(), Fail> {
-    for code in 0..LETTERS_END {
+    for code in 0..WORDY_END {
         if let Some(c) = char::from_u32(code) {
             let text = format!(in rt.alloc(); "{c}*{c}")?;
             let is_wordy = is_alphanumeric(c) && !is_unspaced(c);
