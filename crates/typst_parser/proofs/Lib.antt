@@ -13,7 +13,6 @@ mod Local
 mod Loops
 mod Mistaking
 mod Placing
-mod Printable
 mod RawCuts
 mod RawLaws
 mod RawLines

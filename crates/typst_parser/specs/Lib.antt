@@ -14,7 +14,6 @@ pub mod LineViews
 pub mod Lines
 pub mod Lists
 pub mod Mistakes
-pub mod Printable
 pub mod Raw
 pub mod Reads
 pub mod Retag

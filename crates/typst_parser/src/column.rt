@@ -1,27 +1,16 @@
 //! Lines and columns.
 ghost use Rattle.std.specs.Prelude.{◌≡◌};
-ghost use Rattle.typst_tokens.specs.Characters.{begins};
 ghost use Rattle.typst_parser.specs.Columns.{column_after, column_step, has_newline};
-ghost use Rattle.typst_parser.specs.Printable.{is_printable};
 
 use typst_tokens::{begins_inside_char, begins_newline};
 
-/// Whether a text begins with a printable character of ASCII.
-fn begins_printable(text: &[u8]) -> bool
-    ensures { result ≡ begins is_printable text.now }
-{
-    matches!(text, [b' '..=b'~', ..])
-}
-
-/// The column after the first byte of a text. Most are printable, so this is asked first.
-#[tactic(auto, using(crate::proofs::Printable::printable_newline, crate::proofs::Printable::printable_inside))]
+/// The column after the first byte of a text.
 fn column_step(column: usize, text: &[u8]) -> usize
     ensures { result ≡ column_step column text.now }
 {
-    let is_printable = begins_printable(text);
-    if !is_printable && begins_newline(text) {
+    if begins_newline(text) {
         0
-    } else if !is_printable && begins_inside_char(text) {
+    } else if begins_inside_char(text) {
         column
     } else {
         column.saturating_add(1)
