@@ -35,16 +35,16 @@ BOUNDS = {
     "script: find, run": (1_900, 1_900),
     "script: replace, run": (5_300, 5_400),
     # Texts. An edit is made and taken back: in the middle, or in turns at both ends, with the blocks between them.
-    "text: letter": (72_000, 132_000),
-    "text: letter far": (78_000, 225_000),
-    "text: letter list": (48_500, 127_000),
+    "text: letter": (74_000, 138_000),
+    "text: letter far": (80_000, 232_000),
+    "text: letter list": (50_000, 131_000),
     "text: lines letter": (2_000, 3_600),
     "text: byte_to_line": (210, 250),
     "text: line_column_to_byte": (170, 170),
     "text: place_of": (550, 590),
 }
 # The most instructions for each line of a text that is parsed: of paragraphs, of one block, and of items without blank lines.
-PER_LINE = {"text: parse": (16_500, 16_500), "text: parse block": (21_500, 21_500), "text: parse list": (19_000, 19_000)}
+PER_LINE = {"text: parse": (16_500, 16_500), "text: parse block": (21_700, 21_700), "text: parse list": (19_400, 19_400)}
 # The most instructions for each level of a chain, whose leaf a reconciliation changes: at so many levels.
 LEVELS, PER_LEVEL = (30, 480), {"text: reconcile chain": (1_500, 1_300)}
 # The most bytes of memory that a call may ask for.
