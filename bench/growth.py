@@ -6,7 +6,7 @@ So it finds work in proportion to a whole where a part was asked for. It needs n
     bench/growth.py             compares with the bounds below
     bench/growth.py --found     prints what is found, with no comparison
 
-It runs the proved builds that `rt ci` makes (`rt run` in crates/typst_large, crates/typst_tree_main and
+It runs the proved builds that `rt ci` makes (`rt run` in crates/typst_large, crates/typst_run and
 crates/typst_bench) under valgrind's callgrind, which counts the same instructions in each run of a build. It makes one
 run with calls and one with none. The difference, divided by the number of calls, is a call's count. What a call asks of
 memory is counted in the same way, in bytes. Where there is no valgrind it says so and compares nothing.
@@ -19,7 +19,7 @@ from pathlib import Path
 
 TOP = Path(__file__).resolve().parent.parent
 LARGE = TOP / "crates/typst_large/out/typst_large"
-SCRIPTS = TOP / "crates/typst_tree_main/out/typst_tree_main"
+SCRIPTS = TOP / "crates/typst_run/out/typst_run"
 BENCH = TOP / "crates/typst_bench/out/typst_bench"
 # The two numbers of children or of lines, and how often each call is made.
 SIZES, CALLS = (1_000, 16_000), 32
@@ -55,14 +55,14 @@ INSTRUCTIONS = ["--tool=callgrind", "--callgrind-out-file=/dev/null"], r"Collect
 ASKED = ["--tool=memcheck", "--undef-value-errors=no"], r"frees, ([\d,]+) bytes allocated"
 
 
-def counted(program, lines, what=INSTRUCTIONS):
+def counted(words, lines, what=INSTRUCTIONS):
     """How many instructions a program takes on these lines, or how many bytes it asks for."""
     tool, told = what
-    ran = subprocess.run(["valgrind", *tool, program], input=lines.encode(), capture_output=True, check=False)
+    ran = subprocess.run(["valgrind", *tool, *words], input=lines.encode(), capture_output=True, check=False)
     said = ran.stderr.decode(errors="replace")
     found = re.search(told, said)
     if ran.returncode or not found or b"wrong" in ran.stdout:
-        sys.exit(f"growth: {program.name} on {lines[:60]!r}: status {ran.returncode}, {ran.stdout[-200:]!r}, {said[-500:]}")
+        sys.exit(f"growth: {words[0].name} on {lines[:60]!r}: status {ran.returncode}, {ran.stdout[-200:]!r}, {said[-500:]}")
     return int(found[1].replace(",", ""))
 
 
@@ -77,10 +77,10 @@ def of_call(name, size, calls=CALLS, what=INSTRUCTIONS):
     """What a call takes in a tree or a text of this size."""
     kind, _, words = name.rpartition(": ")
     if kind == "script":
-        few, many = (counted(SCRIPTS, script(size, words.split(", "), often), what) for often in (0, calls))
+        few, many = (counted([SCRIPTS, "script"], script(size, words.split(", "), often), what) for often in (0, calls))
     else:
         program = BENCH if kind == "text" else LARGE
-        few, many = (counted(program, f"{words} {size} {often}\n", what) for often in (0, calls))
+        few, many = (counted([program], f"{words} {size} {often}\n", what) for often in (0, calls))
     return (many - few) // calls
 
 

@@ -42,7 +42,7 @@ AGREEMENT = "typst_language_tests"
 # The starters of the programs that read scripts and looks.
 STARTERS = {".script": "./run", ".look": "./look"}
 LEFT_OUT = """Left out, and in ./gate: every proof, and so whether contracts hold; the wrong bodies that the prover must refuse; the tests that take
-all memory; the answers of typst_look; words, pages and inputs of ./show; refused memory and failing reads; the C header and the Rust
+all memory; the answers of typst_run; words, pages and inputs of ./show; refused memory and failing reads; the C header and the Rust
 crate; bounds of work."""
 
 

@@ -7,7 +7,7 @@
 
 - each text of crates/typst_language_tests/data must give the tree next to it, with --plain and without, and turn into the
   next text by an edit; bench/grammar_corpus.py names the few that are left out;
-- each tree of crates/typst_look whose views were asked must give with --views the answers that are written there;
+- each tree of crates/typst_run whose views were asked must give with --views the answers that are written there;
 - `examples/mistake.typ` and `examples/letter.typ` with their edits, a text, and the program's own run of a look with remarks must give
   what the small trees below and `examples/letter.tree` say, and the files with the wanted output must be the same;
 - each wrong input of the table below must give its message and status, and print nothing;

@@ -485,9 +485,9 @@ def answers_of(root, lines, form_of):
 
 
 def looks():
-    """Each tree of crates/typst_look that is asked for its views alone or first: its name, its lines, and the answers."""
-    given = (TOP / "crates/typst_look/stdin").read_bytes().decode(errors="surrogateescape").split("\n")
-    wanted = (TOP / "crates/typst_look/stdout").read_bytes().decode(errors="surrogateescape").split("\n")
+    """Each tree of crates/typst_run that is asked for its views alone or first: its name, its lines, and the answers."""
+    given = (TOP / "crates/typst_run/stdin").read_bytes().decode(errors="surrogateescape").split("\n")
+    wanted = (TOP / "crates/typst_run/stdout").read_bytes().decode(errors="surrogateescape").split("\n")
     answered, name = {}, None
     for line in wanted:
         if line.startswith("#"):
