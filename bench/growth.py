@@ -45,6 +45,18 @@ BOUNDS = {
 }
 # The most instructions for each line of a text that is parsed: of paragraphs, of one block, and of items without blank lines.
 PER_LINE = {"text: parse": (16_500, 16_500), "text: parse block": (21_700, 21_700), "text: parse list": (19_400, 19_400)}
+# The same for each piece of a text of one line that repeats it: brackets that nothing closes, operators, fields, calls, names.
+PER_PIECE = {
+    "text: parse round": (4_100, 3_800),
+    "text: parse square": (1_460, 1_430),
+    "text: parse curly": (3_700, 3_450),
+    "text: parse dollars": (3_320, 3_300),
+    "text: parse minus": (570, 560),
+    "text: parse fields": (4_850, 4_880),
+    "text: parse calls": (80_600, 87_600),
+    "text: parse items": (2_850, 2_600),
+    "text: parse keys": (12_950, 12_850),
+}
 # The most instructions for each level of a chain, whose leaf a reconciliation changes: at so many levels.
 LEVELS, PER_LEVEL = (30, 480), {"text: reconcile chain": (1_500, 1_300)}
 # The most bytes of memory that a call may ask for.
@@ -90,6 +102,8 @@ def rows():
         yield name, "instructions", bounds, [of_call(name, size) for size in SIZES]
     for name, bounds in PER_LINE.items():
         yield name, "instructions a line", bounds, [of_call(name, size, 2) // size for size in SIZES]
+    for name, bounds in PER_PIECE.items():
+        yield name, "instructions a piece", bounds, [of_call(name, size, 2) // size for size in SIZES]
     for name, bounds in PER_LEVEL.items():
         yield name, "instructions a level", bounds, [of_call(name, size) // size for size in LEVELS]
     for name, bounds in BYTES.items():

@@ -15,6 +15,7 @@ mod finding;
 mod lines;
 mod places;
 mod reading;
+mod repeats;
 mod shapes;
 mod stopwatch;
 mod texts;

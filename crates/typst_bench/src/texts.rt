@@ -1,5 +1,6 @@
 //! Texts of markup, with their trees and their edits.
 use crate::asked::Asked;
+use crate::repeats::{repeated, text_of};
 use crate::stopwatch::Stopwatch;
 use anyhow::{Result, ensure};
 use std::alloc::{AllocError, Global};
@@ -35,28 +36,15 @@ const ITEM: &str = "- an item with `raw text`\n";
 
 const ITEM_LETTER: usize = 12;
 
-/// A text with the same line so often.
-fn lines_of(alloc: Global, line: &str, lines: usize) -> Result<String, AllocError> {
-    let mut text = String::new(alloc);
-    for _ in 0..lines {
-        text.push_str(line)?;
-    }
-    Ok(text)
-}
-
 /// One block with this many lines: emphasized content.
 fn block(alloc: Global, lines: usize) -> Result<String, AllocError> {
-    let inside = lines_of(alloc, LINE, lines)?;
-    format!(in alloc; "_{inside}_")
+    let inside = repeated(alloc, "_", LINE, lines)?;
+    format!(in alloc; "{inside}_")
 }
 
 /// A text with this many lines.
 pub fn text(alloc: Global, lines: usize) -> Result<String, AllocError> {
-    let mut text = String::new(alloc);
-    for _ in 0..lines / LINES {
-        text.push_str(PARAGRAPH)?;
-    }
-    Ok(text)
+    repeated(alloc, "", PARAGRAPH, lines / LINES)
 }
 
 /// Where the paragraph in the middle of such a text begins, in bytes.
@@ -86,17 +74,17 @@ pub fn typed(verb: &str) -> Option<Edit> {
 }
 
 /// Parses a text or edits it in each round. Returns how many bytes were parsed in all. The shape `block` is a text of one
-/// block, and `list` is one of items without a blank line. `stars` and `nested` have only delimiters. With the shape
-/// `far` the edits are made in turns in the first paragraph and in the last one.
+/// block, `list` is one of items without a blank line, and `repeats.rt` has further ones. With the shape `far` the edits
+/// are made in turns in the first paragraph and in the last one.
 pub fn made(alloc: Global, watch: &mut Stopwatch<'_>, asked: Asked<'_>) -> Result<Option<usize>> {
     let text = match asked.shape {
-        "block" => block(alloc, asked.size),
-        "list" => lines_of(alloc, ITEM, asked.size),
-        "stars" => lines_of(alloc, "*", asked.size),
-        "nested" => lines_of(alloc, "_*", asked.size),
-        _ => text(alloc, asked.size),
+        "block" => block(alloc, asked.size)?,
+        "list" => repeated(alloc, "", ITEM, asked.size)?,
+        name => match text_of(alloc, name, asked.size)? {
+            Some(text) => text,
+            None => text(alloc, asked.size)?,
+        },
     };
-    let text = text?;
     let seen = match typed(asked.verb) {
         Some(edit) => edited(alloc, watch, &text, edit, asked),
         None => parsed(alloc, watch, &text, asked.rounds),
