@@ -4,7 +4,7 @@
     bench/depth.py              the rows of the table in docs/MEMORY.md
     bench/depth.py CALL ..      those of these calls
 
-Each node of the chain is inside the one before. The script runs the proved builds of crates/typst_large and, for `show`,
+Each node of the chain is inside the one before. The script runs the proved builds of crates/typst_bench and, for `show`,
 of crates/typst_run (`rt run` in the crate's folder makes each), once for each depth that it tries. It halves the
 distance between a depth that a call returns from and one at which a signal ends the process.
 """
@@ -14,10 +14,10 @@ import sys
 from pathlib import Path
 
 TOP = Path(__file__).resolve().parent.parent
-LARGE = TOP / "crates/typst_large/out/typst_large"
+BENCH = TOP / "crates/typst_bench/out/typst_bench"
 SCRIPTS = TOP / "crates/typst_run/out/typst_run"
 STACK = 8 << 20
-# The calls of typst_large in the table. Each is asked for as `clone, deep`. The last is one of scripts.
+# The calls of typst_bench in the table. Each is asked for as `large clone deep`. The last is one of scripts.
 CALLS = ("build", "drop", "number", "is_numbered", "replace", "find", "clone", "compare", "hash", "full_text", "errors_and_warnings")
 SHOW = "show"
 # The depth that no call is tried beyond, and how near the two depths come to each other, as a part of the lower one.
@@ -30,8 +30,8 @@ def limit():
 
 def called(name, depth):
     """How a run of one call ends."""
-    asked = f"{name}, deep {depth} 1"
-    ran = subprocess.run([LARGE], input=f"{asked}\n".encode(), capture_output=True, preexec_fn=limit, check=False)
+    asked = f"large {name} deep {depth} 1"
+    ran = subprocess.run([BENCH], input=f"{asked}\n".encode(), capture_output=True, preexec_fn=limit, check=False)
     return ran.returncode, ran.stdout.decode() == f"{asked} right\n"
 
 
@@ -70,7 +70,7 @@ def reached(name):
 
 
 def main():
-    for program in (LARGE, SCRIPTS):
+    for program in (BENCH, SCRIPTS):
         if not program.exists():
             sys.exit(f"depth: no {program}: `rt run` in the crate's folder makes it")
     for name in sys.argv[1:] or (*CALLS, SHOW):

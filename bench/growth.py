@@ -6,10 +6,10 @@ So it finds work in proportion to a whole where a part was asked for. It needs n
     bench/growth.py             compares with the bounds below
     bench/growth.py --found     prints what is found, with no comparison
 
-It runs the proved builds that `rt ci` makes (`rt run` in crates/typst_large, crates/typst_run and
-crates/typst_bench) under valgrind's callgrind, which counts the same instructions in each run of a build. It makes one
-run with calls and one with none. The difference, divided by the number of calls, is a call's count. What a call asks of
-memory is counted in the same way, in bytes. Where there is no valgrind it says so and compares nothing.
+It runs the proved builds that `rt ci` makes (`rt run` in crates/typst_run and crates/typst_bench) under valgrind's
+callgrind, which counts the same instructions in each run of a build. It makes one run with calls and one with none. The
+difference, divided by the number of calls, is a call's count. What a call asks of memory is counted in the same way, in
+bytes. Where there is no valgrind it says so and compares nothing.
 """
 import re
 import shutil
@@ -18,7 +18,6 @@ import sys
 from pathlib import Path
 
 TOP = Path(__file__).resolve().parent.parent
-LARGE = TOP / "crates/typst_large/out/typst_large"
 SCRIPTS = TOP / "crates/typst_run/out/typst_run"
 BENCH = TOP / "crates/typst_bench/out/typst_bench"
 # The two numbers of children or of lines, and how often each call is made.
@@ -91,8 +90,8 @@ def of_call(name, size, calls=CALLS, what=INSTRUCTIONS):
     if kind == "script":
         few, many = (counted([SCRIPTS, "script"], script(size, words.split(", "), often), what) for often in (0, calls))
     else:
-        program = BENCH if kind == "text" else LARGE
-        few, many = (counted([program], f"{words} {size} {often}\n", what) for often in (0, calls))
+        line = words if kind == "text" else f"large {words}"
+        few, many = (counted([BENCH], f"{line} {size} {often}\n", what) for often in (0, calls))
     return (many - few) // calls
 
 
@@ -114,7 +113,7 @@ def main():
     if not shutil.which("valgrind"):
         print("growth: no valgrind, so no instructions are counted")
         return 0
-    for program in (LARGE, SCRIPTS, BENCH):
+    for program in (SCRIPTS, BENCH):
         if not program.exists():
             sys.exit(f"growth: no {program}: `rt run` in its crate's folder makes it")
     wrong, count = [], 0

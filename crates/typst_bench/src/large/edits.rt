@@ -1,6 +1,6 @@
 //! Edits of a numbered node of many children, and searches in it.
-use crate::Asked;
-use crate::wide::numbered;
+use crate::asked::Asked;
+use crate::shapes::numbered;
 use anyhow::Result;
 use std::alloc::Global;
 use typst_tree::session::{Reply, Request, Slot};
@@ -8,14 +8,12 @@ use typst_tree::{NumberedTree, SyntaxKind, SyntaxNode};
 
 /// Makes the call that is asked for as often as asked, and answers whether each call gave the right answer.
 pub fn made(alloc: Global, root: SyntaxNode, asked: Asked<'_>) -> Result<Option<bool>> {
-    let Some(mut tree) = numbered(root) else {
-        return Ok(Some(false));
-    };
-    let right = match asked.name {
-        "find" => Ok(are_found(alloc, &tree, asked.count)),
-        "replace" => are_replaced(alloc, &mut tree, asked.count),
-        "insert" => are_inserted(alloc, &mut tree, asked.count),
-        _ => are_served(alloc, &mut tree, asked.count),
+    let mut tree = numbered(root)?;
+    let right = match asked.verb {
+        "find" => Ok(are_found(alloc, &tree, asked.rounds)),
+        "replace" => are_replaced(alloc, &mut tree, asked.rounds),
+        "insert" => are_inserted(alloc, &mut tree, asked.rounds),
+        _ => are_served(alloc, &mut tree, asked.rounds),
     };
     Ok(Some(right?))
 }

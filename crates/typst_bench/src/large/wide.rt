@@ -1,13 +1,15 @@
 //! Calls that read a node of many children, each a text of two bytes.
-use crate::{Asked, edits};
+use crate::asked::Asked;
+use crate::large::edits;
+use crate::shapes::wide;
 use anyhow::Result;
 use std::alloc::Global;
-use typst_tree::{FileId, LinkedNode, NumberedTree, Side, Span, SyntaxKind, SyntaxNode};
+use typst_tree::{LinkedNode, Side, SyntaxNode};
 
 /// Makes the call that is asked for as often as asked, and answers whether each call gave the right answer.
 pub fn made(alloc: Global, asked: Asked<'_>) -> Result<Option<bool>> {
-    let root = texts(alloc, asked.size)?;
-    match asked.name {
+    let root = wide(alloc, asked.size)?;
+    match asked.verb {
         "find" | "replace" | "insert" | "run" => edits::made(alloc, root, asked),
         _ => read(alloc, &root, asked),
     }
@@ -15,31 +17,17 @@ pub fn made(alloc: Global, asked: Asked<'_>) -> Result<Option<bool>> {
 
 /// Makes a call that reads the node.
 fn read(alloc: Global, root: &SyntaxNode, asked: Asked<'_>) -> Result<Option<bool>> {
-    let right = match asked.name {
+    let right = match asked.verb {
         "inner" => Ok(ends_after(root, asked.size)),
         "clone" => is_cloned(root),
         "full_text" => is_whole(alloc, root, asked.size),
-        "leaf_at" => are_leaves(alloc, root, asked.count),
-        "errors_and_warnings" => are_clean(alloc, root, asked.count),
+        "leaf_at" => are_leaves(alloc, root, asked.rounds),
+        "errors_and_warnings" => are_clean(alloc, root, asked.rounds),
         "children" => are_children(alloc, root, asked.size),
         "preorder" => are_nodes(alloc, root, asked.size),
         _ => return Ok(None),
     };
     Ok(Some(right?))
-}
-
-/// A node of `size` texts.
-fn texts(alloc: Global, size: usize) -> Result<SyntaxNode> {
-    let mut nodes = Vec::new(alloc);
-    for _ in 0..size {
-        nodes.push(SyntaxNode::leaf(alloc, SyntaxKind::Text, "ab")?)?;
-    }
-    Ok(SyntaxNode::inner(alloc, SyntaxKind::Markup, nodes)?)
-}
-
-/// The tree with numbers, or nothing if there are too few numbers, which there aren't.
-pub fn numbered(root: SyntaxNode) -> Option<NumberedTree> {
-    NumberedTree::number(root, FileId::FIRST, Span::FULL).ok()
 }
 
 /// Whether the node has `size` children, the last of which ends at the end of the text.

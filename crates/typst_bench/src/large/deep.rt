@@ -2,8 +2,7 @@
 //! the depths that a stack holds.
 //!
 //! A chain is forgotten after the call, so only the call `drop` uses the stack for dropping.
-use crate::chains::{chain, chain_over, end_of};
-use crate::wide::numbered;
+use crate::shapes::{chain, chain_over, numbered};
 use anyhow::Result;
 use std::alloc::Global;
 use std::hash::{DefaultHasher, Hash, Hasher};
@@ -13,7 +12,7 @@ use typst_tree::{LinkedNode, Side, SyntaxKind, SyntaxNode};
 
 /// Makes the call of this name, and answers whether it gave the right answer.
 pub fn made(alloc: Global, name: &str, depth: usize) -> Result<Option<bool>> {
-    let root = chain(alloc, depth)?;
+    let root = chain(alloc, depth, "ab")?;
     let right = match name {
         "build" => {
             mem::forget(root);
@@ -23,9 +22,12 @@ pub fn made(alloc: Global, name: &str, depth: usize) -> Result<Option<bool>> {
             drop(root);
             Ok(true)
         }
-        "number" => Ok(numbered(root).map(mem::forget).is_some()),
-        "is_numbered" => Ok(is_numbered(root)),
-        "find" => Ok(is_found(alloc, root, depth)),
+        "number" => {
+            mem::forget(numbered(root)?);
+            Ok(true)
+        }
+        "is_numbered" => is_numbered(root),
+        "find" => is_found(alloc, root, depth),
         "replace" => is_replaced(alloc, root, depth),
         "next_leaf" => is_next(alloc, root, depth),
         _ => {
@@ -75,7 +77,7 @@ fn is_cloned(root: &SyntaxNode) -> Result<bool> {
 
 /// Whether the chain equals another one.
 fn is_equal(alloc: Global, root: &SyntaxNode, depth: usize) -> Result<bool> {
-    let same = chain(alloc, depth)?;
+    let same = chain(alloc, depth, "ab")?;
     let right = same == *root;
     mem::forget(same);
     Ok(right)
@@ -98,7 +100,7 @@ fn is_leaf(alloc: Global, tree: &SyntaxNode) -> Result<bool> {
 
 /// Whether of two chains side by side each has the other's text next to its own.
 fn is_next(alloc: Global, root: SyntaxNode, depth: usize) -> Result<bool> {
-    let chains = vec![in alloc; root, chain(alloc, depth)?]?;
+    let chains = vec![in alloc; root, chain(alloc, depth, "ab")?]?;
     let tree = SyntaxNode::inner(alloc, SyntaxKind::Markup, chains)?;
     let right = are_neighbors(alloc, &tree)?;
     mem::forget(tree);
@@ -131,26 +133,37 @@ fn is_told(alloc: Global, depth: usize) -> Result<bool> {
 }
 
 /// Whether a chain with numbers is found to have them.
-fn is_numbered(root: SyntaxNode) -> bool {
-    let Some(tree) = numbered(root) else {
-        return false;
-    };
+fn is_numbered(root: SyntaxNode) -> Result<bool> {
+    let tree = numbered(root)?;
     let right = tree.root().is_numbered();
     mem::forget(tree);
-    right
+    Ok(right)
 }
 
 /// Whether the text is found by its number.
-fn is_found(alloc: Global, root: SyntaxNode, depth: usize) -> bool {
-    let Some(tree) = numbered(root) else {
-        return false;
-    };
+fn is_found(alloc: Global, root: SyntaxNode, depth: usize) -> Result<bool> {
+    let tree = numbered(root)?;
     let reply = end_of(tree.root(), depth).map(|leaf| tree.find(alloc, leaf.span()));
     mem::forget(tree);
-    match reply {
+    Ok(match reply {
         Some(Reply::Found { path, offset, .. }) => path.len() == depth && offset == 0,
         _ => false,
+    })
+}
+
+/// The node at the end of a chain, if there are as many levels, and each of them is of markup and has one child.
+fn end_of(root: &SyntaxNode, depth: usize) -> Option<&SyntaxNode> {
+    let mut node = root;
+    for _ in 0..depth {
+        let [child] = node.child_slice() else {
+            return None;
+        };
+        if node.kind() != SyntaxKind::Markup {
+            return None;
+        }
+        node = child;
     }
+    Some(node)
 }
 
 /// Whether the text is removed, and all nodes above it are empty then. Other texts would find no room, because a deep
@@ -161,9 +174,7 @@ fn is_replaced(alloc: Global, root: SyntaxNode, depth: usize) -> Result<bool> {
         range: 0..1,
         replacement: Vec::new(alloc),
     };
-    let Some(mut tree) = numbered(root) else {
-        return Ok(false);
-    };
+    let mut tree = numbered(root)?;
     let reply = tree.serve(alloc, request);
     let is_empty = tree.root().is_empty();
     mem::forget(tree);

@@ -1,4 +1,5 @@
 //! Calls on long texts.
+use crate::repeats::repeated;
 use anyhow::Result;
 use std::alloc::Global;
 use typst_script::script;
@@ -7,7 +8,7 @@ use typst_tree::{SyntaxKind, SyntaxNode};
 
 /// Makes the call of this name, and answers whether it gave the right answer.
 pub fn made(alloc: Global, name: &str, length: usize) -> Result<Option<bool>> {
-    let text = letters(alloc, length)?;
+    let text = repeated(alloc, "", "a", length)?;
     let right = match name {
         "leaf" => is_kept(alloc, &text),
         "error" => is_told(alloc, &text),
@@ -19,15 +20,6 @@ pub fn made(alloc: Global, name: &str, length: usize) -> Result<Option<bool>> {
         _ => return Ok(None),
     };
     Ok(Some(right?))
-}
-
-/// A text of `length` letters.
-fn letters(alloc: Global, length: usize) -> Result<String> {
-    let mut text = String::new(alloc);
-    for _ in 0..length {
-        text.push('a')?;
-    }
-    Ok(text)
 }
 
 /// Whether a leaf, its clone and its whole text have the text.
