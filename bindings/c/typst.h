@@ -9,7 +9,7 @@
  * needs, and all that it returns beside the buffer. After `typst_new` without memory the session holds nothing.
  *
  * If several statuses fit, a call returns the first of them in its list. The two statuses of memory and size have no place in that
- * order: TYPST_NO_MEMORY comes as soon as memory is refused, and TYPST_TOO_LARGE as soon as a sum doesn't fit.
+ * order: TYPST_NO_MEMORY comes as soon as memory is refused, and TYPST_OVERFLOW as soon as a sum doesn't fit.
  *
  * What is proved of each call holds if the caller keeps the following rules. No call can test them:
  *
@@ -80,7 +80,7 @@ enum {
     /** The stack has too few nodes. */
     TYPST_SHORT_STACK = 5,
     /** The length of the text or the number of nodes would not fit in a `size_t`. */
-    TYPST_TOO_LARGE = 6,
+    TYPST_OVERFLOW = 6,
     /** The session holds no tree. */
     TYPST_NO_TREE = 7,
     /** The tree is the tree of a document, which is edited as a text. */
@@ -447,7 +447,7 @@ TYPST_NODISCARD typst_status typst_push_copy(typst_session *session, const size_
 /**
  * Replaces the last `count` nodes of the stack by an inner node. They become its children, in the same order. The call takes time
  * in proportion to all nodes of their trees.
- * @return TYPST_DONE, TYPST_NOT_MADE, TYPST_BAD_KIND, TYPST_SHORT_STACK, TYPST_TOO_LARGE or TYPST_NO_MEMORY.
+ * @return TYPST_DONE, TYPST_NOT_MADE, TYPST_BAD_KIND, TYPST_SHORT_STACK, TYPST_OVERFLOW or TYPST_NO_MEMORY.
  */
 TYPST_NODISCARD typst_status typst_wrap(typst_session *session, uint32_t kind, size_t count);
 
@@ -510,7 +510,7 @@ TYPST_NODISCARD typst_status typst_take_tree(typst_session *session);
  * `typst_reconcile`, which makes the same edit, it can.
  * @param window receives the range of children that were numbered anew.
  * @return TYPST_DONE, TYPST_NOT_MADE, TYPST_NO_TREE, TYPST_IS_DOCUMENT, TYPST_SHORT_STACK, TYPST_NO_NODE, TYPST_IS_LEAF,
- *     TYPST_BAD_RANGE, TYPST_TOO_LARGE, TYPST_UNNUMBERABLE or TYPST_NO_MEMORY.
+ *     TYPST_BAD_RANGE, TYPST_OVERFLOW, TYPST_UNNUMBERABLE or TYPST_NO_MEMORY.
  */
 TYPST_NODISCARD typst_status typst_replace(typst_session *session, const size_t *path, size_t depth, size_t from, size_t to,
                                            size_t count, typst_window *window);
@@ -522,7 +522,7 @@ TYPST_NODISCARD typst_status typst_replace(typst_session *session, const size_t 
  * `typst_follow` then says what became of each number.
  * @param change receives where children were replaced, and which were numbered anew.
  * @return TYPST_DONE, TYPST_NOT_MADE, TYPST_NO_TREE, TYPST_IS_DOCUMENT, TYPST_SHORT_STACK, TYPST_NO_NODE, TYPST_IS_LEAF,
- *     TYPST_BAD_RANGE, TYPST_TOO_LARGE, TYPST_UNNUMBERABLE or TYPST_NO_MEMORY.
+ *     TYPST_BAD_RANGE, TYPST_OVERFLOW, TYPST_UNNUMBERABLE or TYPST_NO_MEMORY.
  */
 TYPST_NODISCARD typst_status typst_reconcile(typst_session *session, const size_t *path, size_t depth, size_t from,
                                              size_t to, size_t count, typst_change *change);
@@ -742,7 +742,7 @@ TYPST_NODISCARD typst_status typst_neighbor(const typst_session *session, const 
  * Parses a text of Typst, numbers its tree for a file, and holds both. It frees the tree or document that was held before. The
  * stack stays as it is.
  * @param file the number of a file: any but 0. No call returns it.
- * @return TYPST_DONE, TYPST_NOT_MADE, TYPST_BAD_FILE, TYPST_BAD_TEXT, TYPST_TOO_LARGE, TYPST_UNNUMBERABLE or TYPST_NO_MEMORY.
+ * @return TYPST_DONE, TYPST_NOT_MADE, TYPST_BAD_FILE, TYPST_BAD_TEXT, TYPST_OVERFLOW, TYPST_UNNUMBERABLE or TYPST_NO_MEMORY.
  */
 TYPST_NODISCARD typst_status typst_open(typst_session *session, uint16_t file, const char *text, size_t text_len);
 
@@ -751,7 +751,7 @@ TYPST_NODISCARD typst_status typst_open(typst_session *session, uint16_t file, c
  * them is one of these if the parser had read the bytes that go, or at the place where others come.
  * The nodes that go on can be followed, as after `typst_reconcile`: `typst_follow` says what became of each number.
  * @param edited receives which bytes were parsed, and which nodes were numbered anew.
- * @return TYPST_DONE, TYPST_NOT_MADE, TYPST_NO_DOCUMENT, TYPST_BAD_TEXT, TYPST_BAD_RANGE, TYPST_TOO_LARGE, TYPST_UNNUMBERABLE or
+ * @return TYPST_DONE, TYPST_NOT_MADE, TYPST_NO_DOCUMENT, TYPST_BAD_TEXT, TYPST_BAD_RANGE, TYPST_OVERFLOW, TYPST_UNNUMBERABLE or
  *     TYPST_NO_MEMORY.
  */
 TYPST_NODISCARD typst_status typst_edit(typst_session *session, size_t from, size_t to, const char *with, size_t with_len,
@@ -875,7 +875,7 @@ static inline const char *typst_status_text(typst_status status)
     case TYPST_BAD_KIND: return "no leaf or inner node can have this kind";
     case TYPST_BAD_TEXT: return "the text isn't UTF-8";
     case TYPST_SHORT_STACK: return "the stack has too few nodes";
-    case TYPST_TOO_LARGE: return "the tree is too large";
+    case TYPST_OVERFLOW: return "the tree is too large";
     case TYPST_NO_TREE: return "there is no tree";
     case TYPST_IS_DOCUMENT: return "the tree belongs to a document, which is edited as a text";
     case TYPST_NO_DOCUMENT: return "there is no document";

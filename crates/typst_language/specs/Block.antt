@@ -2,7 +2,7 @@
 use Rattle.std.specs.Prelude.{ℕ, List}
 use Rattle.typst_parser.specs.FirstBlock.{first_block}
 use Rattle.typst_parser.specs.Rows.{Table}
-use Rattle.typst_rows.specs.Table.{mode_of, rows}
+use Rattle.typst_grammar.specs.Table.{mode_of, rows}
 use Rattle.typst_source.specs.Blocks.{Block}
 
 -- the table of the language: its rows, how the lexer reads in each state, how many deep frames may be open, how often a

@@ -10,7 +10,7 @@ use Rattle.typst_parser.specs.declared.event.Event.{Event}
 use Rattle.typst_parser.specs.declared.fault.Fault.{Fault}
 use Rattle.typst_parser.specs.declared.role.Role.{Role}
 use Rattle.typst_parser.proofs.Spanning.{reverse-push}
-use Rattle.typst_rows.specs.declared.row.Unique.{Unique}
+use Rattle.typst_grammar.specs.declared.row.Unique.{Unique}
 
 found_more : (what : Unique) (role : Role) (roles : List Role) (text : List ℕ) (e : Event) (back : List Event)
     → found_back what (role ∷ roles) text (e ∷ back) ≡ found_in what role (kind_of e) (last_some (bytes_of e) text) ∷ found_back what (roles_below role e back ++ roles) (but_last (bytes_of e) text) back

@@ -6,7 +6,7 @@ use Rattle.typst_node.specs.Tree.{HintText}
 use Rattle.typst_parser.specs.Spans.{is_byte}
 use Rattle.typst_parser.specs.declared.fault.Fault.{Fault}
 use Rattle.typst_parser.specs.declared.fault.Fault.TheVariants as faults
-use Rattle.typst_rows.specs.Expectations.{expectation_what}
+use Rattle.typst_grammar.specs.Expectations.{expectation_what}
 
 -- the hints at a character that isn't valid in code: `#`, `&` or `|`
 abbrev pub character_hints : List ℕ → List (List ℕ)

@@ -4,12 +4,12 @@ ghost use Rattle.typst_base.specs.KindClasses.{is_keyword_kind};
 ghost use Rattle.typst_node.specs.Converted.{keyword_hints, keyword_message, wants_name};
 ghost use Rattle.typst_node.specs.Hints.{plain_hints};
 ghost use Rattle.typst_parser.specs.FaultHints.{character_hints, fault_hints};
-ghost use Rattle.typst_rows.specs.Expectations.{expectation_what};
+ghost use Rattle.typst_grammar.specs.Expectations.{expectation_what};
 
 use crate::fault::Fault;
 use std::alloc::{AllocError, Global};
 use typst_base::SyntaxKind;
-use typst_rows::Expectation;
+use typst_grammar::Expectation;
 
 /// The hint at `*/` outside of a block comment.
 const COMMENT: &str =

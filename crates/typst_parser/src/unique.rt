@@ -16,7 +16,7 @@ use crate::span::{span, width};
 use std::alloc::{AllocError, Global};
 use std::collections::HashSet;
 use typst_base::SyntaxKind;
-use typst_rows::Unique;
+use typst_grammar::Unique;
 
 /// A name or a sink that was found.
 #[derive(Clone, Copy)]

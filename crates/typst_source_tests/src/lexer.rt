@@ -1,4 +1,4 @@
-//! Tests of `typst_tokens`.
+//! Tests of `typst_lexer`.
 mod modes;
 mod rows;
 mod tokens;

@@ -2,7 +2,7 @@
 
 use crate::lexer::rows::are_cut;
 use std::test::Fail;
-use typst_tokens::{Behind, Mode, first_token};
+use typst_lexer::{Behind, Mode, first_token};
 
 /// Texts of code with numbers and strings.
 const NUMBERS: &[(&str, &str)] = &[

@@ -3,7 +3,7 @@ use std::alloc::{AllocError, Global};
 use std::fmt::Debug;
 use std::process::Abort;
 use std::test::Fail;
-use typst_tokens::{Lexer, Mode};
+use typst_lexer::{Lexer, Mode};
 
 /// Asserts that what is found in a text is what should be.
 pub(crate) fn assert_in<T: Debug + PartialEq>(rt: &impl Abort, text: &str, found: &T, wanted: &T) {

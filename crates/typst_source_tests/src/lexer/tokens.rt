@@ -2,7 +2,7 @@
 
 use crate::lexer::rows::{are_cut, assert_in, shown};
 use std::test::Fail;
-use typst_tokens::{Lexer, Mode};
+use typst_lexer::{Lexer, Mode};
 
 /// Texts of markup with white space, `#!` and comments.
 const SPACES: &[(&str, &str)] = &[

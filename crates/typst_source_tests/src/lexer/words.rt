@@ -2,7 +2,7 @@
 
 use crate::lexer::rows::assert_in;
 use std::test::Fail;
-use typst_tokens::{Lexer, Mode, Token, TokenKind};
+use typst_lexer::{Lexer, Mode, Token, TokenKind};
 use unicode::properties::{GeneralCategory, Script, is_alphabetic};
 
 /// Whether the character is alphabetic or a number.

@@ -1,5 +1,5 @@
 use Rattle.std.proofs.Common.{length}
-use Rattle.typst_tokens.specs.Left.{left, tokens_left}
+use Rattle.typst_lexer.specs.Left.{left, tokens_left}
 use Rattle.typst_source_tests.proofs.lexer.rows.shown.Given as goal
 
 abbrev pub decreases-loop-token : goal.decreases-loop-token

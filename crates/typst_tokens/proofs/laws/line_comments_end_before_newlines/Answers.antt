@@ -1,5 +1,0 @@
-use Rattle.typst_tokens.proofs.LineComments.{line_ends}
-use Rattle.typst_tokens.proofs.laws.line_comments_end_before_newlines.Goals as goal
-
-pub returns : goal.returns
-returns c = line_ends
