@@ -19,7 +19,7 @@ TOP = Path(__file__).resolve().parent.parent
 PAGE = TOP / "docs/API.md"
 KINDS = TOP / "docs/KINDS.md"
 DEFINITIONS, FILES = TOP / "docs/internal/DEFINITIONS.md", "\n## Each file of `specs/`\n"
-CRATES = ("typst_tree", "typst_source", "typst_lines", "typst_markup", "typst_session")
+CRATES = ("typst_tree", "typst_source", "typst_language", "typst_lines", "typst_session")
 BELOW = ("typst_base", "typst_node", "typst_linked", "typst_atoms", "typst_ast")
 ITEM = re.compile(r"^( *)pub (?:const )?(struct|enum|trait|fn|const|type) (\w+)")
 IMPL = re.compile(r"^impl(?:<.*?>)? (?:(\w+)(?:<.*?>)? for )?(\w+)")
@@ -28,7 +28,7 @@ VARIANT = re.compile(r"^    ([A-Z]\w*)\b")
 IN_TRAIT = re.compile(r"^    fn (\w+)")
 HEAD = """# API
 
-This page has a line for every public name of five crates: `typst_tree`, `typst_source`, `typst_lines`, `typst_markup` and
+This page has a line for every public name of five crates: `typst_tree`, `typst_source`, `typst_language`, `typst_lines` and
 `typst_session`. `bench/api.py` writes it from the doc comments, and the gate compares it. The sources say more: each function's
 contract, what it costs, and when each error comes. [`GUIDE.md`](GUIDE.md) shows the calls in use.
 

@@ -1,25 +1,48 @@
 #!/usr/bin/env python3
 """Writes docs/CHILDREN.md from crates/children.txt: the children of each kind, in order.
 
-    bench/children.py            writes it, and says whether it changed
-    bench/children.py --check    says whether it is what would be written, and compares the lines with trees and views
+    bench/children.py                      writes it, and says whether it changed
+    bench/children.py --check              says whether it is what would be written, and compares the lines with trees and views
+    bench/children.py --parsed [PROGRAM]   compares the trees of texts by chance, as the program behind ./show makes them
 
-- Each inner node without errors in the trees of crates/typst_markup_tests/data/whole, which were worked out apart from the
+- Each inner node without errors in the trees of crates/typst_language_tests/data, which were worked out apart from the
   library, must have the children that its kind's line says. Each name in a line must be needed by one of them.
 - A line gives children to accessors. The definition that the contract of the accessor cites, in typst_accessors/specs, must
   give the same children of each of these nodes.
+
+With --parsed the texts are those of bench/grammar_texts.py: valid ones, and pieces in any order. Each is an edit of the one before it.
+
+- The tree of each text must be that of the plain machine (bench/grammar_machine.py), with its errors.
+- The tree of a valid text must have no error.
+- Each inner node must have the children that its kind's line says, unless an error is among them or directly before the node. So the
+  accessors of its view find what they ask for, and return no placeholder. (Where an error is last, no further one tells what is missing.)
 """
+import random
 import re
+import subprocess
 import sys
 from functools import cache
 from pathlib import Path
 
+import grammar_nodes
+import grammar_table
 import shown
+from grammar_corpus import TABLE as GRAMMAR
+from grammar_machine import Rows, parse
+from grammar_texts import soup, valid_text
 from kinds import TABLE, Table
 
 TOP = Path(__file__).resolve().parent.parent
 CLASSES = ("pattern", "arg", "array_item", "dict_item", "param", "destructuring_item", "import_item")
-LINES, PAGE, CORPUS = TOP / "crates/children.txt", TOP / "docs/CHILDREN.md", TOP / "crates/typst_markup_tests/data/whole"
+LINES, PAGE, CORPUS = TOP / "crates/children.txt", TOP / "docs/CHILDREN.md", TOP / "crates/typst_language_tests/data"
+COMMENTS = ("LineComment", "BlockComment", "Shebang")
+WHITE = (*COMMENTS, "Space", "Parbreak")
+PROVED = TOP / "crates/typst_show/out/typst_show"
+# How many texts of each sort are made.
+TEXTS = 5_000
+# A row of a tree that ./show draws, and an error below it.
+ROW = re.compile(r'((?:│  |   )*(?:├─ |└─ )?)(\w+) (\d+)\.\.(\d+) #\d+(?: new| moved)?  "')
+ERROR = re.compile(r"error: (.*)")
 HEAD = """<!-- Written by bench/children.py from crates/children.txt: change that and run it. -->
 # The children of each kind
 
@@ -29,7 +52,8 @@ of a leaf. [`KINDS.md`](KINDS.md) says with an example what each kind is.
 
 A name is a kind, or a class of kinds in small letters. `body:Markup` is a child of the kind `Markup`, which the accessor `body` of the
 view returns. `?` may be missing, `*` comes any number of times, and `/` stands between alternatives. Comments may be between any two
-children, and in math and code white space, too. In math, a `Hash` may be before an expression, and a `Semicolon` after it.
+children, with white space after them, and in math and code white space, too. In math, a `Hash` may be before an expression, and a
+`Semicolon` after it.
 
 The classes `expr` and `block` are those of [`KINDS.md`](KINDS.md). The others:
 
@@ -236,10 +260,11 @@ def page():
 
 def children_of(node, form):
     """The children of a node without those that a form may leave out."""
-    out = {"LineComment", "BlockComment", "Shebang"}
+    out = set(COMMENTS)
     if node.kind in lines()["math and code"]:
         out |= {"Space", "Parbreak", "Hash", "Semicolon"} - {it.inner for it in form.names()}
-    return [it for it in node.children if it.kind not in out]
+    before = [None, *node.children[:-1]]
+    return [it for it, last in zip(node.children, before) if it.kind not in out and not (it.kind == "Space" and last and last.kind in COMMENTS)]
 
 
 def faults():
@@ -270,8 +295,100 @@ def faults():
         yield f"there is no tree in {CORPUS}"
 
 
+class Drawn:
+    """A node of a drawn tree: its kind, where it begins and ends, and its children. That of the plain machine has the same."""
+
+    def __init__(self, kind, start, end):
+        self.kind, self.start, self.end, self.children = kind, start, end, []
+
+    def rows(self, depth=0):
+        yield depth, self
+        for child in self.children:
+            yield from child.rows(depth + 1)
+
+
+def drawn(program, texts):
+    """The trees of some texts with the messages of their errors, as the program draws them. Each text is put in place of the one
+    before it."""
+    edits, before = "", 0
+    for text in texts:
+        edits += f"0..{before} {shown.beginning(shown.quoted_of(text))}\n"
+        before = len(text.encode())
+    ran = subprocess.run([program, "/dev/null", "--edits", "-"], input=edits.encode(), capture_output=True, check=False)
+    if ran.returncode > 1:
+        sys.exit(f"{program} ends with status {ran.returncode}: {ran.stderr.decode()}")
+    trees, above = [], []
+    # A text in quotes has no line end of its own.
+    for line in ran.stdout.decode().split("\n"):
+        if row := ROW.match(line):
+            node, depth = Drawn(row[2], int(row[3]), int(row[4])), len(row[1]) // 3
+            if depth == 0:
+                trees.append((node, []))
+            else:
+                above[depth - 1].children.append(node)
+            above[depth:] = [node]
+        elif told := ERROR.match(line):
+            trees[-1][1].append(told[1])
+    return trees[1:]
+
+
+def plain_tree(node, start=0):
+    """A node of the plain machine, with the bytes of each node, and the messages of its errors."""
+    made = Drawn(node.kind, start, start + (len(node.text.encode()) if node.children is None else 0))
+    told = [node.message] if node.kind == "Error" else []
+    for child in node.children or ():
+        below, said = plain_tree(child, made.end)
+        made.children.append(below)
+        made.end = below.end
+        told += said
+    return made, told
+
+
+def behind_errors(root):
+    """The nodes directly behind an error, white space aside."""
+    found = set()
+    for _, node in root.rows():
+        kids = [it for it in node.children if it.kind not in WHITE]
+        found |= {id(it) for last, it in zip(kids, kids[1:]) if last.kind == "Error"}
+    return found
+
+
+def unlike(forms, root):
+    """The inner nodes without the children that their lines say, unless an error is among these or directly before the node."""
+    excused = behind_errors(root)
+    for _, node in root.rows():
+        form = forms.get(node.kind)
+        if (node.children or form) and id(node) not in excused and all(it.kind != "Error" for it in node.children):
+            kids = children_of(node, form) if form else []
+            if not form or all(end != len(kids) for end, _ in matches(form, kids, 0, classes())):
+                yield f"{node.kind}[{' '.join(it.kind for it in node.children)}]"
+
+
+def parsed_faults(program):
+    """What is wrong with the trees that the program draws of texts by chance."""
+    forms = {kind: Reader(line).choice() for part in lines().values() for kind, line in part.items()}
+    rows = Rows(grammar_table.Table(GRAMMAR))
+    texts = [make(random.Random(seed)) for make in (valid_text, soup) for seed in range(TEXTS)]
+    trees = drawn(program, texts)
+    if len(trees) != len(texts):
+        yield f"{len(trees)} trees are drawn, of {len(texts)} texts"
+    for number, (text, (root, told)) in enumerate(zip(texts, trees)):
+        plain, errors = plain_tree(grammar_nodes.Node("Markup", children=tuple(parse(rows, text).nodes)))
+        shapes = [[(depth, it.kind, it.start, it.end) for depth, it in tree.rows()] for tree in (root, plain)]
+        if shapes[0] != shapes[1] or told != errors:
+            yield f"another tree than that of the plain machine: {text!r}"
+        if number < TEXTS and told:
+            yield f"an error in a valid text: {text!r}"
+        yield from (f"{it} in {text!r}" for it in unlike(forms, root))
+
+
 def main():
     made, wrong = page(), []
+    if sys.argv[1:2] == ["--parsed"]:
+        sys.setrecursionlimit(10_000)
+        wrong = list(parsed_faults(Path((sys.argv[2:] or [PROVED])[0]).resolve()))
+        print("\n".join(wrong[:40]) or f"the nodes of {2 * TEXTS:,} texts by chance have the children that views ask for")
+        return 1 if wrong else 0
     if "--check" in sys.argv[1:]:
         wrong = list(faults())
         if not PAGE.is_file() or PAGE.read_text() != made:

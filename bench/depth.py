@@ -4,8 +4,8 @@
     bench/depth.py              the rows of the table in docs/MEMORY.md
     bench/depth.py CALL ..      those of these calls
 
-Each node of the chain is inside the one before. The script runs the proved builds of crates/typst_large and, for `show`,
-of the script program (`rt run` in the crate's folder makes each), once for each depth that it tries. It halves the
+Each node of the chain is inside the one before. The script runs the proved builds of crates/typst_bench and, for `show`,
+of crates/typst_run (`rt run` in the crate's folder makes each), once for each depth that it tries. It halves the
 distance between a depth that a call returns from and one at which a signal ends the process.
 """
 import resource
@@ -14,10 +14,10 @@ import sys
 from pathlib import Path
 
 TOP = Path(__file__).resolve().parent.parent
-LARGE = TOP / "crates/typst_large/out/typst_large"
-SCRIPTS = TOP / "crates/typst_tree_main/out/typst_tree_main"
+BENCH = TOP / "crates/typst_bench/out/typst_bench"
+SCRIPTS = TOP / "crates/typst_run/out/typst_run"
 STACK = 8 << 20
-# The calls of typst_large in the table. Each is asked for as `clone, deep`. The last is one of the script program.
+# The calls of typst_bench in the table. Each is asked for as `large clone deep`. The last is one of scripts.
 CALLS = ("build", "drop", "number", "is_numbered", "replace", "find", "clone", "compare", "hash", "full_text", "errors_and_warnings")
 SHOW = "show"
 # The depth that no call is tried beyond, and how near the two depths come to each other, as a part of the lower one.
@@ -30,8 +30,8 @@ def limit():
 
 def called(name, depth):
     """How a run of one call ends."""
-    asked = f"{name}, deep {depth} 1"
-    ran = subprocess.run([LARGE], input=f"{asked}\n".encode(), capture_output=True, preexec_fn=limit, check=False)
+    asked = f"large {name} deep {depth} 1"
+    ran = subprocess.run([BENCH], input=f"{asked}\n".encode(), capture_output=True, preexec_fn=limit, check=False)
     return ran.returncode, ran.stdout.decode() == f"{asked} right\n"
 
 
@@ -39,7 +39,7 @@ def shown(depth):
     """How a script that shows a chain ends, by the last line that it prints: the program drops its tree thereafter."""
     script = b"leaf 6 a\n" + b"inner 5 1\n" * depth + b"root\nshow\n"
     wanted = b"\n" + b" " * (2 * depth) + b"6 1 2 1 a\n"
-    ran = subprocess.Popen([SCRIPTS], stdin=subprocess.PIPE, stdout=subprocess.PIPE, preexec_fn=limit)
+    ran = subprocess.Popen([SCRIPTS, "script"], stdin=subprocess.PIPE, stdout=subprocess.PIPE, preexec_fn=limit)
     last = subprocess.Popen(["tail", "-c", str(len(wanted))], stdin=ran.stdout, stdout=subprocess.PIPE)
     ran.stdout.close()
     ran.stdin.write(script)
@@ -70,7 +70,7 @@ def reached(name):
 
 
 def main():
-    for program in (LARGE, SCRIPTS):
+    for program in (BENCH, SCRIPTS):
         if not program.exists():
             sys.exit(f"depth: no {program}: `rt run` in the crate's folder makes it")
     for name in sys.argv[1:] or (*CALLS, SHOW):

@@ -3,7 +3,7 @@
 
     bench/faults.py
 
-runs the proved build of the script program, which `rt ci` and `rt run` in crates/typst_tree_main make. It runs a script
+runs the proved build of crates/typst_run, which `rt ci` and `rt run` in that folder make. It runs a script
 of edits, and one that is longer than the buffers,
 
 - with an input that fails after N bytes, for each N (in the long script for each N near the end of a buffer, and for
@@ -27,7 +27,7 @@ import threading
 from pathlib import Path
 
 TOP = Path(__file__).resolve().parent.parent
-PROGRAM = TOP / "crates/typst_tree_main/out/typst_tree_main"
+PROGRAM = TOP / "crates/typst_run/out/typst_run"
 
 # Replacements and searches, of which some are refused and some don't fit, and the tree at the end.
 EDITED = b"""leaf 55 *
@@ -87,7 +87,7 @@ def places(text):
 
 
 def run(**how):
-    return subprocess.run([PROGRAM], stderr=subprocess.PIPE, check=False, timeout=60, **how)
+    return subprocess.run([PROGRAM, "script"], stderr=subprocess.PIPE, check=False, timeout=60, **how)
 
 
 def after_reading(script, count):
@@ -190,7 +190,7 @@ def spoiled():
 
 def main():
     if not PROGRAM.exists():
-        sys.exit(f"faults: no {PROGRAM}: `rt run` in crates/typst_tree_main makes it")
+        sys.exit(f"faults: no {PROGRAM}: `rt run` in crates/typst_run makes it")
     whole = run(input=LONG, stdout=subprocess.PIPE)
     wrong = [f"the long script: status {whole.returncode}, {whole.stderr!r}"] if whole.returncode else []
     count = 0

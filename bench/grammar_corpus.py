@@ -3,7 +3,7 @@
 
     bench/grammar_corpus.py
 
-It fails if the tree of a text in crates/typst_markup_tests/data/whole isn't the one beside it, with a few exceptions that are named here
+It fails if the tree of a text in crates/typst_language_tests/data isn't the one beside it, with a few exceptions that are named here
 and have errors; if there is a row without which all those trees stay the same; if a row could take the end of the text, or rows
 could go round without a token; if a text of the grammar has an error, or a byte of any text is lost; or if the work isn't linear.
 """
@@ -12,12 +12,12 @@ import sys
 
 from grammar_checks import faults
 from grammar_machine import Machine, Refused, Rows, parse
-from grammar_nodes import Node, tree_of
+from grammar_nodes import Node, lines_of
 from grammar_table import TOP, Table
 from grammar_texts import soup, valid_text
 
-TABLE = TOP / "crates/whole.table"
-DATA = TOP / "crates/typst_markup_tests/data/whole"
+TABLE = TOP / "crates/grammar.table"
+DATA = TOP / "crates/typst_language_tests/data"
 # Texts with errors whose trees may be others, with the reason.
 OTHERS = {
     "bad_dicts": "a colon that comes first makes a dictionary of `(: 1)`, and not a parenthesis",
@@ -56,7 +56,7 @@ def corpus(rows):
     """What is wrong with the trees of the texts, and with the rows."""
     machines = {path.stem: parse(rows, path.read_bytes().decode()) for path in sorted(DATA.glob("*.typ"))}
     for name, machine in machines.items():
-        is_same = tuple(machine.nodes) == tree_of(DATA / f"{name}.tree")
+        is_same = list(lines_of(Node("Markup", children=tuple(machine.nodes)))) == (DATA / f"{name}.tree").read_text().splitlines()
         if is_same == (name in OTHERS):
             yield f"{name}.tree is {'the tree of the rows now: take it from the exceptions' if is_same else 'another tree'}"
         if name in OTHERS and not has_error(machine):

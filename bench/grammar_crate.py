@@ -1,5 +1,5 @@
 #!/usr/bin/env python3
-"""Writes the rows and maps of the whole syntax, in code and in specs, from crates/whole.table.
+"""Writes the rows and maps of the whole syntax, in code and in specs, from crates/grammar.table.
 
     bench/grammar_crate.py CRATE            writes the files of this crate that are tables, and says which changed
     bench/grammar_crate.py CRATE --check    says which differ from what it would write, and changes nothing
@@ -15,9 +15,9 @@ from grammar_maps import maps_in_code, maps_in_specs
 from grammar_table import TOP, Row, Table
 from grammar_words import WIDTH, arm, camel, flat, head_of, list_in_code, list_in_specs, snake
 
-TABLE = TOP / "crates/whole.table"
+TABLE = TOP / "crates/grammar.table"
 WRITTEN = f"Written by bench/grammar_crate.py from {TABLE.relative_to(TOP)}: change that and run it."
-DECLARED = "Rattle.typst_rows.specs.declared"
+DECLARED = "Rattle.typst_grammar.specs.declared"
 # The enum of each action's word, by the action.
 WORDS = {"->": "State", "wrap": "SyntaxKind", "eat": "SyntaxKind", "retag": "Map", "unique": "Unique"}
 NAMES = {"->": "Goto"}
@@ -177,8 +177,8 @@ def part_in_code(parts, part):
     return f"""// {WRITTEN}
 //! The rows of {part.what}.
 ghost use Rattle.std.specs.Prelude.{{◌≡◌}};
-ghost use Rattle.typst_rows.specs.Row.{{rows_of}};
-ghost use Rattle.typst_rows.specs.{camel(part.name)}Rows.{{{", ".join(sorted(snake(state.name) for state in states))}}};
+ghost use Rattle.typst_grammar.specs.Row.{{rows_of}};
+ghost use Rattle.typst_grammar.specs.{camel(part.name)}Rows.{{{", ".join(sorted(snake(state.name) for state in states))}}};
 
 {chr(10).join(own)}
 {kinds}
@@ -196,7 +196,7 @@ def modes_in_code(parts):
     return f"""// {WRITTEN}
 //! How the lexer reads in each state.
 ghost use Rattle.std.specs.Prelude.{{◌≡◌}};
-ghost use Rattle.typst_rows.specs.Table.{{mode_of}};
+ghost use Rattle.typst_grammar.specs.Table.{{mode_of}};
 
 use crate::row::Mode;
 use crate::rows::State;
@@ -221,8 +221,8 @@ def rows_in_code(parts):
     return f"""// {WRITTEN}
 //! The rows of the syntax.
 ghost use Rattle.std.specs.Prelude.{{◌≡◌}};
-ghost use Rattle.typst_rows.specs.Row.{{rows_of}};
-ghost use Rattle.typst_rows.specs.Table.{{rows}};
+ghost use Rattle.typst_grammar.specs.Row.{{rows_of}};
+ghost use Rattle.typst_grammar.specs.Table.{{rows}};
 
 pub use crate::modes::mode_of;
 use crate::row::Row;
@@ -262,7 +262,7 @@ def expectations_in_code(table):
     return f"""// {WRITTEN}
 //! What the machine may expect.
 ghost use Rattle.std.specs.Prelude.{{◌≡◌}};
-ghost use Rattle.typst_rows.specs.Expectations.{{expectation_text, expectation_what}};
+ghost use Rattle.typst_grammar.specs.Expectations.{{expectation_text, expectation_what}};
 
 /// What a row or a map expects where something else is.
 #[derive(Clone, Copy, Debug, PartialEq, Eq, Hash)]
@@ -353,7 +353,7 @@ def part_in_specs(parts, part):
 use Rattle.std.specs.Prelude.{{List, [], ◌∷◌, {", ".join(words)}}}
 {uses}
 use {DECLARED}.rows.Class.{{Class}}
-use Rattle.typst_rows.specs.Row.{{Row}}
+use Rattle.typst_grammar.specs.Row.{{Row}}
 
 {constants}
 {functions}"""
@@ -363,7 +363,7 @@ def rows_in_specs(parts):
     frames = parts.table.frames
     cases = "\n".join(f"rows states.{camel(s.name)} class = {s.part}.{snake(s.name)} class" for s in frames)
     modes = "\n".join(f"mode_of states.{camel(s.name)} = Some modes.{s.mode.capitalize()}" for s in frames if s.mode)
-    uses = "\n".join(f"use Rattle.typst_rows.specs.{camel(name)}Rows as {name}" for name in sorted(parts.table.parts))
+    uses = "\n".join(f"use Rattle.typst_grammar.specs.{camel(name)}Rows as {name}" for name in sorted(parts.table.parts))
     return f"""-- {WRITTEN}
 -- The rows of the syntax.
 use Rattle.std.specs.Prelude.{{List, Option, Some, None}}
@@ -373,7 +373,7 @@ use {DECLARED}.rows.Class.{{Class}}
 use {DECLARED}.rows.State.{{State}}
 use {DECLARED}.rows.State.TheVariants as states
 {uses}
-use Rattle.typst_rows.specs.Row.{{Row}}
+use Rattle.typst_grammar.specs.Row.{{Row}}
 
 -- how the lexer reads where a frame is in a state
 abbrev pub mode_of : State → Option Mode

@@ -1,4 +1,4 @@
-"""A plain lexer of Typst for bench/grammar_rows.py: white space and tokens in each mode.
+"""A plain lexer of Typst for bench/grammar_corpus.py: white space and tokens in each mode.
 
 It is written from the rules for tokens in words, and looks at a text anew for each token. The library's lexer is another program.
 """
@@ -240,10 +240,9 @@ class Lexer:
             return {"-": "ListMarker", "+": "EnumMarker", "/": "TermMarker"}[c], i + 1
         if c in "0123456789":
             end = DIGITS.match(self.text, i).end()
-            if self.at(end) == "." and self.before_blank(end + 1):
-                if int(self.text[i:end]) < 2**64:
-                    return "EnumMarker", end + 1
-                return "Text", self.text_end(end + 1)
+            if self.at(end) == ".":
+                is_marker = self.before_blank(end + 1) and int(self.text[i:end]) < 2**64
+                return ("EnumMarker", end + 1) if is_marker else ("Text", self.text_end(end + 1))
         return None
 
     def text_end(self, i):
@@ -355,10 +354,10 @@ class Lexer:
             end, is_float = re.compile("[eE][+-]?[0-9]*").match(self.text, end).end(), True
         after = SUFFIX.match(self.text, end).end()
         digits, suffix = self.text[i:end], self.text[end:after]
-        if suffix and suffix not in UNITS:
-            return "Error", "Error", after, f"invalid number suffix: {suffix}"
         if digits[-1] in "eE+-":
             return "Error", "Error", after, f"invalid floating point number: {digits}"
+        if suffix and suffix not in UNITS:
+            return "Error", "Error", after, f"invalid number suffix: {suffix}"
         if suffix:
             return "Numeric", after
         return ("Float" if is_float or int(digits) >= 2**63 else "Int"), after

@@ -1,4 +1,4 @@
-"""A plain machine for the rows of a table, for bench/grammar_rows.py. Nothing is taken from the library's machine."""
+"""A plain machine for the rows of a table, for bench/grammar_corpus.py. Nothing is taken from the library's machine."""
 from dataclasses import dataclass
 
 from grammar_lexer import Gap, Lexer, Token
@@ -6,7 +6,7 @@ from grammar_nodes import Node, error
 from grammar_table import START, Row, Table
 from grammar_unique import unique
 
-MOST_DEEP, MOST_LOOKS, MOST_LEVELS = 64, 1024, 256
+MOST_DEEP, MOST_LOOKS, MOST_LEVELS = 64, 1024, 255
 LEAST_LEVELS = 2  # of a frame: the node of a token has at most two
 NO_LINE_FEED = ("else", "Dot", "Field")
 

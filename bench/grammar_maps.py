@@ -1,7 +1,7 @@
 """The maps that give nodes other kinds, as bench/grammar_crate.py writes them in code and in specs."""
 from grammar_words import arm, camel, head_of, list_in_specs, snake
 
-DECLARED = "Rattle.typst_rows.specs.declared"
+DECLARED = "Rattle.typst_grammar.specs.declared"
 
 
 class Changes:
@@ -81,7 +81,7 @@ def maps_in_code(table, head):
     return f"""// {head}
 //! The maps that give nodes other kinds.
 ghost use Rattle.std.specs.Prelude.{{◌≡◌}};
-ghost use Rattle.typst_rows.specs.Maps.{{{names}}};
+ghost use Rattle.typst_grammar.specs.Maps.{{{names}}};
 
 use crate::change::{{Change, Effect, Relabel, Test}};
 use crate::expectation::Expectation;

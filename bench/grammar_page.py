@@ -1,5 +1,5 @@
 #!/usr/bin/env python3
-"""Writes docs/SYNTAX.md from crates/whole.table and bench/SYNTAX.md.txt.
+"""Writes docs/SYNTAX.md from crates/grammar.table and bench/SYNTAX.md.txt.
 
     bench/grammar_page.py            writes it, and says whether it changed
     bench/grammar_page.py --check    fails if it isn't what would be written
@@ -8,7 +8,7 @@ import sys
 
 from grammar_table import TOP, Table
 
-TABLE = TOP / "crates/whole.table"
+TABLE = TOP / "crates/grammar.table"
 PAGE = TOP / "docs/SYNTAX.md"
 TEMPLATE = TOP / "bench/SYNTAX.md.txt"
 NEWLINES = {"go": "Rule: go.", "stop": "Rule: stop.", "context": "Rule: context.", "par": "Rule: par.", "column": "Rule: column."}

@@ -1,4 +1,4 @@
-"""The table of the syntax, as bench/grammar.py and bench/grammar_rows.py read it. Its head says how it is written.
+"""The table of the syntax, as bench/grammar_corpus.py and bench/grammar_crate.py read it. Its head says how it is written.
 
 What follows an opened frame in a row is done by a state of its own, so that a row takes a token at most once and opens at most one
 frame.

@@ -97,7 +97,7 @@ class Maker:
     def mark(self):
         return self.chance.choice(
             ["\\#", "\\u{1F600}", "\\ ", "--", "...", "~", "'q'", '"q"', "https://a.b/c(d)?e", "@ref", "`raw`", "```py x\n  y\n ```", "``",
-             "/* c /* d */ */", "<label>", "a: b", "= no", "- no"]
+             "/* c /* d */ */", "<label>", "a: b", "a = no", "- no"]
         )  # fmt: skip
 
     # Code.
@@ -232,7 +232,7 @@ class Maker:
             lambda: f"[{inner()}, {inner()})",
             lambda: f"{self.chance.choice(MATH_NAMES)}({', '.join([inner(), *names()])}; {inner()})",
             lambda: f"#{self.atom(depth - 1)};",
-            lambda: self.chance.choice(["&", "\\ ", "->", "<=>", "...", "\\#", ", ;", "|x|", "a'", "f'(x)", "x_a_b", "a/b/c", "/* c */"]),
+            lambda: self.chance.choice(["&", "\\ ", "->", "<=>", "...", "\\#", "(, ;)", "|x|", "a'", "f'(x)", "x_a_b", "a/b/c", "/* c */"]),
             lambda: f"f(..{inner()})",
         )
 
@@ -245,7 +245,7 @@ def main():
     sys.setrecursionlimit(10_000)
     folder, count, seed = Path(sys.argv[1]), int(sys.argv[2]), int((sys.argv[3:] or [0])[0])
     folder.mkdir(parents=True, exist_ok=True)
-    rows = Rows(Table(TOP / "crates/whole.table"))
+    rows = Rows(Table(TOP / "crates/grammar.table"))
     for number in range(seed, seed + count):
         for name, make in (("valid", valid_text), ("soup", soup)):
             text = make(random.Random(number))

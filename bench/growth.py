@@ -6,10 +6,10 @@ So it finds work in proportion to a whole where a part was asked for. It needs n
     bench/growth.py             compares with the bounds below
     bench/growth.py --found     prints what is found, with no comparison
 
-It runs the proved builds that `rt ci` makes (`rt run` in crates/typst_large, crates/typst_tree_main and
-crates/typst_bench) under valgrind's callgrind, which counts the same instructions in each run of a build. It makes one
-run with calls and one with none. The difference, divided by the number of calls, is a call's count. What a call asks of
-memory is counted in the same way, in bytes. Where there is no valgrind it says so and compares nothing.
+It runs the proved builds that `rt ci` makes (`rt run` in crates/typst_run and crates/typst_bench) under valgrind's
+callgrind, which counts the same instructions in each run of a build. It makes one run with calls and one with none. The
+difference, divided by the number of calls, is a call's count. What a call asks of memory is counted in the same way, in
+bytes. Where there is no valgrind it says so and compares nothing.
 """
 import re
 import shutil
@@ -18,8 +18,7 @@ import sys
 from pathlib import Path
 
 TOP = Path(__file__).resolve().parent.parent
-LARGE = TOP / "crates/typst_large/out/typst_large"
-SCRIPTS = TOP / "crates/typst_tree_main/out/typst_tree_main"
+SCRIPTS = TOP / "crates/typst_run/out/typst_run"
 BENCH = TOP / "crates/typst_bench/out/typst_bench"
 # The two numbers of children or of lines, and how often each call is made.
 SIZES, CALLS = (1_000, 16_000), 32
@@ -35,16 +34,28 @@ BOUNDS = {
     "script: find, run": (1_900, 1_900),
     "script: replace, run": (5_300, 5_400),
     # Texts. An edit is made and taken back: in the middle, or in turns at both ends, with the blocks between them.
-    "text: letter": (52_000, 120_000),
-    "text: letter far": (60_000, 215_000),
-    "text: letter list": (40_000, 120_000),
+    "text: letter": (74_000, 138_000),
+    "text: letter far": (80_000, 232_000),
+    "text: letter list": (50_000, 131_000),
     "text: lines letter": (2_000, 3_600),
     "text: byte_to_line": (210, 250),
     "text: line_column_to_byte": (170, 170),
     "text: place_of": (550, 590),
 }
 # The most instructions for each line of a text that is parsed: of paragraphs, of one block, and of items without blank lines.
-PER_LINE = {"text: parse": (11_000, 11_000), "text: parse block": (15_000, 15_000), "text: parse list": (12_500, 12_500)}
+PER_LINE = {"text: parse": (16_500, 16_500), "text: parse block": (21_700, 21_700), "text: parse list": (19_400, 19_400)}
+# The same for each piece of a text of one line that repeats it: brackets that nothing closes, operators, fields, calls, names.
+PER_PIECE = {
+    "text: parse round": (4_100, 3_800),
+    "text: parse square": (1_460, 1_430),
+    "text: parse curly": (3_700, 3_450),
+    "text: parse dollars": (3_320, 3_300),
+    "text: parse minus": (570, 560),
+    "text: parse fields": (4_850, 4_880),
+    "text: parse calls": (80_600, 87_600),
+    "text: parse items": (2_850, 2_600),
+    "text: parse keys": (12_950, 12_850),
+}
 # The most instructions for each level of a chain, whose leaf a reconciliation changes: at so many levels.
 LEVELS, PER_LEVEL = (30, 480), {"text: reconcile chain": (1_500, 1_300)}
 # The most bytes of memory that a call may ask for.
@@ -55,14 +66,14 @@ INSTRUCTIONS = ["--tool=callgrind", "--callgrind-out-file=/dev/null"], r"Collect
 ASKED = ["--tool=memcheck", "--undef-value-errors=no"], r"frees, ([\d,]+) bytes allocated"
 
 
-def counted(program, lines, what=INSTRUCTIONS):
+def counted(words, lines, what=INSTRUCTIONS):
     """How many instructions a program takes on these lines, or how many bytes it asks for."""
     tool, told = what
-    ran = subprocess.run(["valgrind", *tool, program], input=lines.encode(), capture_output=True, check=False)
+    ran = subprocess.run(["valgrind", *tool, *words], input=lines.encode(), capture_output=True, check=False)
     said = ran.stderr.decode(errors="replace")
     found = re.search(told, said)
     if ran.returncode or not found or b"wrong" in ran.stdout:
-        sys.exit(f"growth: {program.name} on {lines[:60]!r}: status {ran.returncode}, {ran.stdout[-200:]!r}, {said[-500:]}")
+        sys.exit(f"growth: {words[0].name} on {lines[:60]!r}: status {ran.returncode}, {ran.stdout[-200:]!r}, {said[-500:]}")
     return int(found[1].replace(",", ""))
 
 
@@ -77,10 +88,10 @@ def of_call(name, size, calls=CALLS, what=INSTRUCTIONS):
     """What a call takes in a tree or a text of this size."""
     kind, _, words = name.rpartition(": ")
     if kind == "script":
-        few, many = (counted(SCRIPTS, script(size, words.split(", "), often), what) for often in (0, calls))
+        few, many = (counted([SCRIPTS, "script"], script(size, words.split(", "), often), what) for often in (0, calls))
     else:
-        program = BENCH if kind == "text" else LARGE
-        few, many = (counted(program, f"{words} {size} {often}\n", what) for often in (0, calls))
+        line = words if kind == "text" else f"large {words}"
+        few, many = (counted([BENCH], f"{line} {size} {often}\n", what) for often in (0, calls))
     return (many - few) // calls
 
 
@@ -90,6 +101,8 @@ def rows():
         yield name, "instructions", bounds, [of_call(name, size) for size in SIZES]
     for name, bounds in PER_LINE.items():
         yield name, "instructions a line", bounds, [of_call(name, size, 2) // size for size in SIZES]
+    for name, bounds in PER_PIECE.items():
+        yield name, "instructions a piece", bounds, [of_call(name, size, 2) // size for size in SIZES]
     for name, bounds in PER_LEVEL.items():
         yield name, "instructions a level", bounds, [of_call(name, size) // size for size in LEVELS]
     for name, bounds in BYTES.items():
@@ -100,7 +113,7 @@ def main():
     if not shutil.which("valgrind"):
         print("growth: no valgrind, so no instructions are counted")
         return 0
-    for program in (LARGE, SCRIPTS, BENCH):
+    for program in (SCRIPTS, BENCH):
         if not program.exists():
             sys.exit(f"growth: no {program}: `rt run` in its crate's folder makes it")
     wrong, count = [], 0

@@ -1,5 +1,5 @@
 #!/usr/bin/env python3
-"""Says whether the pages have what crates/typst_look/stdout has: docs/SCRIPT.md a form for each accessor of each view, and
+"""Says whether the pages have what crates/typst_run/stdout has: docs/SCRIPT.md a form for each accessor of each view, and
 docs/internal/GATE.md how many lines each mark has.
 
     bench/look.py
@@ -12,7 +12,7 @@ from pathlib import Path
 TOP = Path(__file__).resolve().parent.parent
 PAGE = TOP / "docs/SCRIPT.md"
 COUNTS = TOP / "docs/internal/GATE.md"
-WANTED = TOP / "crates/typst_look/stdout"
+WANTED = TOP / "crates/typst_run/stdout"
 # Lines of answers that are no accessor of a view: of each expression or pattern, and of what an accessor answers.
 OTHERS = {"hash", "is_literal", "bindings"}
 
@@ -61,7 +61,7 @@ def faults():
 
 def main():
     found = [f"look: {it}" for it in faults()]
-    print("\n".join(found) or "docs/SCRIPT.md has the accessors, and docs/internal/GATE.md the lines, of crates/typst_look/stdout")
+    print("\n".join(found) or "docs/SCRIPT.md has the accessors, and docs/internal/GATE.md the lines, of crates/typst_run/stdout")
     return 1 if found else 0
 
 

@@ -11,7 +11,7 @@ then the functions that they change, then clauses of these. They are judged in e
 
 In docs/internal/WORKED.md the second cell of a row names tests by their modules. A name alone is in the module of the name
 before it. A name in capitals is a table of that module. A name in quotes is a row, which is in that module as a text.
-The names after "look" are trees of crates/typst_look/stdin and, after a colon, what `stdout` says about them.
+The names after "look" are trees of crates/typst_run/stdin and, after a colon, what `stdout` says about them.
 
 In every page, a name in code occurs in a file that isn't a page, and what looks like a file or a folder is there. The
 script leaves out placeholders, which are in capitals, commands of the kit, and pages that name things elsewhere. Each link
@@ -193,8 +193,8 @@ def file_of(module):
 
 def of_worked(wrong):
     page = TOP / "docs/internal/WORKED.md"
-    trees = (TOP / "crates/typst_look/stdin").read_bytes().decode(errors="replace")
-    told = (TOP / "crates/typst_look/stdout").read_bytes().decode(errors="replace")
+    trees = (TOP / "crates/typst_run/stdin").read_bytes().decode(errors="replace")
+    told = (TOP / "crates/typst_run/stdout").read_bytes().decode(errors="replace")
     marks = set(re.findall(r"^mark (.*?)(?: \d+)?$", trees, re.M)) | {"hollow"}
     vectors = sources("typst_script_tests")
     seen, usual = 0, ""

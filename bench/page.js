@@ -25,7 +25,7 @@ holds('a triangle unfolds its node', strong.open);
 one('b', rowOf(strong)).click();
 const pinnedTexts = () => [...text.querySelectorAll('.pin')].map((it) => it.textContent).join('');
 holds('a row pins its node', strong.open && strong.matches('.pin') && isSeen(one(':scope > p', strong)));
-holds('the text of a pinned node is marked', pinnedTexts() === '*this tree.');
+holds('the text of a pinned node is marked', pinnedTexts() === '*this tree.\n');
 holds('empty answers stand behind a word', one('.more > summary', strong) && !/: (false|none|\[\])/.test(one(':scope > p', strong).firstChild.textContent));
 one('b', rowOf(strong)).click();
 holds('a second click ends that', !one('.pin'));

@@ -7,7 +7,7 @@ It works in a clean clone, four parts at a time, the longest first:
 
 - the checks of bench/seconds;
 - the tests of each crate that has some, by `rt try --test`;
-- the programs of examples/README.md, by `rt try`, and the trees of texts in typst_markup_tests, which takes some 70,000 edits, by a build
+- the programs of examples/README.md, by `rt try`, and the trees of texts in typst_language_tests, which takes some 130,000 edits, by a build
   of which nothing is tested: each must print its `stdout`;
 - the scripts and the looks in examples/ by ./run and ./look, and the text with a mistake and its edit by ./show: each must print its
   `NAME.stdout`.
@@ -38,11 +38,11 @@ TRY = ["rt", "try", "--seconds", "600"]
 # What the names of tests begin with that `rt try` can't run: they take all memory, and its allocator keeps some for itself.
 WITH_ALL_MEMORY = "memory::refused::"
 # The program that compares trees of texts.
-AGREEMENT = "typst_markup_tests"
+AGREEMENT = "typst_language_tests"
 # The starters of the programs that read scripts and looks.
 STARTERS = {".script": "./run", ".look": "./look"}
 LEFT_OUT = """Left out, and in ./gate: every proof, and so whether contracts hold; the wrong bodies that the prover must refuse; the tests that take
-all memory; the answers of typst_look; words, pages and inputs of ./show; refused memory and failing reads; the C header and the Rust
+all memory; the answers of typst_run; words, pages and inputs of ./show; refused memory and failing reads; the C header and the Rust
 crate; bounds of work."""
 
 

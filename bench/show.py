@@ -5,9 +5,9 @@
 
 `bench/shown.py` works out what the program must print, apart from it, from trees that no program here made:
 
-- each text of crates/typst_markup_tests/data must give the tree next to it, with --plain and without, and turn into the
-  next text by an edit;
-- each tree of crates/typst_look whose views were asked must give with --views the answers that are written there;
+- each text of crates/typst_language_tests/data must give the tree next to it, with --plain and without, and turn into the
+  next text by an edit; bench/grammar_corpus.py names the few that are left out;
+- each tree of crates/typst_run whose views were asked must give with --views the answers that are written there;
 - `examples/mistake.typ` and `examples/letter.typ` with their edits, a text, and the program's own run of a look with remarks must give
   what the small trees below and `examples/letter.tree` say, and the files with the wanted output must be the same;
 - each wrong input of the table below must give its message and status, and print nothing;
@@ -31,9 +31,11 @@ from pathlib import Path
 
 import show_page
 import shown
+from grammar_corpus import DATA as PAIRS
+from grammar_corpus import OTHERS
 
 TOP = Path(__file__).resolve().parent.parent
-PAIRS = TOP / "crates/typst_markup_tests/data"
+TEXTS = sorted(it for it in PAIRS.glob("*.typ") if it.stem not in OTHERS)
 PROVED = TOP / "crates/typst_show/out/typst_show"
 # Without these the program draws without colours.
 SETTINGS = {name: value for name, value in os.environ.items() if name not in ("CLICOLOR_FORCE", "NO_COLOR")}
@@ -72,7 +74,7 @@ PARAGRAPH_TREE = """\
   Parbreak "\\n\\n"
 """
 # Texts with the most errors, the most lines, and the most markup for their bytes.
-DENSE = ["*" * 100 + "\n\n" * 9 + "a\n\n*" * 9000, "\n" * 50_000, "<&>" * 30_000, "*&*" * 20_000, "\0`a`" * 9_000, "- " * 30_000, "-\n" * 30_000]
+DENSE = ["#" * 90_000, "$(" * 40_000, "#(a: 1," * 9000, "*" * 100 + "\n\n" * 9 + "a\n\n*" * 9000, "\n" * 50_000, "<&>" * 30_000, "*&*" * 20_000, "\0`a`" * 9_000, "- " * 30_000, "-\n" * 30_000]
 # Settings, and whether there are colours.
 COLOURS = [
     ({"CLICOLOR_FORCE": "1"}, True),
@@ -266,7 +268,7 @@ Options:
   -h, --help             Print help
   -V, --version          Print version
 
-FILE is a text of markup. If its name ends in .script or .look, it is a script or a look, which builds a tree.
+FILE is a text of Typst. If its name ends in .script or .look, it is a script or a look, which builds a tree.
 Each line of EDITS is an edit: 7..12 "text" in bytes, or 2:5..2:9 "text" in lines and columns, which count from 1.
 In the quotes the escapes are those of Rust. docs/SHOW.md explains what is shown.
 The status is 0 if the text has no error, 1 if it has one, 2 if the words, an edit or a script are wrong, and 3 if a file
@@ -426,8 +428,8 @@ def tree_beside(text):
 def differing_pairs(program):
     """What differs between trees of texts, with --plain and without."""
     wrong = []
-    for text in sorted(PAIRS.glob("*.typ")):
-        plain = text.with_suffix(".tree").read_bytes()
+    for text in TEXTS:
+        plain = shown.without_remarks(text.with_suffix(".tree").read_bytes().decode()).encode()
         drawing = shown.printed(tree_beside(text), text.name).encode()
         piped = shown.printed(tree_beside(text), "-").encode()
         for words, given, wanted in (
@@ -445,8 +447,7 @@ def differing_pairs(program):
 def differing_edits(program):
     """What differs if an edit turns each text into the next one."""
     wrong = []
-    texts = sorted(PAIRS.glob("*.typ"))
-    for text, other in zip(texts, texts[1:] + texts[:1]):
+    for text, other in zip(TEXTS, TEXTS[1:] + TEXTS[:1]):
         old, new = tree_beside(text), tree_beside(other)
         edit = f"0..{old.end} {shown.beginning(new.characters())}"
         wanted = shown.printed(old, text.name)
@@ -486,8 +487,7 @@ def first_other(got, wanted):
 def differing_pages(program):
     """What differs in the pages of texts, each with the edit that makes the next one of it."""
     wrong = []
-    texts = sorted(PAIRS.glob("*.typ"))
-    for text, other in zip(texts, texts[1:] + texts[:1]):
+    for text, other in zip(TEXTS, TEXTS[1:] + TEXTS[:1]):
         old, new = tree_beside(text), tree_beside(other)
         edit = f"0..{old.end} {shown.beginning(new.characters())}"
         ran = run(program, [text.name, "--edits", "-", "--page", "-"], PAIRS, edit.encode())
@@ -589,9 +589,7 @@ def differing_lines(program):
     wrong = []
     for end in ENDS_OF_LINES:
         text = f"a{end}ä `raw{end}more{end}"
-        # Of these, docs/MARKUP.md counts three as white space.
-        before = [("Text", "a"), ("Space", end), ("Text", "ä")] if end in ("\n", "\r", "\r\n") else [("Text", f"a{end}ä")]
-        kinds = [*before, ("Space", " "), ("Error", f"`raw{end}more{end}")]
+        kinds = [("Text", "a"), ("Space", end), ("Text", "ä"), ("Space", " "), ("Error", f"`raw{end}more{end}")]
         leaves = [shown.Node(kind, shown.quoted_of(own), message="unclosed raw text" if kind == "Error" else None) for kind, own in kinds]
         root = shown.numbered(shown.Node("Markup", children=leaves))
         with tempfile.TemporaryDirectory() as room:
@@ -619,7 +617,7 @@ def dense_pages(program):
 def differing_parts(program):
     """What differs where only a part of a tree is asked for, or places, nodes of a kind, or colours."""
     wrong = []
-    for text in sorted(PAIRS.glob("*.typ")):
+    for text in TEXTS:
         root = tree_beside(text)
         whole = root.text()
         parts = [shown.within(root, depth=1), shown.within(root, lines=(2, 3)), shown.within(root, depth=2, lines=(1, 1)), shown.within(root)]
@@ -660,7 +658,7 @@ def escaped(program):
 
 
 # The trees of examples/mistake.typ before its edit and after it, and of a text with raw text. They were worked out by hand, by the
-# rules of docs/MARKUP.md.
+# rules of docs/SYNTAX.md.
 BEFORE = """\
 Markup
   Heading
@@ -677,7 +675,7 @@ MISTAKE = f"""{BEFORE}\
     Error "*": unclosed delimiter
     Markup
       Text "this tree."
-  Space "\\n"
+      Space "\\n"
 """
 CLOSED = f"""{BEFORE}\
   Strong
@@ -718,7 +716,7 @@ HEADED_ANSWERS = [
 # The block that the edit is in, after the paragraph break.
 PARSED = range(9, 26)
 # The edit of examples/letter.typ: the line before which a line is inserted, that line, and the lines of the tree that it makes. Below is
-# how the block begins that the edit is in, and the block after it. The letter's tree was worked out by hand, too.
+# how the block begins that the edit is in, and the block after it. The letter's tree was worked out by the plain machine, and read.
 LETTER_EDIT = ("- All other", "- New nodes get numbers between those beside them.\n", """\
   ListItem
     ListMarker "-"
@@ -823,8 +821,7 @@ def main():
     wrong += differing_pages(program) + differing_typing(program) + differing_paste(program) + large_pages(program) + escaped(program)
     wrong += differing_parts(program) + dense_pages(program) + differing_lines(program)
     wrong += examples(program) + differing_remarks(program)
-    pairs = len(list(PAIRS.glob("*.typ")))
-    counts = f"{pairs} texts with their trees and edits, {views} trees with their answers, {len(WRONG)} wrong inputs"
+    counts = f"{len(TEXTS)} texts with their trees and edits, {views} trees with their answers, {len(WRONG)} wrong inputs"
     counts += f", {len(ASKED) + len(REFUSED) + len(EXPLAINED)} lists of words"
     print("\n".join([*wrong, f"{counts}, {len(wrong)} differences"]))
     return 1 if wrong else 0

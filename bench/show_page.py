@@ -195,20 +195,16 @@ def differing_leaves(step, root, has):
 
 
 def reported(root):
-    """The errors that a page tells, without hints: what is said, and the index of the node."""
-    found, nodes = [], [node for _, node in root.preorder()]
-    for line in shown.reports(root, ""):
-        if line.startswith("error: "):
-            found.append(["error", "", line[len("error: ") :]])
-        elif "--> " in line:
-            found[-1][1] = line.partition("--> :")[2]
-    rows = [at for at, node in enumerate(nodes) if node.message is not None]
-    return [(signed(" ".join(it)), row) for it, row in zip(found, rows)]
+    """The errors and warnings that a page tells: what is said with the hints, and the index of the node."""
+    text, rows = root.text(), {id(node): at for at, (_, node) in enumerate(root.preorder())}
+    for node, severity, message in shown.reported(root):
+        place = shown.pointed(text, "", node.start, node.end)[0].partition("--> :")[2]
+        yield signed(f"{severity} {place} {message}" + "".join(f"hint: {it}" for it in node.hints)), rows[id(node)]
 
 
 def differing_reports(step, root, number):
     """What differs in the reports and in what their links lead to."""
-    wanted = reported(root)
+    wanted = list(reported(root))
     got = [it["told"].rstrip("\n") for it in step["reports"]]
     wrong = [] if got == [told for told, _ in wanted] else [f"the reports {got}, and should have {wanted}"]
     nodes = [node for _, node in root.preorder()]
@@ -219,7 +215,8 @@ def differing_reports(step, root, number):
             wrong.append(f"the links {it['links']}, and should have {names}")
         elif step["leaves"] and len(step["lines"]) == len(nodes):
             places = [step["anchors"].get(name) for name in names]
-            wrong += [] if places == [leaves.index(nodes[row]), row] else [f"the links of row {row} lead to {places}"]
+            first = next(node for node in nodes[row:] if node.children is None)
+            wrong += [] if places == [leaves.index(first), row] else [f"the links of row {row} lead to {places}"]
     return wrong
 
 

@@ -13,16 +13,19 @@ NUMBERS = (2, 1 << 47)
 INNER_CHARS, ANSWER_CHARS, ANSWER_ENTRIES = 32, 60, 8
 # How many characters of a line are shown before a part, in it and after it.
 BEFORE, WITHIN, BEHIND = 60, 60, 40
+TOLD = re.compile(r" *(warning|hint): (.*)")
 CHARACTER = re.compile(r"\\u\{([0-9a-f]+)\}|\\(.)|(.)", re.S)
 ESCAPES = {"n": "\n", "r": "\r", "t": "\t", "0": "\0"}
 SHORT = {"\n": "\\n", "\r": "\\r", "\t": "\\t", "\0": "\\0", '"': '\\"', "\\": "\\\\"}
 
 
 class Node:
-    """A node with the characters of its own text, each as it is and as it is quoted. An inner node has a list of children."""
+    """A node with the characters of its own text, each as it is and as it is quoted. An inner node has a list of children.
+    A warning has the hints, or the error has them."""
 
     def __init__(self, kind, characters=None, children=None, message=None):
         self.kind, self.own, self.children, self.message = kind, characters, children, message
+        self.warning, self.hints = None, []
         self.number = self.upper = 0
         self.start = self.end = 0
         # What an edit did to the node: "new", "moved" to another number, or nothing.
@@ -55,7 +58,7 @@ class Node:
 
     def is_like(self, other):
         """Whether both are the same apart from their numbers."""
-        if (self.kind, self.own, self.message) != (other.kind, other.own, other.message):
+        if (self.kind, self.own, self.message, self.warning, self.hints) != (other.kind, other.own, other.message, other.warning, other.hints):
             return False
         return are_alike(self.children, other.children)
 
@@ -86,11 +89,17 @@ def is_printed(char):
 
 
 def tree_of(lines):
-    """The tree that lines of kinds and texts describe, two blanks a level."""
+    """The tree that lines of kinds and texts describe, two blanks a level. The warning and the hints of a node are below its line."""
     above = []
     for line in lines.splitlines():
+        if told := TOLD.match(line):
+            if told[1] == "hint":
+                above[-1].hints.append(told[2])
+            else:
+                above[-1].warning = told[2]
+            continue
         depth = (len(line) - len(line.lstrip(" "))) // 2
-        kind, _, rest = line.strip(" ").partition(" ")
+        kind, _, rest = line.lstrip(" ").partition(" ")
         # An error's text is in quotes, and its message comes after them.
         quoted = re.match(r'"((?:\\.|[^"\\])*)"(?:: (.*))?$', rest, re.S)
         node = Node(kind, unquoted(quoted[1]), message=quoted[2]) if quoted else Node(kind, children=[])
@@ -99,6 +108,11 @@ def tree_of(lines):
             above[-1].children.append(node)
         above.append(node)
     return above[0]
+
+
+def without_remarks(lines):
+    """Lines of kinds and texts without those of warnings and hints."""
+    return "".join(line for line in lines.splitlines(keepends=True) if not TOLD.match(line))
 
 
 def spread(node, low, high):
@@ -341,12 +355,20 @@ def pointed(text, file, start, end):
     ]
 
 
+def reported(root):
+    """The nodes with errors and then those with warnings, each with its severity and what is said."""
+    nodes = [node for _, node in root.preorder()]
+    errors = [(node, "error", node.message) for node in nodes if node.message is not None]
+    return errors + [(node, "warning", node.warning) for node in nodes if node.warning is not None]
+
+
 def reports(root, file):
-    """The errors of a tree without hints."""
-    lines = []
-    for _, node in root.preorder():
-        if node.message is not None:
-            lines += ["", f"error: {node.message}", *pointed(root.text(), file, node.start, node.end)]
+    """The errors and then the warnings of a tree, with their hints."""
+    lines, text = [], root.text()
+    for node, severity, message in reported(root):
+        found = pointed(text, file, node.start, node.end)
+        gutter = " " * found[1].index("|")
+        lines += ["", f"{severity}: {message}", *found, *(f"{gutter}= hint: {it}" for it in node.hints)]
     return lines
 
 
@@ -463,9 +485,9 @@ def answers_of(root, lines, form_of):
 
 
 def looks():
-    """Each tree of crates/typst_look that is asked for its views alone or first: its name, its lines, and the answers."""
-    given = (TOP / "crates/typst_look/stdin").read_bytes().decode(errors="surrogateescape").split("\n")
-    wanted = (TOP / "crates/typst_look/stdout").read_bytes().decode(errors="surrogateescape").split("\n")
+    """Each tree of crates/typst_run that is asked for its views alone or first: its name, its lines, and the answers."""
+    given = (TOP / "crates/typst_run/stdin").read_bytes().decode(errors="surrogateescape").split("\n")
+    wanted = (TOP / "crates/typst_run/stdout").read_bytes().decode(errors="surrogateescape").split("\n")
     answered, name = {}, None
     for line in wanted:
         if line.startswith("#"):

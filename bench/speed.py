@@ -138,10 +138,14 @@ def resized(_shape, size, rounds):
     return lengths + len(come)
 
 
+# Texts of the same piece again and again: how many bytes the beginning, the piece and the end have.
+REPEATS = {"stars": (0, 1, 0), "nested": (0, 2, 0), "round": (1, 1, 0), "square": (1, 1, 0), "curly": (1, 1, 0), "dollars": (0, 1, 0),
+           "minus": (2, 2, 0), "fields": (2, 2, 0), "calls": (1, 2, 0), "items": (0, 2, 0), "keys": (2, 9, 1)}
+
 def parsed(shape, size, rounds):
     """How many bytes the trees of a text have in all rounds."""
-    each = {"list": len(ITEM), "stars": 1, "nested": 2}
-    return rounds * {"": size // 4 * len(LINES), "block": size * len(LINE) + 2}.get(shape, size * each.get(shape, 0))
+    head, each, end = {"": (0, len(LINES) / 4, 0), "block": (1, len(LINE), 1), "list": (0, len(ITEM), 0), **REPEATS}[shape]
+    return rounds * int(head + size * each + end)
 
 
 def letter(shape, _size, rounds):
@@ -213,7 +217,9 @@ CHECKS = {
 
 @cache
 def wanted(line):
-    """The check sum of a line."""
+    """The check sum of a line, or `right` for calls on large input."""
+    if line.startswith("large "):
+        return "right"
     *operation, size, rounds = line.split()
     verb, shape = (*operation, "")[:2]
     return CHECKS[verb](shape, int(size), int(rounds))

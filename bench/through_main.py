@@ -1,5 +1,5 @@
 #!/usr/bin/env python3
-"""Runs scripts and looks through the programs' `main`, and compares standard output, standard error and the status.
+"""Runs scripts and looks through the `main` of crates/typst_run, and compares standard output, standard error and the status.
 
     bench/through_main.py [NAME ..]
 
@@ -9,9 +9,10 @@ takes the vectors of crates/typst_script_tests with these names, or else all of 
   text on standard error, and the status. (`rt ci` runs a script that succeeds.)
 - each example: `examples/NAME.script` by `./run`, and `examples/NAME.look` by `./look`, must print
   `examples/NAME.stdout`.
-- `typst_look` with several files: it takes them one by one, and ends with the first fault.
+- several scripts at once, and several looks: the program takes them one by one, and ends with the first fault.
+- words that ask neither for scripts nor for looks: they are refused.
 
-Only the proved builds count. `rt ci` makes them, and so does `rt run` in crates/typst_tree_main and crates/typst_look.
+Only the proved build counts. `rt ci` makes it, and so does `rt run` in crates/typst_run.
 """
 import subprocess
 import sys
@@ -21,8 +22,13 @@ from pathlib import Path
 TOP = Path(__file__).resolve().parent.parent
 VECTORS = TOP / "crates/typst_script_tests/vectors"
 EXAMPLES = TOP / "examples"
-LOOK = TOP / "crates/typst_look/out/typst_look"
+PROGRAM = TOP / "crates/typst_run/out/typst_run"
 FAILING = ["a_new_tree_isnt_numbered", "no_utf_8"]
+# For each task a file that fails in its second line, and what it prints.
+BAD = {"script": ("leaf 6 a\nroots\nroot\nshow\n", b""), "look": ("mark bad\nroot\nmark after\n", b"#bad\n#after\n")}
+# Words that ask for no task, and what the program says of them.
+NO_TASK = [], [""], ["scripts"], ["examples/text.look", "look"]
+REFUSED = b"write `script` or `look` first, and then the files to carry out, or none for standard input\n"
 # What ./run and ./look say in a line of their own, of the proved build and of any.
 PROVED, OWN = b"run: the proved build\n", b"run: "
 
@@ -64,27 +70,38 @@ def example(file):
     return differences(f"examples/{file.name}", starter, file, stdout=answer(file))
 
 
-def several(looks):
-    """What differs if `typst_look` gets all these files, with and without one that fails among them."""
+def ran(*words):
+    return subprocess.run([PROGRAM, *words], stdin=subprocess.DEVNULL, capture_output=True, check=False)
+
+
+def several(task):
+    """What differs if the program gets all examples of a task, and if it gets one that fails between two."""
+    files = sorted(EXAMPLES.glob(f"*.{task}"))
+    bad, printed = BAD[task]
     with tempfile.TemporaryDirectory() as room:
-        bad = Path(room, "bad.look")
-        bad.write_text("mark bad\nroot\nmark after\n")
-        whole = subprocess.run([LOOK, *looks], capture_output=True, check=False)
+        failing = Path(room, f"bad.{task}")
+        failing.write_text(bad)
+        whole = ran(task, *files)
         # The last file isn't taken: the one before it fails.
-        cut = subprocess.run([LOOK, looks[0], bad, looks[-1]], capture_output=True, check=False)
-    told = compared("typst_look, several files", whole, b"".join(answer(it) for it in looks))
-    fault = {"stdout": answer(looks[0]) + b"#bad\n#after\n", "stderr": b"line 2: bad command\n", "status": 2}
-    return told + compared("typst_look, a file that fails", cut, **fault)
+        cut = ran(task, files[0], failing, files[-1])
+    told = compared(f"several {task}s", whole, b"".join(answer(it) for it in files))
+    fault = {"stdout": answer(files[0]) + printed, "stderr": b"line 2: bad command\n", "status": 2}
+    return told + compared(f"a {task} that fails between two", cut, **fault)
+
+
+def refused(words):
+    return compared(f"the words {words}", ran(*words), stdout=b"", stderr=REFUSED, status=2)
 
 
 def main():
     if names := sys.argv[1:]:
         found = [vector(name) for name in names]
     else:
-        looks = sorted(EXAMPLES.glob("*.look"))
         found = [vector(name) for name in FAILING]
-        found += [example(it) for it in sorted(EXAMPLES.glob("*.script")) + looks]
-        found.append(several(looks))
+        for task in BAD:
+            found += [example(it) for it in sorted(EXAMPLES.glob(f"*.{task}"))]
+            found.append(several(task))
+        found += [refused(words) for words in NO_TASK]
     wrong = [line for lines in found for line in lines]
     print("\n".join([*wrong, f"{len(found)} runs through main, {len(wrong)} differences"]))
     return 1 if wrong else 0

@@ -126,9 +126,9 @@ def is_kept(place):
     yield from does(place, SHOW, 1, 7, FIRST, SHOWN)
     yield from [] if (place.kit / "ended").exists() else ["rt try isn't ended by a signal that it can act on"]
     yield from does(place, [*SHOW, "--views", "--edits=a b"], 0, 7, LATER, told("text.typ", "--views", "--edits=a b"))
-    yield from does(place, ["run"], 1, 7, FIRST.replace("typst_show", "typst_tree_main"), told())
-    yield from does(place, ["look", "-"], 1, 7, FIRST.replace("typst_show", "typst_look"), told())
-    yield from does(place, ["run", "text.typ"], 0, 7, LATER.replace("typst_show", "typst_tree_main"), "\n= A\n")
+    yield from does(place, ["run"], 1, 7, FIRST.replace("typst_show", "typst_run"), told("script"))
+    yield from does(place, ["look", "-"], 0, 7, LATER.replace("typst_show", "typst_run"), told("look"))
+    yield from does(place, ["run", "text.typ"], 0, 7, LATER.replace("typst_show", "typst_run"), "script\n= A\n")
 
 
 def follows_sources(place):

@@ -2,14 +2,14 @@
  * The syntax tree of Typst documents, from C.
  *
  * A session holds a stack of nodes that are being built, and at most one tree. The tree is either a numbered tree that was built on
- * the stack, or the tree of a document. A document is a text of markup that is edited as a text.
+ * the stack, or the tree of a document. A document is a text of Typst that is edited as a text.
  *
  * Most calls return a status. After any status other than TYPST_DONE the session holds what it held before the call, and the call has
  * written nothing to the memory that it was passed. There are two exceptions. With TYPST_SHORT_BUFFER a call writes the length that it
  * needs, and all that it returns beside the buffer. After `typst_new` without memory the session holds nothing.
  *
  * If several statuses fit, a call returns the first of them in its list. The two statuses of memory and size have no place in that
- * order: TYPST_NO_MEMORY comes as soon as memory is refused, and TYPST_TOO_LARGE as soon as a sum doesn't fit.
+ * order: TYPST_NO_MEMORY comes as soon as memory is refused, and TYPST_OVERFLOW as soon as a sum doesn't fit.
  *
  * What is proved of each call holds if the caller keeps the following rules. No call can test them:
  *
@@ -80,7 +80,7 @@ enum {
     /** The stack has too few nodes. */
     TYPST_SHORT_STACK = 5,
     /** The length of the text or the number of nodes would not fit in a `size_t`. */
-    TYPST_TOO_LARGE = 6,
+    TYPST_OVERFLOW = 6,
     /** The session holds no tree. */
     TYPST_NO_TREE = 7,
     /** The tree is the tree of a document, which is edited as a text. */
@@ -147,7 +147,7 @@ typedef struct typst_node_info {
 } typst_node_info;
 
 /** The most child indices in a path of a document. */
-#define TYPST_DOCUMENT_DEPTH 132
+#define TYPST_DOCUMENT_DEPTH 255
 
 /** Where a node was found. */
 typedef struct typst_place {
@@ -447,7 +447,7 @@ TYPST_NODISCARD typst_status typst_push_copy(typst_session *session, const size_
 /**
  * Replaces the last `count` nodes of the stack by an inner node. They become its children, in the same order. The call takes time
  * in proportion to all nodes of their trees.
- * @return TYPST_DONE, TYPST_NOT_MADE, TYPST_BAD_KIND, TYPST_SHORT_STACK, TYPST_TOO_LARGE or TYPST_NO_MEMORY.
+ * @return TYPST_DONE, TYPST_NOT_MADE, TYPST_BAD_KIND, TYPST_SHORT_STACK, TYPST_OVERFLOW or TYPST_NO_MEMORY.
  */
 TYPST_NODISCARD typst_status typst_wrap(typst_session *session, uint32_t kind, size_t count);
 
@@ -510,27 +510,27 @@ TYPST_NODISCARD typst_status typst_take_tree(typst_session *session);
  * `typst_reconcile`, which makes the same edit, it can.
  * @param window receives the range of children that were numbered anew.
  * @return TYPST_DONE, TYPST_NOT_MADE, TYPST_NO_TREE, TYPST_IS_DOCUMENT, TYPST_SHORT_STACK, TYPST_NO_NODE, TYPST_IS_LEAF,
- *     TYPST_BAD_RANGE, TYPST_TOO_LARGE, TYPST_UNNUMBERABLE or TYPST_NO_MEMORY.
+ *     TYPST_BAD_RANGE, TYPST_OVERFLOW, TYPST_UNNUMBERABLE or TYPST_NO_MEMORY.
  */
 TYPST_NODISCARD typst_status typst_replace(typst_session *session, const size_t *path, size_t depth, size_t from, size_t to,
                                            size_t count, typst_window *window);
 
 /**
- * Makes the same edit as `typst_replace`, as far down in the tree as it can, so that the nodes that go on keep their numbers. While all
+ * Makes the same edit as `typst_replace`, as far down in the tree as it can, so that the nodes that go on can be followed. While all
  * that changes is below one child, and that child and its new node are inner nodes of one kind with the same warnings, the child stays,
  * and its children are replaced instead. If a single leaf or error then changes into another one of its kind, it keeps its number.
  * `typst_follow` then says what became of each number.
  * @param change receives where children were replaced, and which were numbered anew.
  * @return TYPST_DONE, TYPST_NOT_MADE, TYPST_NO_TREE, TYPST_IS_DOCUMENT, TYPST_SHORT_STACK, TYPST_NO_NODE, TYPST_IS_LEAF,
- *     TYPST_BAD_RANGE, TYPST_TOO_LARGE, TYPST_UNNUMBERABLE or TYPST_NO_MEMORY.
+ *     TYPST_BAD_RANGE, TYPST_OVERFLOW, TYPST_UNNUMBERABLE or TYPST_NO_MEMORY.
  */
 TYPST_NODISCARD typst_status typst_reconcile(typst_session *session, const size_t *path, size_t depth, size_t from,
                                              size_t to, size_t count, typst_change *change);
 
 /**
- * Removes the last node of the stack, and puts it in place of the whole tree. The nodes that go on keep their numbers, as after
+ * Removes the last node of the stack, and puts it in place of the whole tree. The nodes that go on can be followed, as after
  * `typst_reconcile` of all children of the root. So a parser that makes the whole tree anew after each edit of its text gets numbers
- * that can be kept. If the two roots differ in their kinds or warnings, or the old root has too few numbers for all nodes, then no
+ * that can be followed. What stands between two changed siblings is gone, so update once for each place that changed. If the two roots differ in their kinds or warnings, or the old root has too few numbers for all nodes, then no
  * node goes on, and the new tree is numbered in TYPST_FIRST_NUMBER .. TYPST_END_NUMBER.
  * @param change receives where children were replaced, and which were numbered anew, or that the root itself was changed.
  * @return TYPST_DONE, TYPST_NOT_MADE, TYPST_NO_TREE, TYPST_IS_DOCUMENT, TYPST_SHORT_STACK, TYPST_UNNUMBERABLE or TYPST_NO_MEMORY.
@@ -739,19 +739,19 @@ TYPST_NODISCARD typst_status typst_neighbor(const typst_session *session, const 
 /** @{ */
 
 /**
- * Parses a text of markup, numbers its tree for a file, and holds both. It frees the tree or document that was held before. The
+ * Parses a text of Typst, numbers its tree for a file, and holds both. It frees the tree or document that was held before. The
  * stack stays as it is.
  * @param file the number of a file: any but 0. No call returns it.
- * @return TYPST_DONE, TYPST_NOT_MADE, TYPST_BAD_FILE, TYPST_BAD_TEXT, TYPST_TOO_LARGE, TYPST_UNNUMBERABLE or TYPST_NO_MEMORY.
+ * @return TYPST_DONE, TYPST_NOT_MADE, TYPST_BAD_FILE, TYPST_BAD_TEXT, TYPST_OVERFLOW, TYPST_UNNUMBERABLE or TYPST_NO_MEMORY.
  */
 TYPST_NODISCARD typst_status typst_open(typst_session *session, uint16_t file, const char *text, size_t text_len);
 
 /**
  * Replaces the bytes `from .. to` of the document's text by a text, and parses anew only the blocks that this can touch. The block before
  * them is one of these if the parser had read the bytes that go, or at the place where others come.
- * The nodes that go on keep their numbers, as after `typst_reconcile`, and `typst_follow` says what became of each number.
+ * The nodes that go on can be followed, as after `typst_reconcile`: `typst_follow` says what became of each number.
  * @param edited receives which bytes were parsed, and which nodes were numbered anew.
- * @return TYPST_DONE, TYPST_NOT_MADE, TYPST_NO_DOCUMENT, TYPST_BAD_TEXT, TYPST_BAD_RANGE, TYPST_TOO_LARGE, TYPST_UNNUMBERABLE or
+ * @return TYPST_DONE, TYPST_NOT_MADE, TYPST_NO_DOCUMENT, TYPST_BAD_TEXT, TYPST_BAD_RANGE, TYPST_OVERFLOW, TYPST_UNNUMBERABLE or
  *     TYPST_NO_MEMORY.
  */
 TYPST_NODISCARD typst_status typst_edit(typst_session *session, size_t from, size_t to, const char *with, size_t with_len,
@@ -875,7 +875,7 @@ static inline const char *typst_status_text(typst_status status)
     case TYPST_BAD_KIND: return "no leaf or inner node can have this kind";
     case TYPST_BAD_TEXT: return "the text isn't UTF-8";
     case TYPST_SHORT_STACK: return "the stack has too few nodes";
-    case TYPST_TOO_LARGE: return "the tree is too large";
+    case TYPST_OVERFLOW: return "the tree is too large";
     case TYPST_NO_TREE: return "there is no tree";
     case TYPST_IS_DOCUMENT: return "the tree belongs to a document, which is edited as a text";
     case TYPST_NO_DOCUMENT: return "there is no document";

@@ -12,7 +12,7 @@
 #include <stdlib.h>
 #include <string.h>
 
-enum { STACK = 12, LARGEST = 120, DEPTH = 64, TEXT = 4096, REMARKS = 2000, NODES = 4000, CALLS = 38, STATUSES = 23 };
+enum { STACK = 12, LARGEST = 120, DEPTH = TYPST_DOCUMENT_DEPTH + 1, TEXT = 4096, REMARKS = 2000, NODES = 4000, CALLS = 38, STATUSES = 23 };
 
 static uint64_t seed = 88172645463325252u;
 
@@ -130,12 +130,13 @@ static size_t draw_path(size_t *path)
     return depth;
 }
 
-/* Draws a text, mostly of markup. */
+/* Draws a text of markup, code and equations, mostly with errors. */
 static size_t draw_text(char *text)
 {
     static const char *const parts[] = {"a", "word", "*", "_", "`", "```", "= ", "- ", "\n", "\n\n", "@ref", "\\", "#", " ", "//x", "/*",
                                         "*/", "\xc3\xa9", "\xe2\x82\xac", "\xf0\x9f\x97\xba", "\r", "\r\n", "\f", "\xc2\x85",
-                                        "\xe2\x80\xa8"};
+                                        "\xe2\x80\xa8", "#let x = ", "#if a ", "else ", "#f(", "(", ")", "[", "]", "{", "}", "$", "^",
+                                        ", ", ": ", "..", "1", "\""};
     size_t len = 0;
     for (size_t many = draw(7); many; many--) {
         const char *part = parts[draw(sizeof parts / sizeof *parts)];

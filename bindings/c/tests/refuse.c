@@ -196,23 +196,24 @@ static void view(typst_session *session, long refused)
 static void document(typst_session *session, long refused)
 {
     static const char more[] = "1\n2\n3\n4\n5\n6\n7\n8\n";
-    static const char markup[] = "= Heading\n\nSome *strong* and _emphasized_ text.\n\n- An item\n\nThe last paragraph.";
+    static const char source[] = "= Heading\n\nSome *strong* and _emphasized_ text.\n\n- An item\n\n#let f(x, ..y) = (a: [b], x)\n\n"
+                                 "$ (a + b) / c^2 $\n\nThe last paragraph.";
     size_t path[1] = {0}, count = 0, byte = 0;
     typst_edited edited;
     typst_length length;
     char text[4096];
 
-    DO(typst_open(session, 1, markup, sizeof markup - 1));
+    DO(typst_open(session, 1, source, sizeof source - 1));
     DO(typst_edit(session, 16, 16, "very ", 5, &edited));
     DO(typst_edit(session, 0, 2, "", 0, &edited));
     DO(typst_full_text(session, path, 0, text, sizeof text, &length));
-    check(length.len == sizeof markup - 1 + 3 && memcmp(text, "Heading\n\nSome very *strong*", 27) == 0, "the document has another text", refused);
+    check(length.len == sizeof source - 1 + 3 && memcmp(text, "Heading\n\nSome very *strong*", 27) == 0, "the document has another text", refused);
     DO(typst_edit(session, 8, 8, more, sizeof more - 1, &edited));
     DO(typst_len_lines(session, &count));
-    check(count == 15, "the document has another number of lines", refused);
+    check(count == 19, "the document has another number of lines", refused);
     DO(typst_set_line_ends(session, TYPST_LINE_ENDS_EDITOR));
     DO(typst_len_lines(session, &count));
-    check(count == 15, "the document has another number of lines of an editor", refused);
+    check(count == 19, "the document has another number of lines of an editor", refused);
     DO(typst_line_column_to_byte(session, 10, 5, TYPST_UTF16, &byte));
     check(byte == 8 + (sizeof more - 1) + 6, "a place is at another byte", refused);
 }

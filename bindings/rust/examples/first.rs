@@ -12,7 +12,7 @@ fn main() -> Result<(), Error> {
 
     // The span is followed over the edit, and leads to the heading, wherever it is now.
     let heading = done.follow(heading).ok_or(Error::NotFound)?;
-    let bytes = source.find(heading)?.ok_or(Error::NotFound)?.range()?;
+    let bytes = source.range(heading)?.ok_or(Error::NotFound)?;
     let at = source.byte_to_line_column(bytes.start, ColumnUnit::Character);
     let line = at.ok_or(Error::NoPlace)?.line + 1;
     println!("the heading is in line {line}, bytes {bytes:?}");

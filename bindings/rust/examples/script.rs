@@ -96,7 +96,7 @@ impl From<Error> for Fault {
     fn from(error: Error) -> Fault {
         match error {
             Error::Memory => Fault::Memory,
-            Error::Size => Fault::Overflow,
+            Error::Overflow => Fault::Overflow,
             _ => Fault::BadCommand,
         }
     }
@@ -301,7 +301,7 @@ fn replace(tree: &mut Tree, at: &[usize], range: Range<usize>, made: &[Made]) ->
             done.window.start, done.window.end, done.tried
         ),
         Err(Error::Unnumberable) => "refused".to_string(),
-        Err(Error::Size) => "overflow".to_string(),
+        Err(Error::Overflow) => "overflow".to_string(),
         Err(Error::Memory) => "no memory".to_string(),
         Err(_) => "misfit".to_string(),
     }

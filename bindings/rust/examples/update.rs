@@ -1,5 +1,5 @@
 //! A parser of one's own, which isn't incremental: it makes the whole tree anew after each edit of the text. One call puts
-//! the new tree in place of the old one, and the nodes that go on keep their spans.
+//! the new tree in place of the old one, and the nodes that go on can be followed.
 use std::iter::Peekable;
 use std::str::Chars;
 use typst_tree::{Builder, Error, FileId, Span, SyntaxKind, Tree};

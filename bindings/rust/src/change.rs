@@ -19,7 +19,8 @@ pub enum Touched {
         /// Its index among the children there.
         index: usize,
     },
-    /// Children of a node were replaced, and some were numbered anew.
+    /// Children of a node were replaced, and some were numbered anew: none if no child was replaced, also where nothing
+    /// changed at all.
     Children {
         /// How many child indices lead to that node.
         depth: usize,
@@ -49,7 +50,7 @@ impl Touched {
     }
 }
 
-/// What an edit of a tree changed. It borrows the tree, so no other edit comes in between.
+/// What an edit of a tree changed. It borrows the tree: follow all spans first, and read or edit the tree then.
 #[derive(Clone)]
 pub struct Change<'t> {
     /// What was changed.

@@ -13,7 +13,7 @@ pub enum Error {
     /// There are fewer nodes than the call is to wrap, or there is none to number.
     Stack,
     /// The length of the text or the number of nodes would not fit in a usize.
-    Size,
+    Overflow,
     /// The range of numbers doesn't lie within `Span::FULL`.
     Numbers,
     /// There are fewer numbers than nodes.
@@ -41,7 +41,7 @@ impl Error {
             2 => Error::Memory,
             3 => Error::Kind,
             5 => Error::Stack,
-            6 => Error::Size,
+            6 => Error::Overflow,
             11 => Error::Numbers,
             12 => Error::Unnumberable,
             13 => Error::NoNode,
@@ -61,7 +61,7 @@ impl fmt::Display for Error {
             Error::Memory => "out of memory",
             Error::Kind => "no leaf or inner node can have this kind",
             Error::Stack => "there are too few nodes",
-            Error::Size => "the tree is too large",
+            Error::Overflow => "the tree is too large",
             Error::Numbers => "the numbers must lie in 2..2^47",
             Error::Unnumberable => "there are fewer numbers than nodes",
             Error::NoNode => "the path leads to no node",

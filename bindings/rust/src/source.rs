@@ -11,7 +11,7 @@ use std::cell::OnceCell;
 use std::fmt;
 use std::ops::Range;
 
-/// A text of markup with its tree. The tree is always the one that parsing the whole text makes.
+/// A text of Typst with its tree. The tree is always the one that parsing the whole text makes.
 pub struct Source {
     handle: Handle,
     // A copy of the text, once it was asked for.

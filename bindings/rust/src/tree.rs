@@ -273,9 +273,10 @@ impl Tree {
         Ok(Change::new(&self.handle, &told))
     }
 
-    /// Puts the last node of a builder in place of the whole tree. The nodes that go on keep their spans, as after
-    /// [`Tree::reconcile`] of all children of the root. So a parser that makes a whole tree anew after each edit of its
-    /// text gets spans that can be kept. If the roots differ in their kinds or warnings, or if the old root has too few
+    /// Puts the last node of a builder in place of the whole tree. The nodes before it on the stack are dropped. The nodes
+    /// that go on can be followed, as after [`Tree::reconcile`] of all children of the root. So a parser that makes a whole
+    /// tree anew after each edit of its text gets spans that can be followed. What stands between two changed siblings is
+    /// gone, so update once for each place that changed. If the roots differ in their kinds or warnings, or if the old root has too few
     /// numbers for all nodes, no node goes on. After an error the tree is as it was, and the builder is gone.
     pub fn update(&mut self, mut builder: Builder) -> Result<Change<'_>, Error> {
         builder.handle.send(&mut self.handle)?;

@@ -1,5 +1,8 @@
 //! Tests of texts that are edited.
-use typst_tree::{ColumnUnit, Error, FileId, LineColumn, LineEnds, Side, Source, Span, SyntaxKind, Touched};
+use typst_tree::{
+    Accessor, Answer, ColumnUnit, Error, FileId, LineColumn, LineEnds, NodeClass, Severity, Side, Source, Span,
+    SyntaxKind, Touched,
+};
 
 fn opened(text: &str) -> Result<Source, Error> {
     Source::new(FileId::MIN, text)
@@ -170,6 +173,89 @@ fn the_smallest_node_that_covers_bytes_is_found() -> Result<(), Error> {
     assert_eq!(cover(6..9)?, Some((SyntaxKind::Strong, vec![0, 2, 2])));
     assert_eq!(cover(0..3)?, Some((SyntaxKind::Heading, vec![0])));
     assert_eq!(cover(0..12)?, None);
+    Ok(())
+}
+
+#[test]
+fn code_and_equations_are_read_by_views() -> Result<(), Error> {
+    let mut source = opened("#let name = \"a\"\n$x^2$\n")?;
+    let binding = source
+        .root()
+        .child_of(NodeClass::Of(SyntaxKind::LetBinding), 0)
+        .unwrap();
+    let name = binding.view_node(Accessor::LetBindingKind, 0)?.unwrap();
+    assert_eq!((name.kind(), name.text()?), (SyntaxKind::Ident, "name".into()));
+    let kept = binding.span();
+    let edited = source.edit(13..14, "b\\u{41}")?;
+    assert_eq!((edited.reparsed.clone(), edited.follow(kept)), (0..22, Some(kept)));
+    let value = source
+        .find(kept)?
+        .unwrap()
+        .view_node(Accessor::LetBindingInit, 0)?
+        .unwrap();
+    assert_eq!(value.view(Accessor::StrGet)?, Some(Answer::Text("bA".into())));
+    let equation = source.root().child_of(NodeClass::Of(SyntaxKind::Equation), 0).unwrap();
+    let power = equation
+        .view_node(Accessor::EquationBody, 0)?
+        .unwrap()
+        .child(0)
+        .unwrap();
+    let top = power.view_node(Accessor::MathAttachTop, 0)?.unwrap();
+    assert_eq!((power.kind(), top.text()?), (SyntaxKind::MathAttach, "2".into()));
+    source.edit(10..11, "")?;
+    let told = source.diagnostics()?;
+    assert_eq!(told.len(), 1);
+    assert_eq!(
+        (told[0].message.as_str(), told[0].range.clone()),
+        ("expected semicolon or line break", 9..9)
+    );
+    Ok(())
+}
+
+#[test]
+fn errors_and_warnings_are_told_with_their_hints() -> Result<(), Error> {
+    let source = opened("#{a & b}\n**\n")?;
+    let told = source.diagnostics()?;
+    let hints: Vec<_> = told
+        .iter()
+        .flat_map(|told| &told.hints)
+        .map(|hint| hint.text.as_str())
+        .collect();
+    assert_eq!(
+        (
+            told.len(),
+            &told[0].severity,
+            told[0].range.clone(),
+            told[0].message.as_str()
+        ),
+        (2, &Severity::Error, 4..5, "the character `&` is not valid in code")
+    );
+    assert_eq!(
+        (&told[1].severity, told[1].range.clone(), told[1].message.as_str()),
+        (&Severity::Warning, 9..11, "no text within stars")
+    );
+    assert_eq!(
+        hints,
+        [
+            "in Typst, `and` is used for logical AND",
+            "using multiple consecutive stars (e.g. **) has no additional effect"
+        ]
+    );
+    Ok(())
+}
+
+#[test]
+fn no_text_makes_a_deep_tree() -> Result<(), Error> {
+    for text in [
+        "#a".to_owned() + &".b".repeat(1000),
+        "#[".repeat(1000),
+        "- ".repeat(1000),
+    ] {
+        let source = opened(&text)?;
+        let depth = source.root().preorder().map(|node| node.path().len()).max();
+        assert!(depth.is_some_and(|depth| depth <= 255));
+        assert_eq!(source.text(), text);
+    }
     Ok(())
 }
 

@@ -1,4 +1,4 @@
-//! Compares the accessors of typed views with what `crates/typst_look/stdout` wants of the trees of its `stdin`, which
+//! Compares the accessors of typed views with what `crates/typst_run/stdout` wants of the trees of its `stdin`, which
 //! are the answers of the Rust crate.
 use std::collections::HashMap;
 use std::fs;
@@ -386,7 +386,7 @@ fn compare(tree: &Tree, wanted: &[&str]) -> Result<usize, Error> {
 
 #[test]
 fn accessors_answer_what_the_rust_crate_answers() -> Result<(), Error> {
-    let folder = concat!(env!("CARGO_MANIFEST_DIR"), "/../../crates/typst_look");
+    let folder = concat!(env!("CARGO_MANIFEST_DIR"), "/../../crates/typst_run");
     let read = |name| fs::read_to_string(format!("{folder}/{name}")).expect("the look and its answers are there");
     let (look, wanted) = (read("stdin"), read("stdout"));
     let (asked, answers) = (

@@ -5,14 +5,14 @@
 use anyhow::{Context, Result, bail};
 use std::alloc::{AllocError, Global};
 use std::ops::Range;
-use typst_markup::Markup;
+use typst_language::Typst;
 use typst_source::{Edited, Source};
 use typst_tree::{FileId, Renumbered, SyntaxNode, Touched, node_at};
 
 /// Makes the edits of a text, and prints what each did, and then the text.
 pub(crate) fn make_edits(rt: &HostRuntime, text: &str, edits: &str) -> Result<()> {
     let alloc = rt.alloc();
-    let mut source = Source::new(alloc, FileId::FIRST, text, Markup)?;
+    let mut source = Source::new(alloc, FileId::FIRST, text, Typst)?;
     for line in edits.lines() {
         let done = edit(alloc, &mut source, line)?;
         rt.println(told(alloc, &source, &done)?)?;
@@ -61,7 +61,7 @@ fn count(nodes: &[SyntaxNode]) -> usize {
 }
 
 /// What an edit did, in words.
-fn told(alloc: Global, source: &Source<Markup>, done: &Edited) -> Result<String, AllocError> {
+fn told(alloc: Global, source: &Source<Typst>, done: &Edited) -> Result<String, AllocError> {
     let Range { start, end } = done.reparsed;
     let (bytes, all) = (source.text().len(), source.root().descendants());
     let mut said = format!(in alloc; "parsed {start}..{end} of {bytes} bytes; ")?;
@@ -87,7 +87,7 @@ fn told(alloc: Global, source: &Source<Markup>, done: &Edited) -> Result<String,
 }
 
 /// Does the edit that a line writes.
-fn edit(alloc: Global, source: &mut Source<Markup>, line: &str) -> Result<Edited> {
+fn edit(alloc: Global, source: &mut Source<Typst>, line: &str) -> Result<Edited> {
     let (word, quoted) = line
         .split_once(' ')
         .context("an edit is written A..B \"text\"")?;

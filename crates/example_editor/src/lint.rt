@@ -2,8 +2,8 @@
 ghost use Rattle.typst_lines.specs.LineTable.{AreLines};
 
 use anyhow::{Context, Result};
+use typst_language::Typst;
 use typst_lines::{ColumnUnit, Lines};
-use typst_markup::Markup;
 use typst_source::Source;
 use typst_tree::FileId;
 
@@ -11,7 +11,7 @@ use typst_tree::FileId;
 pub(crate) fn print_errors(rt: &HostRuntime, text: String) -> Result<()> {
     let alloc = rt.alloc();
     let lines = Lines::new(alloc, &text)?;
-    let source = Source::new(alloc, FileId::FIRST, &text, Markup)?;
+    let source = Source::new(alloc, FileId::FIRST, &text, Typst)?;
     let (errors, warnings) = source.root().errors_and_warnings(alloc)?;
     for found in errors.iter().chain(warnings.iter()) {
         let bytes = source.place_of(&found.span).context("no place")?;

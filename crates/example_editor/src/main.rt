@@ -1,4 +1,4 @@
-//! Does what an editor does with documents of markup, one command after the other:
+//! Does what an editor does with documents, one command after the other:
 //!
 //! - `edit TEXT EDITS` edits a text, and tells what each edit did to its tree;
 //! - `outline TEXT` prints the headings of a text;

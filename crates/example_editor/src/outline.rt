@@ -3,7 +3,7 @@ ghost use Rattle.std.specs.Prelude.{◌≡◌, ◌++◌, OnOk, string_bytes, cod
 
 use anyhow::Result;
 use std::alloc::{AllocError, Global};
-use typst_markup::Markup;
+use typst_language::Typst;
 use typst_source::Source;
 use typst_tree::ast::{AstNode, Heading};
 use typst_tree::{FileId, LinkedNode, SyntaxNode};
@@ -11,7 +11,7 @@ use typst_tree::{FileId, LinkedNode, SyntaxNode};
 /// Prints the headings of a text.
 pub(crate) fn print_outline(rt: &HostRuntime, text: &str) -> Result<()> {
     let alloc = rt.alloc();
-    let source = Source::new(alloc, FileId::FIRST, text, Markup)?;
+    let source = Source::new(alloc, FileId::FIRST, text, Typst)?;
     rt.print(outline(alloc, source.root())?)?;
     Ok(())
 }

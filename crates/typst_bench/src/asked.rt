@@ -11,7 +11,7 @@ pub struct Asked<'a> {
     pub verb: &'a str,
     /// The shape of what the operation works on. It is empty if the verb implies it.
     pub shape: &'a str,
-    /// The size of what it works on, in leaves, paragraphs, levels or lines.
+    /// The size of what it works on, such as its number of leaves, paragraphs, levels or lines.
     pub size: usize,
     /// How often the operation is done.
     pub rounds: usize,

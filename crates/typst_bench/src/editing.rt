@@ -1,11 +1,11 @@
 //! Edits of numbered trees.
 use crate::asked::Asked;
 use crate::drawn::place;
-use crate::shapes::{PARAGRAPHS, chain, tree};
+use crate::shapes::{PARAGRAPHS, chain, numbered, tree};
 use crate::stopwatch::Stopwatch;
 use anyhow::{Context, Result};
 use std::alloc::Global;
-use typst_tree::{FileId, NumberedTree, Span, SyntaxKind, SyntaxNode, node_at};
+use typst_tree::{NumberedTree, SyntaxKind, SyntaxNode, node_at};
 
 /// Edits a tree in each round. Returns the sum of the tree's lengths after each edit, plus one for each letter `c` that
 /// the tree has at the end. Only text from edits has this letter, once in each edit.
@@ -13,9 +13,7 @@ pub fn made(alloc: Global, watch: &mut Stopwatch<'_>, asked: Asked<'_>) -> Resul
     let Some(root) = tree(alloc, asked.shape, asked.size)? else {
         return Ok(None);
     };
-    let mut tree = NumberedTree::number(root, FileId::FIRST, Span::FULL)
-        .ok()
-        .context("there are numbers enough")?;
+    let mut tree = numbered(root)?;
     watch.start()?;
     let Some(lengths) = edited(alloc, &mut tree, asked)? else {
         return Ok(None);

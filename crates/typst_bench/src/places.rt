@@ -8,8 +8,8 @@ use crate::texts::text;
 use anyhow::{Context, Result, ensure};
 use std::alloc::Global;
 use std::ops::Range;
+use typst_language::Typst;
 use typst_lines::{ColumnUnit, Lines};
-use typst_markup::Markup;
 use typst_source::Source;
 use typst_tree::{DiagSpan, FileId, LinkedNode};
 
@@ -57,7 +57,7 @@ fn bytes_of(lines: &Lines, text: &str, rounds: usize) -> Result<usize>
 
 /// Asks for the places of nodes that are spread over the tree, which must be those of a walk over it.
 fn placed(alloc: Global, watch: &mut Stopwatch<'_>, text: &str, rounds: usize) -> Result<usize> {
-    let source = Source::new(alloc, FileId::FIRST, text, Markup)?;
+    let source = Source::new(alloc, FileId::FIRST, text, Typst)?;
     let nodes = nodes(alloc, &source)?;
     watch.start()?;
     for round in 0..rounds {
@@ -74,7 +74,7 @@ fn placed(alloc: Global, watch: &mut Stopwatch<'_>, text: &str, rounds: usize) -
 }
 
 /// The spans and the ranges of all nodes.
-fn nodes(alloc: Global, source: &Source<Markup>) -> Result<Vec<(DiagSpan, Range<usize>)>> {
+fn nodes(alloc: Global, source: &Source<Typst>) -> Result<Vec<(DiagSpan, Range<usize>)>> {
     let mut all = Vec::new(alloc);
     for node in LinkedNode::new(source.root()).preorder(alloc)? {
         let node = node?;

@@ -1,7 +1,7 @@
 //! The trees on which operations are measured.
-use anyhow::{Result, ensure};
+use anyhow::{Context, Result, ensure};
 use std::alloc::Global;
-use typst_tree::{SyntaxKind, SyntaxNode};
+use typst_tree::{FileId, NumberedTree, Span, SyntaxKind, SyntaxNode};
 
 /// How many paragraphs a section has.
 pub const PARAGRAPHS: usize = 50;
@@ -89,6 +89,13 @@ pub fn tree(alloc: Global, shape: &str, size: usize) -> Result<Option<SyntaxNode
     Ok(Some(made?))
 }
 
+/// The tree with numbers. There are enough of them for each tree that fits the memory.
+pub fn numbered(root: SyntaxNode) -> Result<NumberedTree> {
+    NumberedTree::number(root, FileId::FIRST, Span::FULL)
+        .ok()
+        .context("there are numbers enough")
+}
+
 /// Makes leaves after those that are there.
 fn push_leaves(
     alloc: Global,
@@ -118,7 +125,8 @@ pub fn row(alloc: Global, kind: SyntaxKind, leaves: &[Leaf], size: usize) -> Res
     Ok(SyntaxNode::inner(alloc, kind, nodes)?)
 }
 
-fn wide(alloc: Global, size: usize) -> Result<SyntaxNode> {
+/// A node of `size` leaves `ab`.
+pub fn wide(alloc: Global, size: usize) -> Result<SyntaxNode> {
     row(alloc, SyntaxKind::Markup, &[TEXT], size)
 }
 
@@ -149,7 +157,16 @@ fn errors(alloc: Global, size: usize) -> Result<SyntaxNode> {
 
 /// A chain of `size` nodes, each in the one before, with a leaf in the last.
 pub fn chain(alloc: Global, size: usize, text: &str) -> Result<SyntaxNode> {
-    let mut node = SyntaxNode::leaf(alloc, SyntaxKind::Text, text)?;
+    chain_over(
+        alloc,
+        SyntaxNode::leaf(alloc, SyntaxKind::Text, text)?,
+        size,
+    )
+}
+
+/// A chain of `size` nodes, each in the one before, with this node in the last.
+pub fn chain_over(alloc: Global, last: SyntaxNode, size: usize) -> Result<SyntaxNode> {
+    let mut node = last;
     for _ in 0..size {
         node = markup(alloc, vec![in alloc; node]?)?;
     }

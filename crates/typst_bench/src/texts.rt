@@ -1,10 +1,11 @@
 //! Texts of markup, with their trees and their edits.
 use crate::asked::Asked;
+use crate::repeats::{repeated, text_of};
 use crate::stopwatch::Stopwatch;
 use anyhow::{Result, ensure};
 use std::alloc::{AllocError, Global};
 use std::ops::Range;
-use typst_markup::Markup;
+use typst_language::Typst;
 use typst_source::Source;
 use typst_tree::FileId;
 
@@ -35,28 +36,15 @@ const ITEM: &str = "- an item with `raw text`\n";
 
 const ITEM_LETTER: usize = 12;
 
-/// A text with the same line so often.
-fn lines_of(alloc: Global, line: &str, lines: usize) -> Result<String, AllocError> {
-    let mut text = String::new(alloc);
-    for _ in 0..lines {
-        text.push_str(line)?;
-    }
-    Ok(text)
-}
-
 /// One block with this many lines: emphasized content.
 fn block(alloc: Global, lines: usize) -> Result<String, AllocError> {
-    let inside = lines_of(alloc, LINE, lines)?;
-    format!(in alloc; "_{inside}_")
+    let inside = repeated(alloc, "_", LINE, lines)?;
+    format!(in alloc; "{inside}_")
 }
 
 /// A text with this many lines.
 pub fn text(alloc: Global, lines: usize) -> Result<String, AllocError> {
-    let mut text = String::new(alloc);
-    for _ in 0..lines / LINES {
-        text.push_str(PARAGRAPH)?;
-    }
-    Ok(text)
+    repeated(alloc, "", PARAGRAPH, lines / LINES)
 }
 
 /// Where the paragraph in the middle of such a text begins, in bytes.
@@ -86,17 +74,17 @@ pub fn typed(verb: &str) -> Option<Edit> {
 }
 
 /// Parses a text or edits it in each round. Returns how many bytes were parsed in all. The shape `block` is a text of one
-/// block, and `list` is one of items without a blank line. `stars` and `nested` have only delimiters. With the shape
-/// `far` the edits are made in turns in the first paragraph and in the last one.
+/// block, `list` is one of items without a blank line, and `repeats.rt` has further ones. With the shape `far` the edits
+/// are made in turns in the first paragraph and in the last one.
 pub fn made(alloc: Global, watch: &mut Stopwatch<'_>, asked: Asked<'_>) -> Result<Option<usize>> {
     let text = match asked.shape {
-        "block" => block(alloc, asked.size),
-        "list" => lines_of(alloc, ITEM, asked.size),
-        "stars" => lines_of(alloc, "*", asked.size),
-        "nested" => lines_of(alloc, "_*", asked.size),
-        _ => text(alloc, asked.size),
+        "block" => block(alloc, asked.size)?,
+        "list" => repeated(alloc, "", ITEM, asked.size)?,
+        name => match text_of(alloc, name, asked.size)? {
+            Some(text) => text,
+            None => text(alloc, asked.size)?,
+        },
     };
-    let text = text?;
     let seen = match typed(asked.verb) {
         Some(edit) => edited(alloc, watch, &text, edit, asked),
         None => parsed(alloc, watch, &text, asked.rounds),
@@ -128,7 +116,7 @@ fn edited(
     edit: Edit,
     asked: Asked<'_>,
 ) -> Result<usize> {
-    let mut source = Source::new(alloc, FileId::FIRST, text, Markup)?;
+    let mut source = Source::new(alloc, FileId::FIRST, text, Typst)?;
     let mut seen = 0usize;
     watch.start()?;
     for turn in 0..asked.rounds {
@@ -141,7 +129,7 @@ fn edited(
 }
 
 /// Makes an edit at a byte and takes it back, and returns how many bytes were parsed anew.
-fn round(alloc: Global, source: &mut Source<Markup>, at: usize, edit: Edit) -> Result<usize> {
+fn round(alloc: Global, source: &mut Source<Typst>, at: usize, edit: Edit) -> Result<usize> {
     let come = put(alloc, source, at..at, edit.with)?;
     let gone = put(alloc, source, at..at.saturating_add(edit.with.len()), "")?;
     Ok(come.saturating_add(gone))
@@ -151,10 +139,10 @@ fn round(alloc: Global, source: &mut Source<Markup>, at: usize, edit: Edit) -> R
 /// memory that the process hasn't had before, so it is neither timed nor counted.
 fn parsed(alloc: Global, watch: &mut Stopwatch<'_>, text: &str, rounds: usize) -> Result<usize> {
     let mut seen = 0usize;
-    drop(Source::new(alloc, FileId::FIRST, text, Markup)?);
+    drop(Source::new(alloc, FileId::FIRST, text, Typst)?);
     for _ in 0..rounds {
         watch.start()?;
-        let source = Source::new(alloc, FileId::FIRST, text, Markup)?;
+        let source = Source::new(alloc, FileId::FIRST, text, Typst)?;
         watch.stop()?;
         seen = seen.saturating_add(source.root().len());
     }
@@ -164,7 +152,7 @@ fn parsed(alloc: Global, watch: &mut Stopwatch<'_>, text: &str, rounds: usize) -
 /// Replaces a range of bytes by a text, and returns how many bytes were parsed anew.
 fn put(
     alloc: Global,
-    source: &mut Source<Markup>,
+    source: &mut Source<Typst>,
     range: Range<usize>,
     with: &str,
 ) -> Result<usize> {

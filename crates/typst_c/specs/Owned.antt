@@ -16,6 +16,7 @@ heap = record { memory = record { seal = tt } }
 abbrev pub freeable : Ty → Ptr → Fml
 freeable = ghosts.dealloc_token heap
 
+-- the block at a pointer holds a value and is its owner's, or there is no value
 abbrev pub owned_at : (R : RattleType) → Ptr → Option R.Denot → Fml
 owned_at R p None = ftrue
 owned_at R p (Some x) = box_owns freeable R p x

@@ -14,7 +14,7 @@ use Rattle.typst_session.specs.Codes.{code_of}
 use Rattle.typst_session.specs.Flags.{IsFlag}
 use Rattle.typst_session.specs.Texts.{IsWritten, IsTooShort, Output}
 use Rattle.typst_session.specs.declared.changes.Change.{Change as TreeChange}
-use Rattle.typst_session.specs.declared.documents.TextChange.{TextChange}
+use Rattle.typst_session.specs.declared.editing.TextChange.{TextChange}
 use Rattle.typst_session.specs.declared.finding.Found.{Found}
 use Rattle.typst_session.specs.declared.neighbors.Neighbor.{Neighbor}
 use Rattle.typst_session.specs.declared.neighbors.Neighbor.TheVariants.{NextLeaf, PrevLeaf, NextSibling, PrevSibling}

@@ -12,7 +12,7 @@ use crate::told::{Change, Length, NOT_MADE, status, tell, tell_change, tell_upda
 use std::alloc::Global;
 
 /// Replaces the children from `from` up to, not including, `to` of the node at a path by the last `count` nodes of the
-/// stack. The nodes that go on keep their numbers.
+/// stack. The nodes that go on can be followed.
 #[unsafe(no_mangle)]
 pub extern "C" fn typst_reconcile(
     alloc: Global,
@@ -34,7 +34,7 @@ pub extern "C" fn typst_reconcile(
     tell_change(outcome, change)
 }
 
-/// Puts the last node of the stack in place of the tree. The nodes that go on keep their numbers.
+/// Puts the last node of the stack in place of the tree. The nodes that go on can be followed.
 #[unsafe(no_mangle)]
 pub extern "C" fn typst_update(alloc: Global, handle: &mut Handle, change: &mut Change) -> u32
     ensures { Changes (change.new ≡ change.old) (λ s t. Told (Tells IsUpdate change.old change.new result)

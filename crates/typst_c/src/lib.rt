@@ -11,7 +11,7 @@ pub mod changes;
 pub mod classes;
 pub mod comparing;
 pub mod diagnostics;
-pub mod documents;
+pub mod editing;
 pub mod finding;
 pub mod handle;
 pub mod kinds;

@@ -1,299 +1,369 @@
--- Written by bench/grammar.py from crates/grammar.table: change that and run it.
+-- Written by bench/grammar_crate.py from crates/grammar.table: change that and run it.
 -- The rows of the syntax.
-use Rattle.std.specs.Prelude.{List, [], ◌∷◌, true, false, Some, None}
-use Rattle.typst_base.specs.declared.kind.SyntaxKind.TheVariants as kinds
-use Rattle.typst_grammar.specs.declared.row.Action.TheVariants as actions
-use Rattle.typst_grammar.specs.declared.row.Condition.TheVariants as conditions
-use Rattle.typst_grammar.specs.declared.row.Newline.TheVariants as newlines
+use Rattle.std.specs.Prelude.{List, Option, Some, None}
+use Rattle.typst_grammar.specs.declared.row.Mode.{Mode}
+use Rattle.typst_grammar.specs.declared.row.Mode.TheVariants as modes
 use Rattle.typst_grammar.specs.declared.rows.Class.{Class}
-use Rattle.typst_grammar.specs.declared.rows.Class.TheVariants as classes
 use Rattle.typst_grammar.specs.declared.rows.State.{State}
 use Rattle.typst_grammar.specs.declared.rows.State.TheVariants as states
+use Rattle.typst_grammar.specs.ArgumentsRows as arguments
+use Rattle.typst_grammar.specs.BlocksRows as blocks
+use Rattle.typst_grammar.specs.CodeRows as code
+use Rattle.typst_grammar.specs.ControlRows as control
+use Rattle.typst_grammar.specs.DelimitersRows as delimiters
+use Rattle.typst_grammar.specs.GroupsRows as groups
+use Rattle.typst_grammar.specs.ImportsRows as imports
+use Rattle.typst_grammar.specs.ListsRows as lists
+use Rattle.typst_grammar.specs.MarkupRows as markup
+use Rattle.typst_grammar.specs.MathRows as math
+use Rattle.typst_grammar.specs.OperatorsRows as operators
+use Rattle.typst_grammar.specs.ParametersRows as parameters
+use Rattle.typst_grammar.specs.PatternsRows as patterns
+use Rattle.typst_grammar.specs.ScriptsRows as scripts
+use Rattle.typst_grammar.specs.StatementsRows as statements
+use Rattle.typst_grammar.specs.StructureRows as structure
 use Rattle.typst_grammar.specs.Row.{Row}
 
-abbrev pub row_0 : Row
-row_0 = record {
-  condition = conditions.Always;
-  before = [];
-  takes = true;
-  after = [];
-  call = None;
-}
-
-abbrev pub row_1 : Row
-row_1 = record {
-  condition = conditions.Always;
-  before = [];
-  takes = false;
-  after = [];
-  call = Some (record { state = states.Strong; enters = false; is_deep = true; newline = None });
-}
-
-abbrev pub row_2 : Row
-row_2 = record {
-  condition = conditions.Always;
-  before = [];
-  takes = false;
-  after = [];
-  call = Some (record { state = states.Emph; enters = false; is_deep = true; newline = None });
-}
-
-abbrev pub row_3 : Row
-row_3 = record {
-  condition = conditions.Always;
-  before = [];
-  takes = false;
-  after = [];
-  call = Some (record { state = states.Heading; enters = false; is_deep = false; newline = Some newlines.Stop });
-}
-
-abbrev pub row_4 : Row
-row_4 = record {
-  condition = conditions.Always;
-  before = [];
-  takes = false;
-  after = [];
-  call = Some (record { state = states.Item; enters = false; is_deep = false; newline = Some newlines.Stop });
-}
-
-abbrev pub row_5 : Row
-row_5 = record {
-  condition = conditions.Always;
-  before = [];
-  takes = true;
-  after = actions.Goto states.StrongClose ∷ [];
-  call = Some (record { state = states.StrongBody; enters = true; is_deep = false; newline = None });
-}
-
-abbrev pub row_6 : Row
-row_6 = record {
-  condition = conditions.Always;
-  before = actions.Wrap kinds.Markup ∷ actions.Return ∷ [];
-  takes = false;
-  after = [];
-  call = None;
-}
-
-abbrev pub row_7 : Row
-row_7 = record {
-  condition = conditions.Always;
-  before = actions.Flush ∷ actions.Wrap kinds.Markup ∷ actions.Return ∷ [];
-  takes = false;
-  after = [];
-  call = None;
-}
-
-abbrev pub row_8 : Row
-row_8 = record {
-  condition = conditions.Always;
-  before = actions.Unclosed ∷ actions.Wrap kinds.Strong ∷ actions.Return ∷ [];
-  takes = false;
-  after = [];
-  call = None;
-}
-
-abbrev pub row_9 : Row
-row_9 = record {
-  condition = conditions.Always;
-  before = [];
-  takes = true;
-  after = actions.Wrap kinds.Strong ∷ actions.Return ∷ [];
-  call = None;
-}
-
-abbrev pub row_10 : Row
-row_10 = record {
-  condition = conditions.Always;
-  before = [];
-  takes = true;
-  after = actions.Goto states.EmphClose ∷ [];
-  call = Some (record { state = states.EmphBody; enters = true; is_deep = false; newline = None });
-}
-
-abbrev pub row_11 : Row
-row_11 = record {
-  condition = conditions.Always;
-  before = actions.Unclosed ∷ actions.Wrap kinds.Emph ∷ actions.Return ∷ [];
-  takes = false;
-  after = [];
-  call = None;
-}
-
-abbrev pub row_12 : Row
-row_12 = record {
-  condition = conditions.Always;
-  before = [];
-  takes = true;
-  after = actions.Wrap kinds.Emph ∷ actions.Return ∷ [];
-  call = None;
-}
-
-abbrev pub row_13 : Row
-row_13 = record {
-  condition = conditions.Always;
-  before = [];
-  takes = true;
-  after = actions.Goto states.HeadingRest ∷ [];
-  call = Some (record { state = states.HeadingBody; enters = false; is_deep = false; newline = None });
-}
-
-abbrev pub row_14 : Row
-row_14 = record {
-  condition = conditions.Newline;
-  before = actions.Wrap kinds.Markup ∷ actions.Return ∷ [];
-  takes = false;
-  after = [];
-  call = None;
-}
-
-abbrev pub row_15 : Row
-row_15 = record {
-  condition = conditions.Empty;
-  before = actions.Flush ∷ actions.Wrap kinds.Markup ∷ actions.Return ∷ [];
-  takes = false;
-  after = [];
-  call = None;
-}
-
-abbrev pub row_16 : Row
-row_16 = record {
-  condition = conditions.Always;
-  before = [];
-  takes = true;
-  after = actions.Goto states.ItemRest1 ∷ [];
-  call = Some (record { state = states.ItemBody; enters = false; is_deep = false; newline = None });
-}
-
-abbrev pub row_17 : Row
-row_17 = record {
-  condition = conditions.Always;
-  before = [];
-  takes = true;
-  after = actions.Goto states.ItemRest2 ∷ [];
-  call = Some (record { state = states.ItemBody; enters = false; is_deep = false; newline = None });
-}
-
-abbrev pub row_18 : Row
-row_18 = record {
-  condition = conditions.Always;
-  before = actions.Wrap kinds.Heading ∷ actions.Return ∷ [];
-  takes = false;
-  after = [];
-  call = None;
-}
-
-abbrev pub row_19 : Row
-row_19 = record {
-  condition = conditions.Always;
-  before = actions.Wrap kinds.ListItem ∷ actions.Return ∷ [];
-  takes = false;
-  after = [];
-  call = None;
-}
-
-abbrev pub row_20 : Row
-row_20 = record {
-  condition = conditions.Always;
-  before = actions.Wrap kinds.EnumItem ∷ actions.Return ∷ [];
-  takes = false;
-  after = [];
-  call = None;
-}
-
--- the nodes of a text
-abbrev pub document : Class → List Row
-document classes.Star = row_1 ∷ []
-document classes.Underscore = row_2 ∷ []
-document classes.HeadingMarker = row_3 ∷ []
-document classes.ListMarker = row_4 ∷ []
-document classes.EnumMarker = row_4 ∷ []
-document _ = row_0 ∷ []
-
--- strong content with its delimiters
-abbrev pub strong : Class → List Row
-strong classes.Star = row_5 ∷ []
-strong _ = []
-
--- strong content
-abbrev pub strong_body : Class → List Row
-strong_body classes.End = row_6 ∷ []
-strong_body classes.Star = row_7 ∷ []
-strong_body classes.Underscore = row_2 ∷ []
-strong_body _ = row_0 ∷ []
-
--- the end of strong content
-abbrev pub strong_close : Class → List Row
-strong_close classes.Star = row_9 ∷ []
-strong_close _ = row_8 ∷ []
-
--- emphasized content with its delimiters
-abbrev pub emph : Class → List Row
-emph classes.Underscore = row_10 ∷ []
-emph _ = []
-
--- emphasized content
-abbrev pub emph_body : Class → List Row
-emph_body classes.End = row_6 ∷ []
-emph_body classes.Star = row_1 ∷ []
-emph_body classes.Underscore = row_7 ∷ []
-emph_body _ = row_0 ∷ []
-
--- the end of emphasized content
-abbrev pub emph_close : Class → List Row
-emph_close classes.Underscore = row_12 ∷ []
-emph_close _ = row_11 ∷ []
-
--- a heading with its marker
-abbrev pub heading : Class → List Row
-heading classes.HeadingMarker = row_13 ∷ []
-heading _ = []
-
--- the content of a heading
-abbrev pub heading_body : Class → List Row
-heading_body classes.End = row_14 ∷ row_15 ∷ row_6 ∷ []
-heading_body classes.Star = row_1 ∷ []
-heading_body classes.Underscore = row_2 ∷ []
-heading_body classes.Label = row_14 ∷ row_15 ∷ row_6 ∷ []
-heading_body _ = row_0 ∷ []
-
--- an item of a list with its marker
-abbrev pub item : Class → List Row
-item classes.ListMarker = row_16 ∷ []
-item classes.EnumMarker = row_17 ∷ []
-item _ = []
-
--- the content of an item
-abbrev pub item_body : Class → List Row
-item_body classes.End = row_14 ∷ row_15 ∷ row_6 ∷ []
-item_body classes.Star = row_1 ∷ []
-item_body classes.Underscore = row_2 ∷ []
-item_body _ = row_0 ∷ []
-
--- the rest of a row of `heading`, once the frame that it opened has returned
-abbrev pub heading_rest : Class → List Row
-heading_rest _ = row_18 ∷ []
-
--- the rest of a row of `item`, once the frame that it opened has returned
-abbrev pub item_rest1 : Class → List Row
-item_rest1 _ = row_19 ∷ []
-
--- the rest of a row of `item`, once the frame that it opened has returned
-abbrev pub item_rest2 : Class → List Row
-item_rest2 _ = row_20 ∷ []
+-- how the lexer reads where a frame is in a state
+abbrev pub mode_of : State → Option Mode
+mode_of states.Document = Some modes.Markup
+mode_of states.Hash = Some modes.Markup
+mode_of states.Strong = Some modes.Markup
+mode_of states.StrongBody = Some modes.Markup
+mode_of states.StrongClose = Some modes.Markup
+mode_of states.Emph = Some modes.Markup
+mode_of states.EmphBody = Some modes.Markup
+mode_of states.EmphClose = Some modes.Markup
+mode_of states.Heading = Some modes.Markup
+mode_of states.HeadingBody = Some modes.Markup
+mode_of states.Item = Some modes.Markup
+mode_of states.ItemBody = Some modes.Markup
+mode_of states.Term = Some modes.Markup
+mode_of states.TermHead = Some modes.Markup
+mode_of states.TermName = Some modes.Markup
+mode_of states.TermColon = Some modes.Markup
+mode_of states.Reference = Some modes.Markup
+mode_of states.ReferenceSupplement = Some modes.Markup
+mode_of states.Content = Some modes.Markup
+mode_of states.ContentBody = Some modes.Markup
+mode_of states.ContentClose = Some modes.Markup
+mode_of states.Embedded = Some modes.Code
+mode_of states.EmbeddedStatement = Some modes.Operator
+mode_of states.EmbeddedExpr = Some modes.Operator
+mode_of states.Expr = Some modes.Code
+mode_of states.ExprAfter = Some modes.Operator
+mode_of states.ExprNot = Some modes.Operator
+mode_of states.ExprName = Some modes.Operator
+mode_of states.ExprBlank = Some modes.Operator
+mode_of states.ExprGroup = Some modes.Operator
+mode_of states.Name = Some modes.Code
+mode_of states.Braces = Some modes.Code
+mode_of states.BracesClose = Some modes.Code
+mode_of states.Code = Some modes.Code
+mode_of states.Statement = Some modes.Code
+mode_of states.StatementEnd = Some modes.Operator
+mode_of states.Group = Some modes.Code
+mode_of states.GroupFirst = Some modes.Code
+mode_of states.GroupOne = Some modes.Operator
+mode_of states.GroupMore = Some modes.Code
+mode_of states.GroupClose = Some modes.Operator
+mode_of states.Loose = Some modes.Code
+mode_of states.LooseItem = Some modes.Operator
+mode_of states.LooseComma = Some modes.Operator
+mode_of states.Array = Some modes.Code
+mode_of states.ArrayComma = Some modes.Operator
+mode_of states.ArrayClose = Some modes.Operator
+mode_of states.Dict = Some modes.Code
+mode_of states.DictComma = Some modes.Operator
+mode_of states.DictClose = Some modes.Operator
+mode_of states.Spread = Some modes.Code
+mode_of states.SpreadValue = Some modes.Code
+mode_of states.Pair = Some modes.Code
+mode_of states.PairColon = Some modes.Operator
+mode_of states.Args = Some modes.Code
+mode_of states.ArgsContent = Some modes.Operator
+mode_of states.Arguments = Some modes.Code
+mode_of states.ArgumentsItem = Some modes.Code
+mode_of states.ArgumentsComma = Some modes.Operator
+mode_of states.ArgumentsClose = Some modes.Operator
+mode_of states.SpreadArgument = Some modes.Code
+mode_of states.Argument = Some modes.Code
+mode_of states.ArgumentColon = Some modes.Operator
+mode_of states.Params = Some modes.Code
+mode_of states.ParamsItem = Some modes.Code
+mode_of states.ParamsComma = Some modes.Operator
+mode_of states.ParamsClose = Some modes.Operator
+mode_of states.Param = Some modes.Code
+mode_of states.Sink = Some modes.Code
+mode_of states.Leaf = Some modes.Code
+mode_of states.LeafCheck = Some modes.Operator
+mode_of states.Pattern = Some modes.Code
+mode_of states.Tuple = Some modes.Code
+mode_of states.TupleFirst = Some modes.Code
+mode_of states.TupleOne = Some modes.Operator
+mode_of states.TupleItem = Some modes.Code
+mode_of states.TupleComma = Some modes.Operator
+mode_of states.TupleClose = Some modes.Operator
+mode_of states.Element = Some modes.Code
+mode_of states.ElementColon = Some modes.Operator
+mode_of states.Binding = Some modes.Code
+mode_of states.BindingName = Some modes.Operator
+mode_of states.BindingClosure = Some modes.Operator
+mode_of states.BindingValue = Some modes.Operator
+mode_of states.Target = Some modes.Code
+mode_of states.TargetField = Some modes.Operator
+mode_of states.SetArguments = Some modes.Operator
+mode_of states.SetCondition = Some modes.Operator
+mode_of states.ShowSelector = Some modes.Code
+mode_of states.ShowColon = Some modes.Operator
+mode_of states.ReturnValue = Some modes.Code
+mode_of states.Body = Some modes.Code
+mode_of states.Conditional = Some modes.Code
+mode_of states.ConditionalElse = Some modes.Operator
+mode_of states.ConditionalBranch = Some modes.Code
+mode_of states.ForIn = Some modes.Operator
+mode_of states.ForMore = Some modes.Code
+mode_of states.ImportAs = Some modes.Operator
+mode_of states.ImportColon = Some modes.Operator
+mode_of states.ImportWhat = Some modes.Code
+mode_of states.ImportList = Some modes.Code
+mode_of states.Imports = Some modes.Code
+mode_of states.ImportsComma = Some modes.Operator
+mode_of states.Imported = Some modes.Code
+mode_of states.ImportedPath = Some modes.Operator
+mode_of states.Equation = Some modes.Math
+mode_of states.EquationClose = Some modes.Math
+mode_of states.Math = Some modes.Math
+mode_of states.MathExpr = Some modes.Math
+mode_of states.MathIdent = Some modes.Math
+mode_of states.Field = Some modes.Math
+mode_of states.MathJoined = Some modes.Math
+mode_of states.MathAfter = Some modes.Math
+mode_of states.MathPrimed = Some modes.Math
+mode_of states.MathBelow = Some modes.Math
+mode_of states.MathAbove = Some modes.Math
+mode_of states.Delimited = Some modes.Math
+mode_of states.DelimitedBody = Some modes.Math
+mode_of states.DelimitedClose = Some modes.Math
+mode_of states.MathArgs = Some modes.Math
+mode_of states.MathArgsItem = Some modes.Argument
+mode_of states.MathArgsComma = Some modes.Math
+mode_of states.MathArgsClose = Some modes.Math
+mode_of states.MathArg = Some modes.Argument
+mode_of states.MathArgColon = Some modes.Math
+mode_of states.MathNamed = Some modes.Math
+mode_of states.MathValue = Some modes.Math
+mode_of states.MathValueOne = Some modes.Math
+mode_of states.MathValueMore = Some modes.Math
+mode_of _ = None
 
 -- the rows of a state for a class of tokens
 unfoldable pub rows : State → Class → List Row
-rows states.Document class = document class
-rows states.Strong class = strong class
-rows states.StrongBody class = strong_body class
-rows states.StrongClose class = strong_close class
-rows states.Emph class = emph class
-rows states.EmphBody class = emph_body class
-rows states.EmphClose class = emph_close class
-rows states.Heading class = heading class
-rows states.HeadingBody class = heading_body class
-rows states.Item class = item class
-rows states.ItemBody class = item_body class
-rows states.HeadingRest class = heading_rest class
-rows states.ItemRest1 class = item_rest1 class
-rows states.ItemRest2 class = item_rest2 class
+rows states.Document class = markup.document class
+rows states.Hash class = markup.hash class
+rows states.Strong class = markup.strong class
+rows states.StrongBody class = markup.strong_body class
+rows states.StrongClose class = markup.strong_close class
+rows states.Emph class = markup.emph class
+rows states.EmphBody class = markup.emph_body class
+rows states.EmphClose class = markup.emph_close class
+rows states.Heading class = structure.heading class
+rows states.HeadingBody class = structure.heading_body class
+rows states.Item class = structure.item class
+rows states.ItemBody class = structure.item_body class
+rows states.Term class = structure.term class
+rows states.TermHead class = structure.term_head class
+rows states.TermName class = structure.term_name class
+rows states.TermColon class = structure.term_colon class
+rows states.Reference class = structure.reference class
+rows states.ReferenceSupplement class = structure.reference_supplement class
+rows states.Content class = structure.content class
+rows states.ContentBody class = structure.content_body class
+rows states.ContentClose class = structure.content_close class
+rows states.Embedded class = code.embedded class
+rows states.EmbeddedStatement class = code.embedded_statement class
+rows states.EmbeddedExpr class = code.embedded_expr class
+rows states.Expr class = code.expr class
+rows states.ExprAfter class = operators.expr_after class
+rows states.ExprNot class = operators.expr_not class
+rows states.ExprName class = operators.expr_name class
+rows states.ExprBlank class = operators.expr_blank class
+rows states.ExprGroup class = operators.expr_group class
+rows states.Name class = blocks.name class
+rows states.Braces class = blocks.braces class
+rows states.BracesClose class = blocks.braces_close class
+rows states.Code class = blocks.code class
+rows states.Statement class = blocks.statement class
+rows states.StatementEnd class = blocks.statement_end class
+rows states.Group class = groups.group class
+rows states.GroupFirst class = groups.group_first class
+rows states.GroupOne class = groups.group_one class
+rows states.GroupMore class = groups.group_more class
+rows states.GroupClose class = groups.group_close class
+rows states.Loose class = groups.loose class
+rows states.LooseItem class = groups.loose_item class
+rows states.LooseComma class = groups.loose_comma class
+rows states.Array class = lists.array class
+rows states.ArrayComma class = lists.array_comma class
+rows states.ArrayClose class = lists.array_close class
+rows states.Dict class = lists.dict class
+rows states.DictComma class = lists.dict_comma class
+rows states.DictClose class = lists.dict_close class
+rows states.Spread class = lists.spread class
+rows states.SpreadValue class = lists.spread_value class
+rows states.Pair class = lists.pair class
+rows states.PairColon class = lists.pair_colon class
+rows states.Args class = arguments.args class
+rows states.ArgsContent class = arguments.args_content class
+rows states.Arguments class = arguments.arguments class
+rows states.ArgumentsItem class = arguments.arguments_item class
+rows states.ArgumentsComma class = arguments.arguments_comma class
+rows states.ArgumentsClose class = arguments.arguments_close class
+rows states.SpreadArgument class = arguments.spread_argument class
+rows states.Argument class = arguments.argument class
+rows states.ArgumentColon class = arguments.argument_colon class
+rows states.Params class = parameters.params class
+rows states.ParamsItem class = parameters.params_item class
+rows states.ParamsComma class = parameters.params_comma class
+rows states.ParamsClose class = parameters.params_close class
+rows states.Param class = parameters.param class
+rows states.Sink class = parameters.sink class
+rows states.Leaf class = patterns.leaf class
+rows states.LeafCheck class = patterns.leaf_check class
+rows states.Pattern class = patterns.pattern class
+rows states.Tuple class = patterns.tuple class
+rows states.TupleFirst class = patterns.tuple_first class
+rows states.TupleOne class = patterns.tuple_one class
+rows states.TupleItem class = patterns.tuple_item class
+rows states.TupleComma class = patterns.tuple_comma class
+rows states.TupleClose class = patterns.tuple_close class
+rows states.Element class = patterns.element class
+rows states.ElementColon class = patterns.element_colon class
+rows states.Binding class = statements.binding class
+rows states.BindingName class = statements.binding_name class
+rows states.BindingClosure class = statements.binding_closure class
+rows states.BindingValue class = statements.binding_value class
+rows states.Target class = statements.target class
+rows states.TargetField class = statements.target_field class
+rows states.SetArguments class = statements.set_arguments class
+rows states.SetCondition class = statements.set_condition class
+rows states.ShowSelector class = statements.show_selector class
+rows states.ShowColon class = statements.show_colon class
+rows states.ReturnValue class = statements.return_value class
+rows states.Body class = control.body class
+rows states.Conditional class = control.conditional class
+rows states.ConditionalElse class = control.conditional_else class
+rows states.ConditionalBranch class = control.conditional_branch class
+rows states.ForIn class = control.for_in class
+rows states.ForMore class = control.for_more class
+rows states.ImportAs class = imports.import_as class
+rows states.ImportColon class = imports.import_colon class
+rows states.ImportWhat class = imports.import_what class
+rows states.ImportList class = imports.import_list class
+rows states.Imports class = imports.imports class
+rows states.ImportsComma class = imports.imports_comma class
+rows states.Imported class = imports.imported class
+rows states.ImportedPath class = imports.imported_path class
+rows states.Equation class = math.equation class
+rows states.EquationClose class = math.equation_close class
+rows states.Math class = math.math class
+rows states.MathExpr class = math.math_expr class
+rows states.MathIdent class = math.math_ident class
+rows states.Field class = math.field class
+rows states.MathJoined class = math.math_joined class
+rows states.MathAfter class = scripts.math_after class
+rows states.MathPrimed class = scripts.math_primed class
+rows states.MathBelow class = scripts.math_below class
+rows states.MathAbove class = scripts.math_above class
+rows states.Delimited class = delimiters.delimited class
+rows states.DelimitedBody class = delimiters.delimited_body class
+rows states.DelimitedClose class = delimiters.delimited_close class
+rows states.MathArgs class = delimiters.math_args class
+rows states.MathArgsItem class = delimiters.math_args_item class
+rows states.MathArgsComma class = delimiters.math_args_comma class
+rows states.MathArgsClose class = delimiters.math_args_close class
+rows states.MathArg class = delimiters.math_arg class
+rows states.MathArgColon class = delimiters.math_arg_colon class
+rows states.MathNamed class = delimiters.math_named class
+rows states.MathValue class = delimiters.math_value class
+rows states.MathValueOne class = delimiters.math_value_one class
+rows states.MathValueMore class = delimiters.math_value_more class
+rows states.HashRest class = markup.hash_rest class
+rows states.HeadingRest class = structure.heading_rest class
+rows states.ItemRest1 class = structure.item_rest1 class
+rows states.ItemRest2 class = structure.item_rest2 class
+rows states.TermHeadRest class = structure.term_head_rest class
+rows states.TermColonRest1 class = structure.term_colon_rest1 class
+rows states.TermColonRest2 class = structure.term_colon_rest2 class
+rows states.ReferenceSupplementRest class = structure.reference_supplement_rest class
+rows states.ExprRest1 class = code.expr_rest1 class
+rows states.ExprRest2 class = code.expr_rest2 class
+rows states.ExprRest3 class = code.expr_rest3 class
+rows states.ExprRest4 class = code.expr_rest4 class
+rows states.ExprRest5 class = code.expr_rest5 class
+rows states.ExprRest6 class = code.expr_rest6 class
+rows states.ExprRest6Rest class = code.expr_rest6_rest class
+rows states.ExprRest7 class = code.expr_rest7 class
+rows states.ExprRest8 class = code.expr_rest8 class
+rows states.ExprAfterRest1 class = operators.expr_after_rest1 class
+rows states.ExprAfterRest2 class = operators.expr_after_rest2 class
+rows states.ExprAfterRest3 class = operators.expr_after_rest3 class
+rows states.ExprAfterRest4 class = operators.expr_after_rest4 class
+rows states.ExprAfterRest5 class = operators.expr_after_rest5 class
+rows states.ExprAfterRest6 class = operators.expr_after_rest6 class
+rows states.ExprAfterRest7 class = operators.expr_after_rest7 class
+rows states.ExprAfterRest8 class = operators.expr_after_rest8 class
+rows states.ExprAfterRest9 class = operators.expr_after_rest9 class
+rows states.ExprNotRest class = operators.expr_not_rest class
+rows states.ExprNameRest class = operators.expr_name_rest class
+rows states.ExprBlankRest1 class = operators.expr_blank_rest1 class
+rows states.ExprBlankRest2 class = operators.expr_blank_rest2 class
+rows states.ExprGroupRest1 class = operators.expr_group_rest1 class
+rows states.ExprGroupRest2 class = operators.expr_group_rest2 class
+rows states.SpreadValueRest class = lists.spread_value_rest class
+rows states.PairColonRest1 class = lists.pair_colon_rest1 class
+rows states.PairColonRest2 class = lists.pair_colon_rest2 class
+rows states.SpreadArgumentRest class = arguments.spread_argument_rest class
+rows states.ArgumentColonRest1 class = arguments.argument_colon_rest1 class
+rows states.ArgumentColonRest2 class = arguments.argument_colon_rest2 class
+rows states.SinkRest class = parameters.sink_rest class
+rows states.PatternRest1 class = patterns.pattern_rest1 class
+rows states.PatternRest2 class = patterns.pattern_rest2 class
+rows states.ElementColonRest1 class = patterns.element_colon_rest1 class
+rows states.ElementColonRest2 class = patterns.element_colon_rest2 class
+rows states.BindingRest class = statements.binding_rest class
+rows states.BindingNameRest class = statements.binding_name_rest class
+rows states.BindingClosureRest class = statements.binding_closure_rest class
+rows states.BindingValueRest class = statements.binding_value_rest class
+rows states.TargetFieldRest class = statements.target_field_rest class
+rows states.SetConditionRest class = statements.set_condition_rest class
+rows states.ShowColonRest class = statements.show_colon_rest class
+rows states.ReturnValueRest class = statements.return_value_rest class
+rows states.BodyRest1 class = control.body_rest1 class
+rows states.BodyRest2 class = control.body_rest2 class
+rows states.ConditionalRest class = control.conditional_rest class
+rows states.ConditionalBranchRest1 class = control.conditional_branch_rest1 class
+rows states.ConditionalBranchRest2 class = control.conditional_branch_rest2 class
+rows states.ForInRest1 class = control.for_in_rest1 class
+rows states.ForInRest1Rest class = control.for_in_rest1_rest class
+rows states.ForInRest2 class = control.for_in_rest2 class
+rows states.ForInRest2Rest class = control.for_in_rest2_rest class
+rows states.ImportWhatRest1 class = imports.import_what_rest1 class
+rows states.ImportWhatRest2 class = imports.import_what_rest2 class
+rows states.ImportedPathRest class = imports.imported_path_rest class
+rows states.MathExprRest1 class = math.math_expr_rest1 class
+rows states.MathExprRest2 class = math.math_expr_rest2 class
+rows states.MathExprRest3 class = math.math_expr_rest3 class
+rows states.MathIdentRest1 class = math.math_ident_rest1 class
+rows states.MathIdentRest2 class = math.math_ident_rest2 class
+rows states.MathJoinedRest class = math.math_joined_rest class
+rows states.MathAfterRest1 class = scripts.math_after_rest1 class
+rows states.MathAfterRest2 class = scripts.math_after_rest2 class
+rows states.MathAfterRest3 class = scripts.math_after_rest3 class
+rows states.MathPrimedRest1 class = scripts.math_primed_rest1 class
+rows states.MathPrimedRest2 class = scripts.math_primed_rest2 class
+rows states.MathBelowRest class = scripts.math_below_rest class
+rows states.MathAboveRest class = scripts.math_above_rest class
+rows states.MathArgRest1 class = delimiters.math_arg_rest1 class
+rows states.MathArgRest2 class = delimiters.math_arg_rest2 class
+rows states.MathArgColonRest class = delimiters.math_arg_colon_rest class

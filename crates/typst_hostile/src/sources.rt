@@ -4,8 +4,8 @@ use crate::requests::Requests;
 use std::alloc::{AllocError, Global};
 use std::ops::Range;
 use typst_base::{FileId, Span};
+use typst_language::Typst;
 use typst_linked::{LinkedNode, Side};
-use typst_markup::Markup;
 use typst_node::SyntaxNode;
 use typst_source::{Edited, Outcome, Source, SourceError, TextEdit};
 
@@ -36,17 +36,17 @@ pub enum Finding {
 }
 
 /// The source of the text.
-fn parsed(alloc: Global) -> Result<Source<Markup>, SourceError> {
-    Source::new(alloc, FileId::FIRST, TEXT, Markup)
+fn parsed(alloc: Global) -> Result<Source<Typst>, SourceError> {
+    Source::new(alloc, FileId::FIRST, TEXT, Typst)
 }
 
 /// Whether two sources have the same text and the same tree, numbers included.
-fn are_same(one: &Source<Markup>, other: &Source<Markup>) -> bool {
+fn are_same(one: &Source<Typst>, other: &Source<Typst>) -> bool {
     one.text() == other.text() && one.root() == other.root()
 }
 
 /// Whether a source is as it was parsed.
-fn is_kept(source: &Source<Markup>, kept: &SyntaxNode) -> bool {
+fn is_kept(source: &Source<Typst>, kept: &SyntaxNode) -> bool {
     source.text() == TEXT && source.root() == kept
 }
 
@@ -81,7 +81,7 @@ impl Editing {
     }
 
     /// Makes the edit.
-    fn make(self, alloc: Global, source: &mut Source<Markup>) -> Result<Edited, Fault> {
+    fn make(self, alloc: Global, source: &mut Source<Typst>) -> Result<Edited, Fault> {
         let edit = self.edit();
         if !source.fits(&edit.range) {
             return Err(Fault::Other);
@@ -122,7 +122,7 @@ impl Finding {
     }
 
     /// Whether the call finds the strong letter.
-    fn finds(self, alloc: Global, source: &Source<Markup>, span: Span) -> Result<bool, AllocError> {
+    fn finds(self, alloc: Global, source: &Source<Typst>, span: Span) -> Result<bool, AllocError> {
         match self {
             Finding::Find => Ok(match source.find(alloc, span)? {
                 Some(node) => node.range() == STRONG && node.get().span() == span,
@@ -134,7 +134,7 @@ impl Finding {
 }
 
 /// The span of the strong letter.
-fn strong(alloc: Global, source: &Source<Markup>) -> Result<Option<Span>, AllocError> {
+fn strong(alloc: Global, source: &Source<Typst>) -> Result<Option<Span>, AllocError> {
     let root = LinkedNode::new(source.root());
     let leaf = root.leaf_at(alloc, STRONG.start, Side::After)?;
     Ok(leaf.map(|leaf| leaf.get().span()))
@@ -143,7 +143,7 @@ fn strong(alloc: Global, source: &Source<Markup>) -> Result<Option<Span>, AllocE
 /// A source with the outcomes of the edits that made it.
 #[derive(Drop)]
 struct Served {
-    source: Source<Markup>,
+    source: Source<Typst>,
     outcomes: Vec<Outcome>,
 }
 

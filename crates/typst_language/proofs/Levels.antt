@@ -4,6 +4,6 @@ use Rattle.typst_parser.specs.Depth.{AreWithin}
 use Rattle.typst_parser.proofs.FirstBlocks.{block_levels}
 use Rattle.typst_language.specs.Block.{first, language}
 
-pub first_within_depth : (text : List ℕ) → AreWithin 256 (first text).trees
+pub first_within_depth : (text : List ℕ) → AreWithin 255 (first text).trees
 unfolding language
 first_within_depth text = block_levels language text (omega arith)

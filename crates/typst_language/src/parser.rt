@@ -21,7 +21,7 @@ fn bounds() -> Table
     Table {
         most_deep: 64,
         most_looks: 1024,
-        most_levels: 256,
+        most_levels: 255,
     }
 }
 
@@ -54,9 +54,9 @@ impl BlockParser for Typst {
     ghost local = { first_local };
 }
 
-/// A law of all texts: the trees of blocks are at most 256 levels deep. So no text can exhaust the stack of what walks
+/// A law of all texts: the trees of blocks are at most 255 levels deep. So no text can exhaust the stack of what walks
 /// over them.
 #[tactic(auto, using(crate::proofs::Levels::first_within_depth))]
 pub fn blocks_are_shallow()
-    ensures { (text : List ℕ) → AreWithin 256 (first text).trees }
+    ensures { (text : List ℕ) → AreWithin 255 (first text).trees }
 {}

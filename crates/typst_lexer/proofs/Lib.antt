@@ -1,7 +1,14 @@
-pub mod FirstBlocks
+pub mod DigitRuns
 pub mod FirstCodes
 pub mod FirstTokens
 pub mod HexRuns
-pub mod Plain
+pub mod MachineLaws
 pub mod Runs
+pub mod Letters
+pub mod WhiteRuns
 pub mod Tokens
+pub mod Steps
+pub mod LineComments
+pub mod BlockComments
+pub mod OpenComments
+pub mod RawTexts

@@ -1,127 +1,76 @@
 -- What holds of the tokens of any text.
-use Rattle.std.proofs.Common.{◌≡◌, ℕ, zero, suc, ◌+◌, ◌<◌, ◌≤◌, List, [], ◌∷◌, length, take, drop, refl, sym, ap, ◌∙◌, arith, get_or}
-use Rattle.std.specs.Prelude.{Option, Some, None}
-use Rattle.std.proofs.lemmas.List.{drop_more}
-use Rattle.typst_lexer.specs.declared.state.Behind.{Behind}
-use Rattle.typst_lexer.specs.declared.state.Behind.TheVariants.{LineStart}
-use Rattle.typst_lexer.specs.declared.state.State.{State}
-use Rattle.typst_lexer.specs.Steps.{kind_of, begin, stay}
-use Rattle.typst_lexer.specs.First.{more, last, first_len, first_last}
-use Rattle.typst_lexer.specs.Tokens.{Piece, AreFilled, last_piece, joined, onto, tokens_from, tokens_behind, tokens}
+use Rattle.std.proofs.Common.{◌≡◌, ℕ, zero, suc, ◌-◌, ◌<◌, List, [], ◌∷◌, ◌++◌, length, take, drop, refl, sym, ap, ◌∙◌, arith}
+use Rattle.typst_lexer.specs.declared.mode.Mode.{Mode}
+use Rattle.typst_lexer.specs.declared.place.Behind.{Behind}
+use Rattle.typst_lexer.specs.declared.head.FirstToken.{FirstToken}
+use Rattle.typst_lexer.specs.FirstToken.{first}
+use Rattle.typst_lexer.specs.Tokens.{AreFilled, cut, found_in, joined, tokens}
+use Rattle.typst_lexer.proofs.FirstTokens.{first_within}
 
--- the first token, and the tokens after it
-from_step : (s : State) (a : ℕ) (bs : List ℕ)
-    → tokens_from s a bs ≡ (let p : Piece = record { kind = kind_of (last s bs).inside; bytes = a ∷ take (more s bs) bs } in p) ∷ tokens_behind (last s bs).behind (drop (more s bs) bs)
-from_step s a [] = refl
-from_step s a (b ∷ bs) = elim (stay s (take 10 (b ∷ bs))) as (λ o.
-    (elim o as (λ _. List Piece) [ None ↦ last_piece s a ∷ tokens_from (begin s.behind (take 10 (b ∷ bs))) b bs | Some t ↦ onto a (tokens_from t b bs) ])
-    ≡ (let p : Piece = record {
-      kind = kind_of (elim o as (λ _. State) [ None ↦ s | Some t ↦ last t bs ]).inside;
-      bytes = a ∷ take (elim o as (λ _. ℕ) [ None ↦ 0 | Some t ↦ suc (more t bs) ]) (b ∷ bs);
-    } in p)
-    ∷ tokens_behind (elim o as (λ _. State) [ None ↦ s | Some t ↦ last t bs ]).behind (drop (elim o as (λ _. ℕ) [ None ↦ 0 | Some t ↦ suc (more t bs) ]) (b ∷ bs))) [
-      | None ↦ refl
-      | Some t ↦ ap (onto a) (from_step t b bs)
-    ]
+less_one : (n : ℕ) → suc n - 1 ≡ n
+less_one n = omega arith
 
-pub tokens_step : (k : Behind) (text : List ℕ) → 0 < length text
-    → tokens_behind k text ≡ (let p : Piece = record { kind = kind_of (first_last k text).inside; bytes = take (first_len k text) text } in p) ∷ tokens_behind (first_last k text).behind (drop (first_len k text) text)
-tokens_step k [] some = absurd (omega arith)
-tokens_step k (a ∷ bs) some = from_step (begin k (take 10 (a ∷ bs))) a bs
+drop_none : (n : ℕ) → (let nothing : List ℕ = [] in drop n nothing) ≡ []
+drop_none zero = refl
+drop_none (suc n) = refl
 
--- nothing of a text is lost
-join_onto : (a : ℕ) (ps : List Piece) → 0 < length ps → joined (onto a ps) ≡ a ∷ joined ps
-join_onto a [] some = absurd (omega arith)
-join_onto a (p ∷ ps) some = refl
+pub front_and_back : (n : ℕ) (t : List ℕ) → take n t ++ drop n t ≡ t
+front_and_back zero t = refl
+front_and_back (suc n) [] = refl
+front_and_back (suc n) (b ∷ bs) = ap (λ l. b ∷ l) (front_and_back n bs)
 
-onto_some : (a : ℕ) (ps : List Piece) → 0 < length ps → 0 < length (onto a ps)
-onto_some a [] some = some
-onto_some a (p ∷ ps) some = omega arith
+-- a token of some bytes, and the rest of the text
+rejoined : (n b : ℕ) (bs : List ℕ) → 0 < n → take n (b ∷ bs) ++ drop (n - 1) bs ≡ b ∷ bs
+rejoined zero b bs some = absurd (omega arith)
+rejoined (suc n) b bs some = ap (λ m. b ∷ (take n bs ++ drop m bs)) (less_one n) ∙ ap (λ l. b ∷ l) (front_and_back n bs)
 
-pub from_some : (s : State) (a : ℕ) (bs : List ℕ) → 0 < length (tokens_from s a bs)
-from_some s a [] = omega arith
-from_some s a (b ∷ bs) = elim (stay s (take 10 (b ∷ bs))) as (λ o.
-    0 < length (elim o as (λ _. List Piece) [ None ↦ last_piece s a ∷ tokens_from (begin s.behind (take 10 (b ∷ bs))) b bs | Some t ↦ onto a (tokens_from t b bs) ])) [
-      | None ↦ omega arith
-      | Some t ↦ onto_some a (tokens_from t b bs) (from_some t b bs)
-    ]
+some_taken : (n b : ℕ) (bs : List ℕ) → 0 < n → 0 < length (take n (b ∷ bs))
+some_taken zero b bs some = absurd (omega arith)
+some_taken (suc n) b bs some = omega arith
 
-join_from : (s : State) (a : ℕ) (bs : List ℕ) → joined (tokens_from s a bs) ≡ a ∷ bs
-join_from s a [] = refl
-join_from s a (b ∷ bs) = elim (stay s (take 10 (b ∷ bs))) as (λ o.
-    joined (elim o as (λ _. List Piece) [ None ↦ last_piece s a ∷ tokens_from (begin s.behind (take 10 (b ∷ bs))) b bs | Some t ↦ onto a (tokens_from t b bs) ]) ≡ a ∷ b ∷ bs) [
-      | None ↦ ap (λ l. a ∷ l) (join_from (begin s.behind (take 10 (b ∷ bs))) b bs)
-      | Some t ↦ join_onto a (tokens_from t b bs) (from_some t b bs) ∙ ap (λ l. a ∷ l) (join_from t b bs)
-    ]
+module _ (find : Behind → List ℕ → FirstToken) where
+  cut_drop : (n : ℕ) (k : Behind) (t : List ℕ) → cut find n k t ≡ cut find 0 k (drop n t)
+  cut_drop n k [] = ap (cut find 0 k) (sym (drop_none n))
+  cut_drop zero k (b ∷ bs) = refl
+  cut_drop (suc n) k (b ∷ bs) = cut_drop n k bs
 
-pub tokens_join : (k : Behind) (text : List ℕ) → joined (tokens_behind k text) ≡ text
-tokens_join k [] = refl
-tokens_join k (a ∷ bs) = join_from (begin k (take 10 (a ∷ bs))) a bs
+  cut_after : (n : ℕ) (k : Behind) (b : ℕ) (bs : List ℕ) → 0 < n → cut find (n - 1) k bs ≡ cut find 0 k (drop n (b ∷ bs))
+  cut_after zero k b bs some = absurd (omega arith)
+  cut_after (suc n) k b bs some = ap (λ m. cut find m k bs) (less_one n) ∙ cut_drop n k bs
 
--- no token is empty
-filled_onto : (a : ℕ) (ps : List Piece) → AreFilled ps → AreFilled (onto a ps)
-filled_onto a [] h = tt
-filled_onto a (p ∷ ps) h = (omega arith, h.1)
+  module _ (some : (k : Behind) (b : ℕ) (bs : List ℕ) → 0 < (find k (b ∷ bs)).len) where
+    -- the first token, and the tokens after it
+    cut_step : (k : Behind) (t : List ℕ) → 0 < length t
+        → cut find 0 k t ≡ found_in t (find k t) ∷ cut find 0 (find k t).behind (drop (find k t).len t)
+    cut_step k [] h = absurd (omega arith)
+    cut_step k (b ∷ bs) h =
+        ap (λ ps. found_in (b ∷ bs) (find k (b ∷ bs)) ∷ ps) (cut_after (find k (b ∷ bs)).len (find k (b ∷ bs)).behind b bs (some k b bs))
 
-one_filled : (s : State) (a : ℕ) → 0 < length (last_piece s a).bytes
-one_filled s a = omega arith
+    -- nothing of a text is lost
+    cut_joined : (n : ℕ) (k : Behind) (t : List ℕ) → joined (cut find n k t) ≡ drop n t
+    cut_joined n k [] = sym (drop_none n)
+    cut_joined zero k (b ∷ bs) =
+        let f : FirstToken = find k (b ∷ bs) in
+        ap (λ l. take f.len (b ∷ bs) ++ l) (cut_joined (f.len - 1) f.behind bs) ∙ rejoined f.len b bs (some k b bs)
+    cut_joined (suc n) k (b ∷ bs) = cut_joined n k bs
 
-filled_from : (s : State) (a : ℕ) (bs : List ℕ) → AreFilled (tokens_from s a bs)
-filled_from s a [] = (one_filled s a, tt)
-filled_from s a (b ∷ bs) = elim (stay s (take 10 (b ∷ bs))) as (λ o.
-    AreFilled (elim o as (λ _. List Piece) [ None ↦ last_piece s a ∷ tokens_from (begin s.behind (take 10 (b ∷ bs))) b bs | Some t ↦ onto a (tokens_from t b bs) ])) [
-      | None ↦ (one_filled s a, filled_from (begin s.behind (take 10 (b ∷ bs))) b bs)
-      | Some t ↦ filled_onto a (tokens_from t b bs) (filled_from t b bs)
-    ]
+    -- no token is empty
+    cut_filled : (n : ℕ) (k : Behind) (t : List ℕ) → AreFilled (cut find n k t)
+    cut_filled n k [] = tt
+    cut_filled zero k (b ∷ bs) =
+        let f : FirstToken = find k (b ∷ bs) in
+        (some_taken f.len b bs (some k b bs), cut_filled (f.len - 1) f.behind bs)
+    cut_filled (suc n) k (b ∷ bs) = cut_filled n k bs
 
-pub tokens_filled : (k : Behind) (text : List ℕ) → AreFilled (tokens_behind k text)
-tokens_filled k [] = tt
-tokens_filled k (a ∷ bs) = filled_from (begin k (take 10 (a ∷ bs))) a bs
+first_some : (how : Mode) (k : Behind) (b : ℕ) (bs : List ℕ) → 0 < (first how k (b ∷ bs)).len
+first_some how k b bs = let some : 0 < length (b ∷ bs) = omega arith in (first_within how k (b ∷ bs) some).0
 
--- the token goes on by one byte, or ends
-abbrev went : Option State → State → List ℕ → ℕ
-went o s bs = elim o as (λ _. ℕ) [ None ↦ 0 | Some t ↦ suc (more t bs) ]
+pub tokens_step : (how : Mode) (k : Behind) (text : List ℕ) → 0 < length text
+    → tokens how k text ≡ found_in text (first how k text) ∷ tokens how (first how k text).behind (drop (first how k text).len text)
+tokens_step how k text some = cut_step (first how) (first_some how) k text some
 
-abbrev ended : Option State → State → List ℕ → State
-ended o s bs = elim o as (λ _. State) [ None ↦ s | Some t ↦ last t bs ]
+pub text_joined : (how : Mode) (k : Behind) (text : List ℕ) → joined (tokens how k text) ≡ text
+text_joined how k text = cut_joined (first how) (first_some how) 0 k text
 
-pub more_here : (s : State) (o : Option State) (xs : List ℕ) (n : ℕ) → n < length xs → stay s (take 10 (drop n xs)) ≡ o
-    → more s (drop n xs) ≡ went o s (drop (n + 1) xs)
-more_here s o xs n l is =
-    let here : drop n xs ≡ get_or xs n 0 ∷ drop (n + 1) xs = drop_more xs n 0 l in
-    ap (more s) here ∙ ap (λ p. went p s (drop (n + 1) xs)) (ap (λ (w : List ℕ). stay s (take 10 w)) (sym here) ∙ is)
-
-pub last_here : (s : State) (o : Option State) (xs : List ℕ) (n : ℕ) → n < length xs → stay s (take 10 (drop n xs)) ≡ o
-    → last s (drop n xs) ≡ ended o s (drop (n + 1) xs)
-last_here s o xs n l is =
-    let here : drop n xs ≡ get_or xs n 0 ∷ drop (n + 1) xs = drop_more xs n 0 l in
-    ap (last s) here ∙ ap (λ p. ended p s (drop (n + 1) xs)) (ap (λ (w : List ℕ). stay s (take 10 w)) (sym here) ∙ is)
-
--- the first byte of a text that has any
-pub first_len_is : (k : Behind) (text : List ℕ) → 0 < length text → 1 + more (begin k (take 10 text)) (drop 1 text) ≡ first_len k text
-first_len_is k [] some = absurd (omega arith)
-first_len_is k (a ∷ bs) some = omega arith
-
-pub first_last_is : (k : Behind) (text : List ℕ) → 0 < length text → last (begin k (take 10 text)) (drop 1 text) ≡ first_last k text
-first_last_is k [] some = absurd (omega arith)
-first_last_is k (a ∷ bs) some = refl
-
--- the whole text has been gone over
-pub more_at_end : (s : State) (xs : List ℕ) (n : ℕ) → length xs ≤ n → more s (drop n xs) ≡ 0
-more_at_end s [] zero l = refl
-more_at_end s [] (suc n) l = refl
-more_at_end s (x ∷ xs) zero l = absurd (omega arith)
-more_at_end s (x ∷ xs) (suc n) l = more_at_end s xs n (omega arith)
-
-pub last_at_end : (s : State) (xs : List ℕ) (n : ℕ) → length xs ≤ n → last s (drop n xs) ≡ s
-last_at_end s [] zero l = refl
-last_at_end s [] (suc n) l = refl
-last_at_end s (x ∷ xs) zero l = absurd (omega arith)
-last_at_end s (x ∷ xs) (suc n) l = last_at_end s xs n (omega arith)
-
--- the same of a text from its beginning
-pub text_joined : (text : List ℕ) → joined (tokens text) ≡ text
-text_joined text = tokens_join LineStart text
-
-pub text_filled : (text : List ℕ) → AreFilled (tokens text)
-text_filled text = tokens_filled LineStart text
+pub text_filled : (how : Mode) (k : Behind) (text : List ℕ) → AreFilled (tokens how k text)
+text_filled how k text = cut_filled (first how) (first_some how) 0 k text

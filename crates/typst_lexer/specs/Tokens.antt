@@ -1,12 +1,12 @@
--- The tokens of a text.
-use Rattle.std.specs.Prelude.{ℕ, ◌<◌, length, List, [], ◌∷◌, take, Some, None}
+-- The tokens of a text that is read in one mode.
+use Rattle.std.specs.Prelude.{ℕ, zero, suc, ◌-◌, ◌<◌, length, List, [], ◌∷◌, take}
 use Rattle.std.specs.List.{flat_map, AllByRecursion}
+use Rattle.typst_lexer.specs.declared.mode.Mode.{Mode}
+use Rattle.typst_lexer.specs.declared.place.Behind.{Behind}
+use Rattle.typst_lexer.specs.declared.head.FirstToken.{FirstToken}
 use Rattle.typst_lexer.specs.declared.token.Token.{Token}
 use Rattle.typst_lexer.specs.declared.token.TokenKind.{TokenKind}
-use Rattle.typst_lexer.specs.declared.state.Behind.{Behind}
-use Rattle.typst_lexer.specs.declared.state.Behind.TheVariants.{LineStart}
-use Rattle.typst_lexer.specs.declared.state.State.{State}
-use Rattle.typst_lexer.specs.Steps.{kind_of, begin, stay}
+use Rattle.typst_lexer.specs.FirstToken.{first}
 
 -- a token: its kind and its bytes
 pub record Piece : Type 0 where
@@ -24,29 +24,17 @@ AreFilled ps = AllByRecursion (λ (p : Piece). 0 < length p.bytes) ps
 abbrev pub piece_of : Token → Piece
 piece_of token = record { kind = token.kind; bytes = token.text.now }
 
--- the token of one byte that ends in this state
-abbrev pub last_piece : State → ℕ → Piece
-last_piece s b = record { kind = kind_of s.inside; bytes = b ∷ [] }
+-- a token that is found at the beginning of a text
+abbrev pub found_in : List ℕ → FirstToken → Piece
+found_in text token = record { kind = token.kind; bytes = take token.len text }
 
--- the tokens with one more byte at the front of the first token
-abbrev pub onto : ℕ → List Piece → List Piece
-onto b [] = []
-onto b (p ∷ ps) = record { kind = p.kind; bytes = b ∷ p.bytes } ∷ ps
-
--- The tokens of a byte and the text after it, given the state after the byte. Ten bytes decide whether a token goes on
--- or ends.
-abbrev pub tokens_from : State → ℕ → List ℕ → List Piece
-tokens_from s a [] = last_piece s a ∷ []
-tokens_from s a (b ∷ bs) = elim (stay s (take 10 (b ∷ bs))) [
-  | None ↦ last_piece s a ∷ tokens_from (begin s.behind (take 10 (b ∷ bs))) b bs
-  | Some t ↦ onto a (tokens_from t b bs)
-]
+-- The tokens of a text without its first n bytes: the one that is found first, and those of the text after it.
+abbrev pub cut : (Behind → List ℕ → FirstToken) → ℕ → Behind → List ℕ → List Piece
+cut find n before [] = []
+cut find zero before (b ∷ bs) =
+    let token = find before (b ∷ bs) in found_in (b ∷ bs) token ∷ cut find (token.len - 1) token.behind bs
+cut find (suc n) before (b ∷ bs) = cut find n before bs
 
 -- the tokens of a text, given what is before the text
-abbrev pub tokens_behind : Behind → List ℕ → List Piece
-tokens_behind behind [] = []
-tokens_behind behind (b ∷ bs) = tokens_from (begin behind (take 10 (b ∷ bs))) b bs
-
--- the tokens of a text from its beginning
-abbrev pub tokens : List ℕ → List Piece
-tokens text = tokens_behind LineStart text
+abbrev pub tokens : Mode → Behind → List ℕ → List Piece
+tokens mode before text = cut (first mode) 0 before text

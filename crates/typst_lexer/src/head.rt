@@ -1,18 +1,23 @@
 //! The first token of a text, in each mode.
-ghost use Rattle.std.specs.Prelude.{ℕ, ◌≡◌, ◌+◌, ◌^◌, ◌<◌, ◌≤◌, List, length, take};
+ghost use Rattle.std.specs.Prelude.{true, false, if◌then◌else◌, nat_le, ℕ, ◌≡◌, ◌+◌, ◌^◌, ◌<◌, ◌≤◌, List, length, take};
 ghost use Rattle.std.specs.Str.{IsCharBoundary};
 ghost use Rattle.typst_lexer.specs.declared.mode.Mode.{Mode};
-ghost use Rattle.typst_lexer.specs.declared.state.Behind.{Behind};
-ghost use Rattle.typst_lexer.specs.Blocks.{count};
-ghost use Rattle.typst_lexer.specs.FirstToken.{accepts, begin_in, first, run_of};
+ghost use Rattle.typst_lexer.specs.declared.place.Behind.{Behind};
+ghost use Rattle.std.specs.Char.{is_whitespace};
+ghost use Rattle.typst_lexer.specs.declared.token.TokenKind.{TokenKind};
+ghost use Rattle.typst_lexer.specs.Characters.{begins, goes_on};
+ghost use Rattle.typst_lexer.specs.Classes.{begins_char, is_blank};
+ghost use Rattle.typst_lexer.specs.Spaces.{is_markup, newlines, run_len};
+ghost use Rattle.typst_lexer.specs.FirstToken.{first, run_of};
+ghost use Rattle.typst_lexer.specs.Machine.{accepts};
 ghost use Rattle.typst_lexer.specs.Runs.{grown};
 
 use crate::AHEAD;
+use crate::machine::{accepts, begin, kind_of, stay};
 use crate::mode::Mode;
-use crate::state::{Behind, State};
-use crate::steps::{begin, kind_of, stay};
+use crate::place::{Behind, Reading};
 use crate::token::TokenKind;
-use typst_scanner::window;
+use crate::window::window;
 
 /// The first token of a text.
 #[derive(Clone, Copy, Debug, PartialEq, Eq, Hash)]
@@ -36,27 +41,11 @@ pub struct Run {
     /// How many bytes the longest beginning has that it accepts.
     pub len: usize,
     /// Its state after that beginning.
-    pub last: State,
-}
-
-/// Whether a token may end in the state.
-fn accepts(_state: State) -> bool
-    ensures { result ≡ accepts _state }
-{
-    true
-}
-
-/// The state after the first byte of a token.
-fn begin_in(mode: Mode, behind: Behind, window: &[u8]) -> State
-    ensures { result ≡ begin_in mode behind window.now }
-{
-    match mode {
-        Mode::Markup => begin(behind, window),
-    }
+    pub last: Reading,
 }
 
 /// The run with one more byte, after which the machine is in this state.
-fn grown(run: Run, state: State) -> Run
+fn grown(run: Run, state: Reading) -> Run
     requires { run.passed + 1 < 2 ^ 64 }
     ensures { result ≡ grown accepts run state }
 {
@@ -81,8 +70,9 @@ fn run_of(mode: Mode, behind: Behind, bytes: &[u8]) -> Run
     requires { 0 < length bytes.now }
     ensures run { result ≡ run_of mode behind bytes.now }
     ensures within { result.passed ≤ length bytes.now }
+    ensures len { result.len ≤ length bytes.now }
 {
-    let mut state = begin_in(mode, behind, window(bytes, 0, AHEAD));
+    let mut state = begin(mode, behind, window(bytes, 0, AHEAD));
     let mut run = Run {
         passed: 1,
         len: 1,
@@ -98,7 +88,22 @@ fn run_of(mode: Mode, behind: Behind, bytes: &[u8]) -> Run
     run
 }
 
-#[tactic(auto, using(crate::proofs::FirstTokens::first_boundary))]
+/// The first token of bytes of which there is one at least, in a mode, given what is directly before them. It takes a
+/// step for each byte that is looked at.
+pub fn token_of_bytes(mode: Mode, behind: Behind, bytes: &[u8]) -> FirstToken
+    requires { 0 < length bytes.now }
+    ensures { result ≡ first mode behind bytes.now }
+{
+    let run = run_of(mode, behind, bytes);
+    FirstToken {
+        kind: kind_of(run.last.place, &bytes[..run.len]),
+        len: run.len,
+        look: run.passed + AHEAD,
+        behind: run.last.behind,
+    }
+}
+
+#[tactic(auto, using(crate::proofs::FirstTokens::first_boundary, crate::proofs::FirstTokens::first_looks))]
 /// The first token of a text that isn't empty, in a mode, given what is directly before the text. It takes a step for
 /// each byte that is looked at.
 pub fn first_token(mode: Mode, behind: Behind, text: &str) -> FirstToken
@@ -107,13 +112,7 @@ pub fn first_token(mode: Mode, behind: Behind, text: &str) -> FirstToken
     ensures boundary { IsCharBoundary text.now result.len }
     ensures look { result.look ≤ length text.now + 10 }
 {
-    let run = run_of(mode, behind, text.as_bytes());
-    FirstToken {
-        kind: kind_of(run.last.inside),
-        len: run.len,
-        look: run.passed + AHEAD,
-        behind: run.last.behind,
-    }
+    token_of_bytes(mode, behind, text.as_bytes())
 }
 
 /// The first token of a text that isn't empty has at least one byte, and ends within the text.
@@ -136,4 +135,19 @@ pub fn first_tokens_are_local()
     ensures { (mode : Mode) (behind : Behind) (text other : List ℕ)
         → take (first mode behind text).look text ≡ take (first mode behind text).look other
         → first mode behind text ≡ first mode behind other }
+{}
+
+/// White space of code and math is the longest run.
+pub fn white_space_is_the_longest_run()
+    ensures { (mode : Mode) (behind : Behind) (text : List ℕ) → is_markup mode ≡ false
+        → begins_char is_whitespace text ≡ true
+        → ((first mode behind text).kind ≡ TokenKind.Space)
+        × ((first mode behind text).len ≡ run_len is_whitespace text) }
+{}
+
+/// White space of markup is the longest run of blanks, and a `Parbreak` exactly if it has two newlines or more.
+pub fn blanks_are_the_longest_run()
+    ensures { (behind : Behind) (text : List ℕ) → begins goes_on text ≡ false → begins_char is_blank text ≡ true
+        → ((first Mode.Markup behind text).kind ≡ (if nat_le 2 (newlines 0 text) then TokenKind.Parbreak else TokenKind.Space))
+        × ((first Mode.Markup behind text).len ≡ run_len is_blank text) }
 {}

@@ -67,9 +67,9 @@ pub enum TokenKind {
     Semicolon,
     /// `:`.
     Colon,
-    /// A dot of code or math, but not directly before a name of code.
+    /// A dot, but not directly before a name, in math a name of math.
     Dot,
-    /// A dot directly before a name of code.
+    /// A dot directly before a name, in math a name of math.
     Field,
     /// `..`.
     Dots,
@@ -163,8 +163,6 @@ pub enum TokenKind {
     MathLetter,
     /// A name of math, which has more than one letter.
     MathIdent,
-    /// A name of math with the names of fields, each after a dot.
-    MathFieldAccess,
     /// A shorthand of math, but neither `[|` nor `|]`.
     MathShorthand,
     /// `[|`, which opens as a delimiter of math.

@@ -76,7 +76,7 @@ fn code_of_one(text: &[u8]) -> Option<u32>
 
 /// The first character, if its bytes are all there.
 #[tactic(auto, using(crate::proofs::FirstCodes::first_code_is))]
-fn first_code(text: &[u8]) -> Option<u32>
+pub fn first_code(text: &[u8]) -> Option<u32>
     ensures { result ≡ slice_get (chars text.now) 0 }
 {
     code_of_one(text)

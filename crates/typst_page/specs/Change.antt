@@ -35,12 +35,12 @@ pub record IsAmong (olds news : List Tree) (from to : ℕ) (change : Change) : T
   pub changed : change.changed ≡ length (slice_range news from to) - same_first olds news from to - same_last olds news from to
   pub behind : change.behind ≡ (length news - to) + same_last olds news from to
 
--- the change is among the new children that end after the byte `start` and begin before the byte `end`
+-- the change is among the new children from the byte `start` up to the byte `end`, also those without a text
 pub record IsChange (olds news : List Tree) (start end : ℕ) (change : Change) : Type 0 where
   pub from : ℕ
   pub to : ℕ
-  pub first : EndBy start news from
-  pub last : BeginBefore end news to
+  pub first : BeginBefore start news from
+  pub last : EndBy end news to
   pub among : IsAmong olds news from to change
 
 -- where the window of a turn begins: 0, 1, 2, 4, .. children before the change, or at the first child

@@ -53,7 +53,7 @@ pub fn push_step<'a, R: Files + Print>(
     shown: &Shown<'_>,
     done: Option<Done<'_>>,
 ) -> Result<(), Problem<'a>> {
-    let step = Step::new(alloc, page.steps, shown, done.map(|done| done.report))?;
+    let mut step = Step::new(alloc, page.steps, shown, done.map(|done| done.report))?;
     page.steps = page.steps.saturating_add(1);
     if let Some(
         Done {
@@ -64,7 +64,8 @@ pub fn push_step<'a, R: Files + Print>(
     {
         push_numbers(&mut page.text, report, &edited)?;
     }
-    push_reports(alloc, &mut page.text, &step)?;
+    let listed = push_reports(alloc, &mut page.text, &step)?;
+    step.link(alloc, listed)?;
     page.text
         .push_str("<div class=\"pair\">\n<div class=\"tree\">\n")?;
     let part = push_nodes(alloc, page, &step)?;

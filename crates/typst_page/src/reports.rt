@@ -16,28 +16,32 @@ const MOST_BYTES: usize = 100_000;
 /// How many characters of a message or a hint are shown.
 const MOST_CHARS: usize = 500;
 
-/// Adds the errors and then the warnings, each with links to its place in the text and in the tree.
+/// Adds the errors and then the warnings, each with links to its place in the text and in the tree. Returns how many of
+/// them are listed.
 pub(crate) fn push_reports(
     alloc: Global,
     out: &mut String,
     step: &Step<'_>,
-) -> Result<(), AllocError> {
+) -> Result<usize, AllocError> {
     if step.found.is_empty() {
-        return Ok(());
+        return Ok(0);
     }
     let lines = Lines::new(alloc, step.shown.text)?;
     out.push_str("<ul class=\"reports\">\n")?;
     let begin = out.len();
+    let mut listed = step.found.len();
     for (index, found) in step.found.iter().enumerate() {
         if out.len().saturating_sub(begin) > MOST_BYTES {
             let more = step.found.len().saturating_sub(index);
             writeln!(out, "<li>and {more} more</li>")?;
+            listed = index;
             break;
         }
         let place = place_in(&lines, &step.shown, found);
         push_report(out, step, found, place)?;
     }
-    out.push_str("</ul>\n")
+    out.push_str("</ul>\n")?;
+    Ok(listed)
 }
 
 /// Adds an error or a warning.

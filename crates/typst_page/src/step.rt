@@ -18,7 +18,7 @@ pub(crate) struct Step<'s> {
     pub(crate) places: Vec<LineColumn>,
     /// The errors and then the warnings.
     pub(crate) found: Vec<SyntaxDiagnostic>,
-    /// The indices of the rows that these are about, in order. A row may come twice.
+    /// The indices of the rows that the listed ones of these are about, in order. A row may come twice.
     pub(crate) reported: Vec<usize>,
 }
 
@@ -36,13 +36,6 @@ impl<'s> Step<'s> {
         for warning in warnings {
             found.push(warning)?;
         }
-        let mut reported = Vec::new(alloc);
-        for report in &found {
-            if let Some(index) = row_of(&rows, report) {
-                reported.push(index)?;
-            }
-        }
-        reported.sort()?;
         Ok(Step {
             number,
             shown: *shown,
@@ -50,8 +43,21 @@ impl<'s> Step<'s> {
             rows,
             places,
             found,
-            reported,
+            reported: Vec::new(alloc),
         })
+    }
+
+    /// Notes the rows that the first errors and warnings are about, so many as the page lists. Links lead to these rows.
+    pub(crate) fn link(&mut self, alloc: Global, listed: usize) -> Result<(), AllocError> {
+        let mut reported = Vec::new(alloc);
+        for report in self.found.iter().take(listed) {
+            if let Some(index) = row_of(&self.rows, report) {
+                reported.push(index)?;
+            }
+        }
+        reported.sort()?;
+        self.reported = reported;
+        Ok(())
     }
 }
 

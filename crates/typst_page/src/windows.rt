@@ -19,14 +19,15 @@ pub struct Change {
 
 impl Change {
     /// The change that an edit made between two nodes: the children whose text was parsed anew, except those at the
-    /// beginning and at the end that are what they were. The bytes are those of the new node's text.
+    /// beginning and at the end that are what they were. The bytes are those of the new node's text. A child without a
+    /// text is one of these bytes if it is at their beginning or end.
     pub fn between(old: &SyntaxNode, new: &SyntaxNode, reparsed: &Range<usize>) -> Change
         ensures { IsChange (trees old.now.children) (trees new.now.children) reparsed.now.start reparsed.now.end result }
     {
         let old_children = old.child_slice();
         let new_children = new.child_slice();
-        let from = ending_by(new, reparsed.start);
-        let to = beginning_before(new, reparsed.end);
+        let from = beginning_before(new, reparsed.start);
+        let to = ending_by(new, reparsed.end);
         let behind = new_children.len() - to;
         let old_parsed = part(
             old_children,

@@ -11,9 +11,9 @@ use Rattle.typst_parser.proofs.RawLaws.{raw_levels}
 use Rattle.typst_parser.proofs.Retags.{retag_high}
 use Rattle.typst_parser.proofs.Tops.{high_tops, one_top, tops, tops_onto}
 use Rattle.typst_parser.proofs.Uniques.{unique_high}
-use Rattle.typst_rows.specs.declared.expectation.Expectation.{Expectation}
-use Rattle.typst_rows.specs.declared.maps.Map.{Map}
-use Rattle.typst_rows.specs.declared.row.Unique.{Unique}
+use Rattle.typst_grammar.specs.declared.expectation.Expectation.{Expectation}
+use Rattle.typst_grammar.specs.declared.maps.Map.{Map}
+use Rattle.typst_grammar.specs.declared.row.Unique.{Unique}
 
 -- no tree has more levels
 pub retag_low : (map : Map) (text : List ℕ) (es : List Event) (n : ℕ) → greatest (take n (tops (retagged map text es))) ≤ greatest (take n (tops es))

@@ -10,7 +10,7 @@ use Rattle.std.proofs.lemmas.Str.{IsCharBoundary-after_ascii, IsCharBoundary-at_
 use lib.Dec.{ltb}
 use lib.Utf8.{encode, encodes, next, scalar, scalars}
 use Rattle.typst_parser.specs.Lines.{is_wide_space, line_len, newline_len, white_len, whites_len}
-use Rattle.typst_tokens.specs.Characters.{begins_with}
+use Rattle.typst_lexer.specs.Characters.{begins_with}
 
 both : (a b : Bool) → (a && b) ≡ true → (a ≡ true) × (b ≡ true)
 both true b e = (refl, e)

@@ -25,21 +25,21 @@ use Rattle.typst_parser.specs.declared.fault.Fault.TheVariants as faults
 use Rattle.typst_parser.specs.declared.next.Next.{Next}
 use Rattle.typst_parser.specs.declared.next.Place.{Place}
 use Rattle.typst_parser.specs.declared.stack.Frame.{Frame}
-use Rattle.typst_rows.specs.Row.{Row}
-use Rattle.typst_rows.specs.declared.expectation.Expectation.{Expectation}
-use Rattle.typst_rows.specs.declared.row.Action.{Action}
-use Rattle.typst_rows.specs.declared.row.Action.TheVariants as actions
-use Rattle.typst_rows.specs.declared.row.Call.{Call}
-use Rattle.typst_rows.specs.declared.row.Mode.{Mode as RowMode}
-use Rattle.typst_rows.specs.declared.row.Take.{Take}
-use Rattle.typst_rows.specs.declared.row.Take.TheVariants as takes
-use Rattle.typst_rows.specs.declared.rows.Class.TheVariants.{End}
-use Rattle.typst_tokens.specs.FirstToken.{first}
-use Rattle.typst_tokens.specs.declared.head.FirstToken.{FirstToken}
-use Rattle.typst_tokens.specs.declared.mode.Mode.{Mode}
-use Rattle.typst_tokens.specs.declared.token.TokenKind.{TokenKind}
-use Rattle.typst_tokens.specs.declared.token.TokenKind.TheVariants as tokens
-use Rattle.typst_tokens.proofs.FirstTokens.{first_boundary}
+use Rattle.typst_grammar.specs.Row.{Row}
+use Rattle.typst_grammar.specs.declared.expectation.Expectation.{Expectation}
+use Rattle.typst_grammar.specs.declared.row.Action.{Action}
+use Rattle.typst_grammar.specs.declared.row.Action.TheVariants as actions
+use Rattle.typst_grammar.specs.declared.row.Call.{Call}
+use Rattle.typst_grammar.specs.declared.row.Mode.{Mode as RowMode}
+use Rattle.typst_grammar.specs.declared.row.Take.{Take}
+use Rattle.typst_grammar.specs.declared.row.Take.TheVariants as takes
+use Rattle.typst_grammar.specs.declared.rows.Class.TheVariants.{End}
+use Rattle.typst_lexer.specs.FirstToken.{first}
+use Rattle.typst_lexer.specs.declared.head.FirstToken.{FirstToken}
+use Rattle.typst_lexer.specs.declared.mode.Mode.{Mode}
+use Rattle.typst_lexer.specs.declared.token.TokenKind.{TokenKind}
+use Rattle.typst_lexer.specs.declared.token.TokenKind.TheVariants as tokens
+use Rattle.typst_lexer.proofs.FirstTokens.{first_boundary}
 use Rattle.typst_parser.proofs.Uniques.{unique_bytes, unique_cut}
 use Rattle.typst_parser.proofs.RawCuts.{raw_cut_in}
 use Rattle.typst_parser.proofs.Good.{IsGood, IsToken, act_good, acts_good, before_fits, next_settled, placed_bytes, push_bytes, settled_good, unclosed_bytes}

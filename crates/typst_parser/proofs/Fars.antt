@@ -19,18 +19,18 @@ use Rattle.typst_parser.specs.declared.event.Event.TheVariants.{Error}
 use Rattle.typst_parser.specs.declared.fault.Fault.{Fault}
 use Rattle.typst_parser.specs.declared.fault.Fault.TheVariants as faults
 use Rattle.typst_parser.specs.declared.stack.Frame.{Frame}
-use Rattle.typst_rows.specs.Row.{Row}
-use Rattle.typst_rows.specs.declared.expectation.Expectation.{Expectation}
-use Rattle.typst_rows.specs.declared.row.Action.{Action}
-use Rattle.typst_rows.specs.declared.row.Action.TheVariants as actions
-use Rattle.typst_rows.specs.declared.row.Call.{Call}
-use Rattle.typst_rows.specs.declared.row.Mode.{Mode as RowMode}
-use Rattle.typst_rows.specs.declared.row.Take.{Take}
-use Rattle.typst_rows.specs.declared.row.Take.TheVariants as takes
-use Rattle.typst_rows.specs.declared.rows.Class.TheVariants.{End}
-use Rattle.typst_tokens.specs.declared.head.FirstToken.{FirstToken}
-use Rattle.typst_tokens.specs.declared.mode.Mode.{Mode}
-use Rattle.typst_tokens.specs.declared.token.TokenKind.{TokenKind}
+use Rattle.typst_grammar.specs.Row.{Row}
+use Rattle.typst_grammar.specs.declared.expectation.Expectation.{Expectation}
+use Rattle.typst_grammar.specs.declared.row.Action.{Action}
+use Rattle.typst_grammar.specs.declared.row.Action.TheVariants as actions
+use Rattle.typst_grammar.specs.declared.row.Call.{Call}
+use Rattle.typst_grammar.specs.declared.row.Mode.{Mode as RowMode}
+use Rattle.typst_grammar.specs.declared.row.Take.{Take}
+use Rattle.typst_grammar.specs.declared.row.Take.TheVariants as takes
+use Rattle.typst_grammar.specs.declared.rows.Class.TheVariants.{End}
+use Rattle.typst_lexer.specs.declared.head.FirstToken.{FirstToken}
+use Rattle.typst_lexer.specs.declared.mode.Mode.{Mode}
+use Rattle.typst_lexer.specs.declared.token.TokenKind.{TokenKind}
 
 settled_by_far : (o : Option Expectation) (s : Stack) → (settled_by o s).far ≡ s.far
 settled_by_far None s = refl

@@ -10,7 +10,7 @@ use Rattle.typst_parser.specs.declared.event.Event.{Event}
 use Rattle.typst_parser.specs.declared.fault.Fault.{Fault}
 use Rattle.typst_parser.specs.declared.role.Role.{Role}
 use Rattle.typst_parser.proofs.Spanning.{reverse-push}
-use Rattle.typst_rows.specs.declared.row.Unique.{Unique}
+use Rattle.typst_grammar.specs.declared.row.Unique.{Unique}
 
 found_more : (what : Unique) (role : Role) (roles : List Role) (text : List ℕ) (e : Event) (back : List Event)
     → found_back what (role ∷ roles) text (e ∷ back) ≡ found_in what role (kind_of e) (last_some (bytes_of e) text) ∷ found_back what (roles_below role e back ++ roles) (but_last (bytes_of e) text) back
@@ -115,15 +115,3 @@ past_all (x ∷ xs) (suc n) low = past_all xs n (omega arith)
 pub take_all : (faults : List (Option Fault)) (at end : ℕ) (before taken whole : List Event) → length faults ≤ at → taken ++ faulted_back 0 end (drop at faults) before ≡ whole → taken ++ before ≡ whole
 take_all faults at end before taken whole low so_far =
     ap (λ es. taken ++ es) (sym (faulted_end end before) ∙ sym (ap (λ fs. faulted_back 0 end fs before) (past_all faults at low))) ∙ so_far
-
--- one fault more
-pub faults_next : {X : Type 0} (f : X → Option Found) (xs rest : List X) (i : ℕ) (d : X) (one : Option Fault) (faults new whole : List (Option Fault)) → i < length xs
-    → one ≡ fault_among (f (get_or xs i d)) (map f rest) → rest ≡ drop (i + 1) xs → new ≡ faults ++ one ∷ []
-    → faults ++ faults_of (map f (drop i xs)) ≡ whole → new ++ faults_of (map f (drop (i + 1) xs)) ≡ whole
-faults_next f xs rest i d one faults new whole within one_is rest_is new_is so_far =
-    let split : drop i xs ≡ get_or xs i d ∷ drop (i + 1) xs = drop-cons xs i d within ∙ ap (λ n. get_or xs i d ∷ drop n xs) (sym (add-one i)) in
-    ap (λ fs. fs ++ faults_of (map f (drop (i + 1) xs))) new_is
-    ∙ append_assoc faults (one ∷ []) (faults_of (map f (drop (i + 1) xs)))
-    ∙ ap (λ o. faults ++ (o ∷ faults_of (map f (drop (i + 1) xs)))) (one_is ∙ ap (λ ys. fault_among (f (get_or xs i d)) (map f ys)) rest_is)
-    ∙ sym (ap (λ ys. faults ++ faults_of (map f ys)) split)
-    ∙ so_far

@@ -14,7 +14,7 @@ use Rattle.typst_parser.specs.Rows.{Table}
 use Rattle.typst_parser.specs.Stack.{Stack, start}
 use Rattle.typst_parser.specs.Steps.{steps}
 use Rattle.typst_parser.specs.declared.event.Event.{Event}
-use Rattle.typst_tokens.proofs.Runs.{take_less}
+use Rattle.typst_lexer.proofs.Runs.{take_less}
 use Rattle.typst_parser.proofs.Cutting.{IsCut, start_cut, steps_cut}
 use Rattle.typst_parser.proofs.Good.{IsGood}
 use Rattle.typst_parser.proofs.Growing.{grown_text, grown_within}

@@ -20,11 +20,11 @@ use Rattle.typst_parser.specs.declared.next.Next.{Next}
 use Rattle.typst_parser.specs.declared.next.Place.{Place}
 use Rattle.typst_parser.specs.declared.stack.Frame.{Frame}
 use Rattle.typst_parser.specs.declared.stack.Phase.{Phase}
-use Rattle.typst_rows.specs.declared.expectation.Expectation.{Expectation}
-use Rattle.typst_rows.specs.declared.row.Action.{Action}
-use Rattle.typst_rows.specs.declared.row.Action.TheVariants as actions
-use Rattle.typst_tokens.specs.declared.mode.Mode.{Mode}
-use Rattle.typst_tokens.specs.declared.token.TokenKind.{TokenKind}
+use Rattle.typst_grammar.specs.declared.expectation.Expectation.{Expectation}
+use Rattle.typst_grammar.specs.declared.row.Action.{Action}
+use Rattle.typst_grammar.specs.declared.row.Action.TheVariants as actions
+use Rattle.typst_lexer.specs.declared.mode.Mode.{Mode}
+use Rattle.typst_lexer.specs.declared.token.TokenKind.{TokenKind}
 use Rattle.typst_parser.proofs.Uniques.{unique_bytes}
 use Rattle.typst_parser.proofs.Mistaking.{mistaken_bytes}
 use Rattle.typst_parser.proofs.Retags.{retag_bytes}

@@ -1,18 +1,18 @@
 -- The trees that events grow: their text, their number and their levels.
-use Rattle.std.proofs.Common.{◌≡◌, ℕ, zero, suc, ◌+◌, ◌-◌, ◌≤◌, ◌<◌, List, [], ◌∷◌, ◌++◌, length, take, drop, get_or, refl, sym, ap, subst, ◌∙◌, add-one, length-append, arith}
+use Rattle.std.proofs.Common.{◌≡◌, ℕ, zero, suc, ◌+◌, ◌-◌, ◌≤◌, ◌<◌, List, [], ◌∷◌, ◌++◌, length, take, drop, get_or, Option, Some, None, refl, sym, ap, subst, ◌∙◌, add-one, length-append, arith}
 use Rattle.std.specs.Str.{IsCharBoundary}
 use Rattle.std.proofs.lemmas.List.{append-nil, drop-drop, length-take, length-drop, take-append-drop}
 use Rattle.std.proofs.Math.Seq.{drop-cons, take-add}
 use Rattle.typst_node.specs.Count.{SumsFit}
-use Rattle.typst_node.specs.Hints.{error_tree}
 use Rattle.typst_node.specs.Text.{text_of_all}
 use Rattle.typst_node.specs.Tree.{Tree, Forest, none, tree, forest, inner_tree, leaf_tree}
 use Rattle.typst_parser.specs.Depth.{AreForestWithin, AreWithin}
 use Rattle.typst_parser.specs.Events.{but_last, CanBeCutFrom, bytes, bytes_of, greatest, last_some, levels, levels_after, levels_onto, trees, trees_after, trees_onto}
-use Rattle.typst_parser.specs.Faults.{fault_text}
-use Rattle.typst_parser.specs.Growth.{grown, grown_onto, proper, with_event}
+use Rattle.typst_parser.specs.Growth.{faulty_tree, grown, grown_onto, node_tree, proper, with_event}
 use Rattle.typst_parser.specs.declared.event.Event.{Event}
+use Rattle.typst_parser.specs.Warnings.{warned_by, warning_for}
 use Rattle.typst_parser.specs.declared.event.Event.TheVariants.{Leaf, Error, Node}
+use Rattle.typst_parser.specs.declared.warning.Warning.{Warning}
 use Rattle.typst_parser.proofs.Boundaries.{boundary_in_rest}
 use Rattle.typst_parser.proofs.Texts.{Gains, gains_fits, gains_gains, node_gains, push_gains}
 
@@ -22,8 +22,8 @@ split_last n xs = take-append-drop (length xs - n) xs
 -- an event adds its piece of the text
 event_gains : (e : Event) (text : List ℕ) (ts : List Tree) → Gains (take (bytes_of e) text) ts (with_event e (take (bytes_of e) text) ts)
 event_gains (Leaf kind len) text ts = push_gains ts (leaf_tree (proper kind) (take len text)) (take len text) (append-nil (take len text))
-event_gains (Error fault len) text ts = push_gains ts (error_tree (fault_text fault (take len text)) (take len text)) (take len text) (append-nil (take len text))
-event_gains (Node kind children) text ts = subst (λ us. Gains [] us (but_last children ts ++ inner_tree (proper kind) (last_some children ts) ∷ [])) (split_last children ts) (node_gains (proper kind) (but_last children ts) (last_some children ts))
+event_gains (Error fault len) text ts = push_gains ts (faulty_tree fault (take len text)) (take len text) (append-nil (take len text))
+event_gains (Node kind children) text ts = subst (λ us. Gains [] us (but_last children ts ++ node_tree (proper kind) (last_some children ts) ∷ [])) (split_last children ts) (node_gains (proper kind) (but_last children ts) (last_some children ts))
 
 grown_gains : (ts : List Tree) (text : List ℕ) (es : List Event) → Gains (take (bytes es) text) ts (grown_onto ts text es)
 grown_gains ts text [] = record { text = sym (append-nil (text_of_all ts)); nodes = omega arith }
@@ -44,9 +44,9 @@ onto_fits ts text es = gains_fits (take (bytes es) text) ts (grown_onto ts text 
 -- the number of trees
 event_length : (e : Event) (piece : List ℕ) (ts : List Tree) → length (with_event e piece ts) ≡ trees_after e (length ts)
 event_length (Leaf kind len) piece ts = omega (arith, length-append ts (leaf_tree (proper kind) piece ∷ []))
-event_length (Error fault len) piece ts = omega (arith, length-append ts (error_tree (fault_text fault piece) piece ∷ []))
+event_length (Error fault len) piece ts = omega (arith, length-append ts (faulty_tree fault piece ∷ []))
 event_length (Node kind children) piece ts =
-    omega (arith, length-append (but_last children ts) (inner_tree (proper kind) (last_some children ts) ∷ []), length-take (length ts - children) ts)
+    omega (arith, length-append (but_last children ts) (node_tree (proper kind) (last_some children ts) ∷ []), length-take (length ts - children) ts)
 
 onto_length : (ts : List Tree) (text : List ℕ) (es : List Event) → length (grown_onto ts text es) ≡ trees_onto (length ts) es
 onto_length ts text [] = refl
@@ -108,15 +108,22 @@ each_all m [] (t ∷ ts) low w = absurd w
 each_all m (n ∷ ns) [] low w = absurd w
 each_all m (n ∷ ns) (t ∷ ts) low w = join m (t ∷ []) ts (weaken n m (forest (t ∷ [])) (omega arith) w.0) (each_all m ns ts (omega arith) w.1)
 
+-- a warning is no level
+warned_within : (n : ℕ) (w : Option Warning) (t : Tree) → AreWithin n (t ∷ []) → AreWithin n (warned_by w t ∷ [])
+warned_within n None t h = h
+warned_within zero (Some w) t h = absurd h
+warned_within (suc n) (Some w) t h = h
+
 event_each : (e : Event) (piece : List ℕ) (ns : List ℕ) (ts : List Tree) → EachWithin ns ts → EachWithin (levels_after e ns) (with_event e piece ts)
 event_each (Leaf kind len) piece ns ts w = each_push ns ts 1 (leaf_tree (proper kind) piece) w (tt, tt)
-event_each (Error fault len) piece ns ts w = each_push ns ts 1 (error_tree (fault_text fault piece) piece) w (tt, tt)
+event_each (Error fault len) piece ns ts w = each_push ns ts 1 (faulty_tree fault piece) w (tt, tt)
 event_each (Node kind children) piece ns ts w =
     let k : ℕ = length ts - children in
     let same : length ns - children ≡ k = ap (λ n. n - children) (each_length ns ts w) in
-    subst (λ j. EachWithin (take j ns ++ suc (greatest (drop j ns)) ∷ []) (but_last children ts ++ inner_tree (proper kind) (last_some children ts) ∷ [])) (sym same)
-    (each_push (take k ns) (take k ts) (suc (greatest (drop k ns))) (inner_tree (proper kind) (drop k ts)) (each_take k ns ts w)
-    (each_all (greatest (drop k ns)) (drop k ns) (drop k ts) (omega arith) (each_drop k ns ts w), tt))
+    subst (λ j. EachWithin (take j ns ++ suc (greatest (drop j ns)) ∷ []) (but_last children ts ++ node_tree (proper kind) (last_some children ts) ∷ [])) (sym same)
+    (each_push (take k ns) (take k ts) (suc (greatest (drop k ns))) (node_tree (proper kind) (drop k ts)) (each_take k ns ts w)
+    (warned_within (suc (greatest (drop k ns))) (warning_for (proper kind) (drop k ts)) (inner_tree (proper kind) (drop k ts))
+    (each_all (greatest (drop k ns)) (drop k ns) (drop k ts) (omega arith) (each_drop k ns ts w), tt)))
 
 onto_each : (ns : List ℕ) (ts : List Tree) (text : List ℕ) (es : List Event) → EachWithin ns ts → EachWithin (levels_onto ns es) (grown_onto ts text es)
 onto_each ns ts text [] w = w

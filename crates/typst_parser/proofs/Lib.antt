@@ -19,6 +19,7 @@ mod RawLines
 mod Retags
 mod Rising
 mod Spanning
+mod Seen
 mod Sums
 mod Texts
 mod Tops

@@ -13,22 +13,22 @@ use Rattle.typst_parser.specs.declared.event.Event.TheVariants.{Error}
 use Rattle.typst_parser.specs.declared.fault.Fault.{Fault}
 use Rattle.typst_parser.specs.declared.fault.Fault.TheVariants as faults
 use Rattle.typst_parser.specs.declared.next.Place.{Place}
-use Rattle.typst_rows.specs.Row.{Row}
-use Rattle.typst_rows.specs.declared.row.Action.{Action}
-use Rattle.typst_rows.specs.declared.row.Mode.{Mode as RowMode}
-use Rattle.typst_rows.specs.declared.row.Take.{Take}
-use Rattle.typst_rows.specs.declared.row.Take.TheVariants as takes
-use Rattle.typst_rows.specs.declared.rows.Class.TheVariants.{End}
-use Rattle.typst_tokens.specs.Characters.{begins_with}
-use Rattle.typst_tokens.specs.FirstToken.{first}
-use Rattle.typst_tokens.specs.Machine.{begin}
-use Rattle.typst_tokens.specs.White.{begins_white, is_white}
-use Rattle.typst_tokens.specs.declared.head.FirstToken.{FirstToken}
-use Rattle.typst_tokens.specs.declared.mode.Mode.{Mode}
-use Rattle.typst_tokens.specs.declared.place.Behind.{Behind}
-use Rattle.typst_tokens.specs.declared.token.TokenKind.{TokenKind}
-use Rattle.typst_tokens.proofs.FirstTokens.{first_local, first_looked, first_within}
-use Rattle.typst_tokens.proofs.Runs.{take_less}
+use Rattle.typst_grammar.specs.Row.{Row}
+use Rattle.typst_grammar.specs.declared.row.Action.{Action}
+use Rattle.typst_grammar.specs.declared.row.Mode.{Mode as RowMode}
+use Rattle.typst_grammar.specs.declared.row.Take.{Take}
+use Rattle.typst_grammar.specs.declared.row.Take.TheVariants as takes
+use Rattle.typst_grammar.specs.declared.rows.Class.TheVariants.{End}
+use Rattle.typst_lexer.specs.Characters.{begins_with}
+use Rattle.typst_lexer.specs.FirstToken.{first}
+use Rattle.typst_lexer.specs.Machine.{begin}
+use Rattle.typst_lexer.specs.White.{begins_white, is_white}
+use Rattle.typst_lexer.specs.declared.head.FirstToken.{FirstToken}
+use Rattle.typst_lexer.specs.declared.mode.Mode.{Mode}
+use Rattle.typst_lexer.specs.declared.place.Behind.{Behind}
+use Rattle.typst_lexer.specs.declared.token.TokenKind.{TokenKind}
+use Rattle.typst_lexer.proofs.FirstTokens.{first_local, first_looked, first_within}
+use Rattle.typst_lexer.proofs.Runs.{take_less}
 use Rattle.typst_parser.proofs.Fars.{acts_far, act_far, called_far, eaten_far, followed_far, looked_in_far, looks_far, refused_known, skipped_far, steps_far, taken_far}
 use Rattle.typst_parser.proofs.Good.{IsGood, IsToken, act_good, acts_good}
 use Rattle.typst_parser.proofs.Placing.{between_good, known_good, look_long, looked_good, looking_good, read_good, spaced_good, step_good, taken_good}

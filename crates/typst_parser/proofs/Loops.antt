@@ -6,7 +6,7 @@ use Rattle.typst_parser.specs.Rows.{Table}
 use Rattle.typst_parser.specs.Stack.{Stack}
 use Rattle.typst_parser.specs.Steps.{looked, looks, refused, step, steps}
 use Rattle.typst_parser.specs.declared.fault.Fault.TheVariants.{NoRow}
-use Rattle.typst_tokens.specs.declared.mode.Mode.{Mode}
+use Rattle.typst_lexer.specs.declared.mode.Mode.{Mode}
 
 -- one turn of those that are left
 left_is : (most i : ℕ) → i < most → most - i ≡ suc (most - (i + 1))

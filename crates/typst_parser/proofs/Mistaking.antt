@@ -10,8 +10,8 @@ use Rattle.typst_parser.specs.declared.fault.Fault.TheVariants as faults
 use Rattle.typst_parser.proofs.Heights.{bytes-reverse, heights, high_length, levels_high, levels_length, NoHigher, reverse-cons, same_high}
 use Rattle.typst_parser.proofs.Retags.{CutBack, cut_drop, of_back, step_bytes, step_cut, step_high, to_back}
 use Rattle.typst_parser.proofs.Spanning.{reverse-but_last}
-use Rattle.typst_rows.specs.declared.change.Effect.TheVariants as effects
-use Rattle.typst_rows.specs.declared.expectation.Expectation.{Expectation}
+use Rattle.typst_grammar.specs.declared.change.Effect.TheVariants as effects
+use Rattle.typst_grammar.specs.declared.expectation.Expectation.{Expectation}
 
 -- a number below two limits, of which the second is the lower one
 pub capped_twice : (n end : ℕ) → end ≤ 0xFFFF_FFFF_FFFF_FFFF → min (min n 0xFFFF_FFFF_FFFF_FFFF) end ≡ min n end

@@ -16,21 +16,21 @@ use Rattle.typst_parser.specs.declared.event.Event.TheVariants.{Error, Leaf}
 use Rattle.typst_parser.specs.declared.fault.Fault.{Fault}
 use Rattle.typst_parser.specs.declared.fault.Fault.TheVariants as faults
 use Rattle.typst_parser.specs.declared.next.Next.{Next}
-use Rattle.typst_rows.specs.Row.{Row}
-use Rattle.typst_rows.specs.declared.row.Call.{Call}
-use Rattle.typst_rows.specs.declared.row.Mode.{Mode as RowMode}
-use Rattle.typst_rows.specs.declared.row.Take.{Take}
-use Rattle.typst_rows.specs.declared.row.Take.TheVariants as takes
-use Rattle.typst_rows.specs.declared.rows.Class.TheVariants.{End}
-use Rattle.typst_tokens.specs.FirstToken.{first}
-use Rattle.typst_tokens.specs.Machine.{accepts, begin, stay}
-use Rattle.typst_tokens.specs.declared.place.Behind.{Behind}
-use Rattle.typst_tokens.proofs.Runs.{begun_len}
-use Rattle.typst_tokens.specs.declared.head.FirstToken.{FirstToken}
-use Rattle.typst_tokens.specs.declared.mode.Mode.{Mode}
-use Rattle.typst_tokens.specs.declared.token.TokenKind.{TokenKind}
-use Rattle.typst_tokens.specs.declared.token.TokenKind.TheVariants as tokens
-use Rattle.typst_tokens.proofs.FirstTokens.{first_looked, first_within}
+use Rattle.typst_grammar.specs.Row.{Row}
+use Rattle.typst_grammar.specs.declared.row.Call.{Call}
+use Rattle.typst_grammar.specs.declared.row.Mode.{Mode as RowMode}
+use Rattle.typst_grammar.specs.declared.row.Take.{Take}
+use Rattle.typst_grammar.specs.declared.row.Take.TheVariants as takes
+use Rattle.typst_grammar.specs.declared.rows.Class.TheVariants.{End}
+use Rattle.typst_lexer.specs.FirstToken.{first}
+use Rattle.typst_lexer.specs.Machine.{accepts, begin, stay}
+use Rattle.typst_lexer.specs.declared.place.Behind.{Behind}
+use Rattle.typst_lexer.proofs.Runs.{begun_len}
+use Rattle.typst_lexer.specs.declared.head.FirstToken.{FirstToken}
+use Rattle.typst_lexer.specs.declared.mode.Mode.{Mode}
+use Rattle.typst_lexer.specs.declared.token.TokenKind.{TokenKind}
+use Rattle.typst_lexer.specs.declared.token.TokenKind.TheVariants as tokens
+use Rattle.typst_lexer.proofs.FirstTokens.{first_looked, first_within}
 use Rattle.typst_parser.proofs.RawLaws.{raw_bytes}
 use Rattle.typst_parser.proofs.Good.{IsGood, IsToken, acts_good, ended_good, next_settled, placed_bytes, push_bytes, settled_good, bytes-append}
 

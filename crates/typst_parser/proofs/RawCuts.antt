@@ -19,12 +19,12 @@ use Rattle.typst_parser.proofs.Chars.{line_end_boundary, newline_end_boundary, w
 use Rattle.typst_parser.proofs.Heights.{bytes-append}
 use Rattle.typst_parser.proofs.RawLaws.{AreLines, close_within, dedented_chain, IsChain, lang_within, lines_are, open_within, plain_chain, raw_bytes}
 use Rattle.typst_parser.proofs.Retags.{from-append}
-use Rattle.typst_tokens.specs.FirstToken.{first}
-use Rattle.typst_tokens.specs.declared.mode.Mode.TheVariants.{Code}
-use Rattle.typst_tokens.specs.declared.place.Behind.TheVariants.{At}
-use Rattle.typst_tokens.specs.declared.token.TokenKind.{TokenKind}
-use Rattle.typst_tokens.specs.declared.token.TokenKind.TheVariants as tokens
-use Rattle.typst_tokens.proofs.FirstTokens.{first_boundary}
+use Rattle.typst_lexer.specs.FirstToken.{first}
+use Rattle.typst_lexer.specs.declared.mode.Mode.TheVariants.{Code}
+use Rattle.typst_lexer.specs.declared.place.Behind.TheVariants.{At}
+use Rattle.typst_lexer.specs.declared.token.TokenKind.{TokenKind}
+use Rattle.typst_lexer.specs.declared.token.TokenKind.TheVariants as tokens
+use Rattle.typst_lexer.proofs.FirstTokens.{first_boundary}
 
 -- what may be cut in the front of a text may be cut in the text
 front_boundary : (bs : List ℕ) (n k : ℕ) → IsCharBoundary bs n → IsCharBoundary (take n bs) k → IsCharBoundary bs k

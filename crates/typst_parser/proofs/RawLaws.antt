@@ -12,14 +12,14 @@ use Rattle.typst_parser.specs.Last.{last_of, last_was}
 use Rattle.typst_parser.specs.Lines.{is_blank, Line, line_len, lines_from, newline_len}
 use Rattle.typst_parser.specs.Raw.{if_name, block_pieces, body_events, close_len, cut_pieces, dedent, dedented, first_space, inner_events, is_marked, kept_lines, lang_len, open_len, Piece, piece_behind, pieces_from, plain_pieces, raw_events, raw_parts, shortened, some_lang, some_trimmed, trimmed_end, is_backtick}
 use Rattle.typst_parser.specs.declared.event.Event.{Event}
-use Rattle.typst_tokens.specs.FirstToken.{first}
-use Rattle.typst_tokens.specs.declared.mode.Mode.TheVariants.{Code}
-use Rattle.typst_tokens.specs.declared.place.Behind.TheVariants.{At}
-use Rattle.typst_tokens.specs.declared.token.TokenKind.{TokenKind}
-use Rattle.typst_tokens.specs.declared.token.TokenKind.TheVariants as tokens
-use Rattle.typst_tokens.proofs.FirstTokens.{first_within}
+use Rattle.typst_lexer.specs.FirstToken.{first}
+use Rattle.typst_lexer.specs.declared.mode.Mode.TheVariants.{Code}
+use Rattle.typst_lexer.specs.declared.place.Behind.TheVariants.{At}
+use Rattle.typst_lexer.specs.declared.token.TokenKind.{TokenKind}
+use Rattle.typst_lexer.specs.declared.token.TokenKind.TheVariants as tokens
+use Rattle.typst_lexer.proofs.FirstTokens.{first_within}
 use Rattle.typst_parser.specs.declared.event.Event.TheVariants.{Leaf, Error, Node}
-use Rattle.typst_tokens.specs.Characters.{begins_with}
+use Rattle.typst_lexer.specs.Characters.{begins_with}
 use Rattle.typst_parser.proofs.Chars.{begins_length, line_within}
 use Rattle.typst_parser.proofs.Heights.{bytes-append, levels-push}
 

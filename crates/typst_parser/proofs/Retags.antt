@@ -11,10 +11,10 @@ use Rattle.typst_parser.specs.declared.event.Event.{Event}
 use Rattle.typst_parser.specs.declared.event.Event.TheVariants.{Leaf, Error, Node}
 use Rattle.typst_parser.specs.declared.fault.Fault.TheVariants as faults
 use Rattle.typst_parser.proofs.Heights.{bytes-append, bytes-reverse, height_after, heights, high_after, high_length, levels_high, levels_length, NoHigher, reverse-cons, same_high, span_heights}
-use Rattle.typst_rows.specs.declared.change.Effect.{Effect}
-use Rattle.typst_rows.specs.declared.change.Effect.TheVariants as effects
-use Rattle.typst_rows.specs.declared.expectation.Expectation.{Expectation}
-use Rattle.typst_rows.specs.declared.maps.Map.{Map}
+use Rattle.typst_grammar.specs.declared.change.Effect.{Effect}
+use Rattle.typst_grammar.specs.declared.change.Effect.TheVariants as effects
+use Rattle.typst_grammar.specs.declared.expectation.Expectation.{Expectation}
+use Rattle.typst_grammar.specs.declared.maps.Map.{Map}
 
 parent_has : (e : Event) (back : List Event) → is_parent e back ≡ true → (0 < children_of e) × (children_of e ≤ length back)
 parent_has e back is = both (children_of e) (length back) is

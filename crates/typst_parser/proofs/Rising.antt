@@ -22,19 +22,19 @@ use Rattle.typst_parser.specs.declared.event.Event.TheVariants.{Error, Leaf, Nod
 use Rattle.typst_parser.specs.declared.fault.Fault.{Fault}
 use Rattle.typst_parser.specs.declared.fault.Fault.TheVariants as faults
 use Rattle.typst_parser.specs.declared.stack.Frame.{Frame}
-use Rattle.typst_rows.specs.Row.{Row}
-use Rattle.typst_rows.specs.declared.expectation.Expectation.{Expectation}
-use Rattle.typst_rows.specs.declared.row.Action.{Action}
-use Rattle.typst_rows.specs.declared.row.Action.TheVariants as actions
-use Rattle.typst_rows.specs.declared.row.Call.{Call}
-use Rattle.typst_rows.specs.declared.row.Mode.{Mode as RowMode}
-use Rattle.typst_rows.specs.declared.row.Take.{Take}
-use Rattle.typst_rows.specs.declared.row.Take.TheVariants as takes
-use Rattle.typst_rows.specs.declared.rows.Class.TheVariants.{End}
-use Rattle.typst_tokens.specs.declared.head.FirstToken.{FirstToken}
-use Rattle.typst_tokens.specs.declared.mode.Mode.{Mode}
-use Rattle.typst_tokens.specs.declared.token.TokenKind.{TokenKind}
-use Rattle.typst_tokens.specs.declared.token.TokenKind.TheVariants as tokens
+use Rattle.typst_grammar.specs.Row.{Row}
+use Rattle.typst_grammar.specs.declared.expectation.Expectation.{Expectation}
+use Rattle.typst_grammar.specs.declared.row.Action.{Action}
+use Rattle.typst_grammar.specs.declared.row.Action.TheVariants as actions
+use Rattle.typst_grammar.specs.declared.row.Call.{Call}
+use Rattle.typst_grammar.specs.declared.row.Mode.{Mode as RowMode}
+use Rattle.typst_grammar.specs.declared.row.Take.{Take}
+use Rattle.typst_grammar.specs.declared.row.Take.TheVariants as takes
+use Rattle.typst_grammar.specs.declared.rows.Class.TheVariants.{End}
+use Rattle.typst_lexer.specs.declared.head.FirstToken.{FirstToken}
+use Rattle.typst_lexer.specs.declared.mode.Mode.{Mode}
+use Rattle.typst_lexer.specs.declared.token.TokenKind.{TokenKind}
+use Rattle.typst_lexer.specs.declared.token.TokenKind.TheVariants as tokens
 use Rattle.typst_parser.proofs.Changes.{mistaken_low, raw_tops, retag_low, unique_low}
 use Rattle.typst_parser.proofs.Links.{changed_past}
 use Rattle.typst_parser.proofs.Tops.{Tall, all_join, all_ones, ones, tall_around, tall_join, tall_lower, tall_open, tall_push, tall_return, tall_top, tall_white, tops, tops_onto, tops-append, unclosed_tops}

@@ -1,12 +1,24 @@
 -- Texts and counts of lists of trees.
-use Rattle.std.proofs.Common.{◌≡◌, ℕ, ◌≤◌, List, [], ◌∷◌, ◌++◌, length, refl, sym, ap, ◌∙◌, append_assoc, length-append, arith}
+use Rattle.std.proofs.Common.{◌≡◌, ℕ, ◌≤◌, List, [], ◌∷◌, ◌++◌, length, Option, Some, None, refl, sym, ap, ◌∙◌, append_assoc, length-append, arith}
 use Rattle.std.proofs.lemmas.List.{append-nil}
 use Rattle.typst_base.specs.declared.kind.SyntaxKind.{SyntaxKind}
-use Rattle.typst_node.specs.Count.{count_of_all, SumsFit}
+use Rattle.typst_node.specs.Count.{count, count_of_all, SumsFit}
 use Rattle.typst_node.specs.Text.{text, text_of_all}
 use Rattle.typst_node.specs.Tree.{Tree, inner_tree}
 use Rattle.typst_node.proofs.Opens.{count_append}
 use Rattle.typst_node.proofs.Trees.{count_of_all-cons, text_of_all-cons}
+use Rattle.typst_parser.specs.Growth.{node_tree}
+use Rattle.typst_parser.specs.Warnings.{warned_by, warning_for}
+use Rattle.typst_parser.specs.declared.warning.Warning.{Warning}
+
+-- a warning changes neither the text nor the number of nodes
+warned_text : (w : Option Warning) (t : Tree) → text (warned_by w t) ≡ text t
+warned_text None t = refl
+warned_text (Some w) t = refl
+
+warned_count : (w : Option Warning) (t : Tree) → count (warned_by w t) ≡ count t
+warned_count None t = refl
+warned_count (Some w) t = refl
 
 pub text-append : (ts us : List Tree) → text_of_all (ts ++ us) ≡ text_of_all ts ++ text_of_all us
 text-append [] us = refl
@@ -42,24 +54,27 @@ push_gains ts t bytes is = record {
 }
 
 -- the last trees become one node
-pub node_gains : (kind : SyntaxKind) (before inside : List Tree) → Gains [] (before ++ inside) (before ++ inner_tree kind inside ∷ [])
+pub node_gains : (kind : SyntaxKind) (before inside : List Tree) → Gains [] (before ++ inside) (before ++ node_tree kind inside ∷ [])
 node_gains kind before inside =
-    let node : Tree = inner_tree kind inside in
+    let node : Tree = node_tree kind inside in
+    let w : Option Warning = warning_for kind inside in
     record {
-      text = text-append before (node ∷ []) ∙ ap (λ s. text_of_all before ++ s) (text_one node) ∙ sym (text-append before inside) ∙ sym (append-nil (text_of_all (before ++ inside)));
+      text = text-append before (node ∷ []) ∙ ap (λ s. text_of_all before ++ s) (text_one node ∙ warned_text w (inner_tree kind inside)) ∙ sym (text-append before inside) ∙ sym (append-nil (text_of_all (before ++ inside)));
       nodes = omega (
         arith,
         count_append before inside,
         count_append before (node ∷ []),
         count_of_all-cons node [],
+        warned_count w (inner_tree kind inside),
       );
     }
 
 -- what becomes a node fits, if the whole does
-pub inside_fits : (kind : SyntaxKind) (before inside : List Tree) → SumsFit (before ++ inner_tree kind inside ∷ []) → SumsFit inside
+pub inside_fits : (kind : SyntaxKind) (before inside : List Tree) → SumsFit (before ++ node_tree kind inside ∷ []) → SumsFit inside
 inside_fits kind before inside fits =
-    let node : Tree = inner_tree kind inside in
-    let one : text_of_all (node ∷ []) ≡ text_of_all inside = text_one node in (
+    let node : Tree = node_tree kind inside in
+    let w : Option Warning = warning_for kind inside in
+    let one : text_of_all (node ∷ []) ≡ text_of_all inside = text_one node ∙ warned_text w (inner_tree kind inside) in (
       omega (
         arith,
         fits.0,
@@ -72,5 +87,6 @@ inside_fits kind before inside fits =
         fits.1,
         count_append before (node ∷ []),
         count_of_all-cons node [],
+        warned_count w (inner_tree kind inside),
       ),
     )

@@ -11,7 +11,7 @@ use Rattle.typst_parser.specs.declared.event.Event.TheVariants.{Leaf, Error, Nod
 use Rattle.typst_parser.specs.declared.fault.Fault.{Fault}
 use Rattle.typst_parser.proofs.Heights.{bytes-reverse, heights, high_after, high_length, levels_high, levels_length, NoHigher, same_high, span_heights}
 use Rattle.typst_parser.proofs.Retags.{bytes_cut, cut_drop, CutBack, of_back, to_back}
-use Rattle.typst_rows.specs.declared.row.Unique.{Unique}
+use Rattle.typst_grammar.specs.declared.row.Unique.{Unique}
 
 error_high : (e : Event) (back rest : List Event) (f : Fault) (len : ℕ) → NoHigher (heights rest) (heights (drop (span (children_of e) back) back)) → NoHigher (heights (Error f len ∷ rest)) (heights (e ∷ back))
 error_high (Leaf kind n) back rest f len h = (omega arith, h)

@@ -6,12 +6,12 @@ use Rattle.std.proofs.lemmas.Option.{get_or_from_slice_get, slice_get_within}
 use Rattle.std.specs.List.{slice_get}
 use Rattle.typst_parser.specs.Events.{but_last, bytes, bytes_of, kind_of}
 use Rattle.typst_parser.specs.Spans.{children_of}
-use Rattle.typst_rows.specs.Maps.{changes}
+use Rattle.typst_grammar.specs.Maps.{changes}
 use Rattle.typst_parser.specs.Retag.{child_maps, effect_in, effect_of, gone, maps_below, put_back, retagged, retagged_back}
 use Rattle.typst_parser.specs.Walks.{Walk, walked, walked_by}
 use Rattle.typst_parser.specs.declared.event.Event.{Event}
-use Rattle.typst_rows.specs.declared.change.Effect.{Effect}
-use Rattle.typst_rows.specs.declared.maps.Map.{Map}
+use Rattle.typst_grammar.specs.declared.change.Effect.{Effect}
+use Rattle.typst_grammar.specs.declared.maps.Map.{Map}
 
 all_but_none : (text : List ℕ) → but_last 0 text ≡ text
 all_but_none text = take_all (length text - 0) text (omega arith)

@@ -1,13 +1,13 @@
 -- What is read of a text.
 use Rattle.std.proofs.Common.{◌≡◌, ℕ, ◌+◌, ◌^◌, ◌<◌, ◌≤◌, List, length, drop, ap, ◌∙◌, arith}
 use Rattle.std.proofs.lemmas.List.{length-drop}
-use Rattle.typst_tokens.specs.FirstToken.{first, run_of}
-use Rattle.typst_tokens.specs.Machine.{accepts, begin, stay}
-use Rattle.typst_tokens.specs.declared.head.FirstToken.{FirstToken}
-use Rattle.typst_tokens.specs.declared.mode.Mode.{Mode}
-use Rattle.typst_tokens.specs.declared.place.Behind.{Behind}
-use Rattle.typst_tokens.proofs.FirstTokens.{first_within}
-use Rattle.typst_tokens.proofs.Runs.{begun_passed}
+use Rattle.typst_lexer.specs.FirstToken.{first, run_of}
+use Rattle.typst_lexer.specs.Machine.{accepts, begin, stay}
+use Rattle.typst_lexer.specs.declared.head.FirstToken.{FirstToken}
+use Rattle.typst_lexer.specs.declared.mode.Mode.{Mode}
+use Rattle.typst_lexer.specs.declared.place.Behind.{Behind}
+use Rattle.typst_lexer.proofs.FirstTokens.{first_within}
+use Rattle.typst_lexer.proofs.Runs.{begun_passed}
 
 -- a token is looked at no further than ten bytes behind the text
 pub first_look : (m : Mode) (k : Behind) (text : List ℕ) → (first m k text).look ≤ length text + 10

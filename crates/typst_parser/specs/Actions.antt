@@ -16,13 +16,13 @@ use Rattle.typst_parser.specs.declared.event.Event.{Event}
 use Rattle.typst_parser.specs.declared.event.Event.TheVariants.{Error, Leaf, Node}
 use Rattle.typst_parser.specs.declared.fault.Fault.TheVariants as faults
 use Rattle.typst_parser.specs.declared.stack.Frame.{Frame}
-use Rattle.typst_rows.specs.declared.expectation.Expectation.{Expectation}
-use Rattle.typst_rows.specs.declared.row.Action.{Action}
-use Rattle.typst_rows.specs.declared.row.Action.TheVariants as actions
-use Rattle.typst_rows.specs.declared.row.Call.{Call}
-use Rattle.typst_rows.specs.declared.row.Newline.{Newline}
-use Rattle.typst_rows.specs.declared.row.Newline.TheVariants.{Column}
-use Rattle.typst_rows.specs.declared.rows.State.{State}
+use Rattle.typst_grammar.specs.declared.expectation.Expectation.{Expectation}
+use Rattle.typst_grammar.specs.declared.row.Action.{Action}
+use Rattle.typst_grammar.specs.declared.row.Action.TheVariants as actions
+use Rattle.typst_grammar.specs.declared.row.Call.{Call}
+use Rattle.typst_grammar.specs.declared.row.Newline.{Newline}
+use Rattle.typst_grammar.specs.declared.row.Newline.TheVariants.{Column}
+use Rattle.typst_grammar.specs.declared.rows.State.{State}
 use denote.Enum.Bare.{sameb}
 
 -- what a line feed does in a frame that opens in another one

@@ -2,10 +2,10 @@
 use Rattle.std.specs.Prelude.{Option, Some, None}
 use Rattle.typst_parser.specs.declared.fault.Fault.{Fault}
 use Rattle.typst_parser.specs.declared.fault.Fault.TheVariants as faults
-use Rattle.typst_rows.specs.declared.rows.Class.{Class}
-use Rattle.typst_rows.specs.declared.rows.Class.TheVariants as classes
-use Rattle.typst_tokens.specs.declared.token.TokenKind.{TokenKind}
-use Rattle.typst_tokens.specs.declared.token.TokenKind.TheVariants as tokens
+use Rattle.typst_grammar.specs.declared.rows.Class.{Class}
+use Rattle.typst_grammar.specs.declared.rows.Class.TheVariants as classes
+use Rattle.typst_lexer.specs.declared.token.TokenKind.{TokenKind}
+use Rattle.typst_lexer.specs.declared.token.TokenKind.TheVariants as tokens
 
 -- the class of a token by its kind
 abbrev pub class_of : TokenKind → Class

@@ -1,8 +1,8 @@
 -- Lines and columns.
 use Rattle.std.specs.Prelude.{ℕ, ◌||◌, Bool, false, List, [], ◌∷◌, if◌then◌else◌}
 use Rattle.typst_parser.specs.Sums.{capped_sum}
-use Rattle.typst_tokens.specs.Characters.{begins, goes_on}
-use Rattle.typst_tokens.specs.Classes.{begins_char, is_newline}
+use Rattle.typst_lexer.specs.Characters.{begins, goes_on}
+use Rattle.typst_lexer.specs.Classes.{begins_char, is_newline}
 
 -- the column after a byte: a newline begins a line, and each other character is one more
 abbrev pub column_step : ℕ → List ℕ → ℕ

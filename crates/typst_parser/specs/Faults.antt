@@ -5,9 +5,9 @@ use Rattle.std.specs.List.{prefix_len}
 use Rattle.typst_node.specs.Converted.{expected_message, unexpected_message}
 use Rattle.typst_parser.specs.declared.fault.Fault.{Fault}
 use Rattle.typst_parser.specs.declared.fault.Fault.TheVariants as faults
-use Rattle.typst_rows.specs.Expectations.{expectation_text, expectation_what}
-use Rattle.typst_rows.specs.declared.row.Unique.{Unique}
-use Rattle.typst_rows.specs.declared.row.Unique.TheVariants as uniques
+use Rattle.typst_grammar.specs.Expectations.{expectation_text, expectation_what}
+use Rattle.typst_grammar.specs.declared.row.Unique.{Unique}
+use Rattle.typst_grammar.specs.declared.row.Unique.TheVariants as uniques
 
 -- what the names are that may not come again
 abbrev pub unique_word : Unique → List ℕ

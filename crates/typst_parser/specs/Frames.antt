@@ -9,7 +9,7 @@ use Rattle.typst_parser.specs.declared.fault.Fault.TheVariants.{Expected}
 use Rattle.typst_parser.specs.declared.stack.Frame.{Frame}
 use Rattle.typst_parser.specs.declared.stack.Phase.{Phase}
 use Rattle.typst_parser.specs.declared.stack.Phase.TheVariants.{Looking, Over, Taken}
-use Rattle.typst_rows.specs.declared.expectation.Expectation.{Expectation}
+use Rattle.typst_grammar.specs.declared.expectation.Expectation.{Expectation}
 
 -- a frame with so many trees more
 abbrev pub grown : ℕ → Frame → Frame

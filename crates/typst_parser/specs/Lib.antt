@@ -3,6 +3,7 @@ pub mod Classes
 pub mod Columns
 pub mod Depth
 pub mod Events
+pub mod FaultHints
 pub mod Faults
 pub mod FirstBlock
 pub mod FoundViews
@@ -18,6 +19,7 @@ pub mod Reads
 pub mod Retag
 pub mod Roles
 pub mod Rows
+pub mod Seen
 pub mod Spans
 pub mod Stack
 pub mod Steps
@@ -25,4 +27,5 @@ pub mod Sums
 pub mod Tokens
 pub mod Unique
 pub mod View
+pub mod Warnings
 pub mod Walks

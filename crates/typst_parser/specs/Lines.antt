@@ -1,6 +1,6 @@
 -- Lines of raw text, and the white space in them.
 use Rattle.std.specs.Prelude.{ℕ, zero, suc, ◌+◌, ◌==◌, ◌&&◌, ◌||◌, nat_le, Bool, List, [], ◌∷◌, length, take, drop, slice_index, if◌then◌else◌}
-use Rattle.typst_tokens.specs.Characters.{begins_with}
+use Rattle.typst_lexer.specs.Characters.{begins_with}
 
 -- the length of the newline with which a text begins, or 0: CR LF, LF, VT, FF, CR, U+0085, U+2028 or U+2029
 abbrev pub newline_len : List ℕ → ℕ

@@ -4,7 +4,7 @@ use Rattle.typst_parser.specs.Retag.{mistake_back}
 use Rattle.typst_parser.specs.Spans.{children_of, span}
 use Rattle.typst_parser.specs.declared.event.Event.{Event}
 use Rattle.typst_parser.specs.declared.event.Event.TheVariants.{Leaf, Error, Node}
-use Rattle.typst_rows.specs.declared.expectation.Expectation.{Expectation}
+use Rattle.typst_grammar.specs.declared.expectation.Expectation.{Expectation}
 
 -- there is a last event, and it isn't an error
 abbrev pub can_be_mistaken : List Event → Bool

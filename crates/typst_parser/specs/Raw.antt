@@ -6,11 +6,11 @@ use Rattle.typst_parser.specs.Last.{last_of}
 use Rattle.typst_parser.specs.Lines.{indent, is_blank, Line, lines, whites_len}
 use Rattle.typst_parser.specs.declared.event.Event.{Event}
 use Rattle.typst_parser.specs.declared.event.Event.TheVariants.{Leaf, Node}
-use Rattle.typst_tokens.specs.FirstToken.{first}
-use Rattle.typst_tokens.specs.declared.mode.Mode.TheVariants.{Code}
-use Rattle.typst_tokens.specs.declared.place.Behind.TheVariants.{At}
-use Rattle.typst_tokens.specs.declared.token.TokenKind.{TokenKind}
-use Rattle.typst_tokens.specs.declared.token.TokenKind.TheVariants as tokens
+use Rattle.typst_lexer.specs.FirstToken.{first}
+use Rattle.typst_lexer.specs.declared.mode.Mode.TheVariants.{Code}
+use Rattle.typst_lexer.specs.declared.place.Behind.TheVariants.{At}
+use Rattle.typst_lexer.specs.declared.token.TokenKind.{TokenKind}
+use Rattle.typst_lexer.specs.declared.token.TokenKind.TheVariants as tokens
 
 -- a piece of raw text that isn't trimmed: where it begins and where it ends
 pub record Piece : Type 0 where

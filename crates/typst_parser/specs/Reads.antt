@@ -5,16 +5,16 @@ use Rattle.typst_parser.specs.Stack.{Stack, unread}
 use Rattle.typst_parser.specs.Tokens.{leaf_kind}
 use Rattle.typst_parser.specs.declared.event.Event.TheVariants.{Leaf}
 use Rattle.typst_parser.specs.declared.next.Place.{Place}
-use Rattle.typst_tokens.specs.FirstToken.{first}
-use Rattle.typst_tokens.specs.Spaces.{is_markup}
-use Rattle.typst_tokens.specs.White.{begins_white}
-use Rattle.typst_tokens.specs.contracts.mode.Mode.{the_type}
-use Rattle.typst_tokens.specs.declared.head.FirstToken.{FirstToken}
-use Rattle.typst_tokens.specs.declared.mode.Mode.{Mode}
-use Rattle.typst_tokens.specs.declared.mode.Mode.TheVariants.{Code}
-use Rattle.typst_tokens.specs.declared.place.Behind.{Behind}
-use Rattle.typst_tokens.specs.declared.token.TokenKind.{TokenKind}
-use Rattle.typst_tokens.specs.declared.token.TokenKind.TheVariants.{Parbreak, Space}
+use Rattle.typst_lexer.specs.FirstToken.{first}
+use Rattle.typst_lexer.specs.Spaces.{is_markup}
+use Rattle.typst_lexer.specs.White.{begins_white}
+use Rattle.typst_lexer.specs.contracts.mode.Mode.{the_type}
+use Rattle.typst_lexer.specs.declared.head.FirstToken.{FirstToken}
+use Rattle.typst_lexer.specs.declared.mode.Mode.{Mode}
+use Rattle.typst_lexer.specs.declared.mode.Mode.TheVariants.{Code}
+use Rattle.typst_lexer.specs.declared.place.Behind.{Behind}
+use Rattle.typst_lexer.specs.declared.token.TokenKind.{TokenKind}
+use Rattle.typst_lexer.specs.declared.token.TokenKind.TheVariants.{Parbreak, Space}
 use denote.Enum.Bare.{sameb}
 
 -- the first token of a text that may be empty

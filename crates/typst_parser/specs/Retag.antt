@@ -7,14 +7,14 @@ use Rattle.typst_parser.specs.Spans.{children_of, is_byte, span, text_but, width
 use Rattle.typst_parser.specs.declared.event.Event.{Event}
 use Rattle.typst_parser.specs.declared.event.Event.TheVariants.{Leaf, Error, Node}
 use Rattle.typst_parser.specs.declared.fault.Fault.TheVariants as faults
-use Rattle.typst_rows.specs.Maps.{changes}
-use Rattle.typst_rows.specs.declared.change.Change.{Change}
-use Rattle.typst_rows.specs.declared.change.Effect.{Effect}
-use Rattle.typst_rows.specs.declared.change.Effect.TheVariants as effects
-use Rattle.typst_rows.specs.declared.change.Test.{Test}
-use Rattle.typst_rows.specs.declared.change.Test.TheVariants as tests
-use Rattle.typst_rows.specs.declared.expectation.Expectation.{Expectation}
-use Rattle.typst_rows.specs.declared.maps.Map.{Map}
+use Rattle.typst_grammar.specs.Maps.{changes}
+use Rattle.typst_grammar.specs.declared.change.Change.{Change}
+use Rattle.typst_grammar.specs.declared.change.Effect.{Effect}
+use Rattle.typst_grammar.specs.declared.change.Effect.TheVariants as effects
+use Rattle.typst_grammar.specs.declared.change.Test.{Test}
+use Rattle.typst_grammar.specs.declared.change.Test.TheVariants as tests
+use Rattle.typst_grammar.specs.declared.expectation.Expectation.{Expectation}
+use Rattle.typst_grammar.specs.declared.maps.Map.{Map}
 
 -- whether a test holds of the tree of an event, which comes behind those of `back`
 abbrev pub holds : Test → List ℕ → Event → List Event → Bool

@@ -4,8 +4,8 @@ use Rattle.typst_base.specs.declared.kind.SyntaxKind.{SyntaxKind}
 use Rattle.typst_base.specs.declared.kind.SyntaxKind.TheVariants as kinds
 use Rattle.typst_parser.specs.declared.role.Role.{Role}
 use Rattle.typst_parser.specs.declared.role.Role.TheVariants as roles
-use Rattle.typst_rows.specs.declared.row.Unique.{Unique}
-use Rattle.typst_rows.specs.declared.row.Unique.TheVariants as uniques
+use Rattle.typst_grammar.specs.declared.row.Unique.{Unique}
+use Rattle.typst_grammar.specs.declared.row.Unique.TheVariants as uniques
 
 -- the role of the tree in which names are looked for
 abbrev pub root_role : Unique → Role

@@ -8,19 +8,19 @@ use Rattle.typst_parser.specs.Events.{kind_of}
 use Rattle.typst_parser.specs.Frames.{judging}
 use Rattle.typst_parser.specs.Stack.{Stack}
 use Rattle.typst_parser.specs.declared.event.Event.{Event}
-use Rattle.typst_rows.specs.Row.{Row}
-use Rattle.typst_rows.specs.declared.row.Condition.{Condition}
-use Rattle.typst_rows.specs.declared.row.Condition.TheVariants as conditions
-use Rattle.typst_rows.specs.declared.row.Mode.{Mode as RowMode}
-use Rattle.typst_rows.specs.declared.row.Mode.TheVariants as row_modes
-use Rattle.typst_rows.specs.declared.row.Newline.{Newline}
-use Rattle.typst_rows.specs.declared.row.Newline.TheVariants.{Column, Context, Go, Par, Stop}
-use Rattle.typst_rows.specs.declared.rows.Class.{Class}
-use Rattle.typst_rows.specs.declared.rows.Class.TheVariants as classes
-use Rattle.typst_rows.specs.declared.rows.State.{State}
-use Rattle.typst_tokens.specs.declared.mode.Mode.{Mode}
-use Rattle.typst_tokens.specs.declared.mode.Mode.TheVariants as modes
-use Rattle.typst_tokens.specs.declared.token.TokenKind.{TokenKind}
+use Rattle.typst_grammar.specs.Row.{Row}
+use Rattle.typst_grammar.specs.declared.row.Condition.{Condition}
+use Rattle.typst_grammar.specs.declared.row.Condition.TheVariants as conditions
+use Rattle.typst_grammar.specs.declared.row.Mode.{Mode as RowMode}
+use Rattle.typst_grammar.specs.declared.row.Mode.TheVariants as row_modes
+use Rattle.typst_grammar.specs.declared.row.Newline.{Newline}
+use Rattle.typst_grammar.specs.declared.row.Newline.TheVariants.{Column, Context, Go, Par, Stop}
+use Rattle.typst_grammar.specs.declared.rows.Class.{Class}
+use Rattle.typst_grammar.specs.declared.rows.Class.TheVariants as classes
+use Rattle.typst_grammar.specs.declared.rows.State.{State}
+use Rattle.typst_lexer.specs.declared.mode.Mode.{Mode}
+use Rattle.typst_lexer.specs.declared.mode.Mode.TheVariants as modes
+use Rattle.typst_lexer.specs.declared.token.TokenKind.{TokenKind}
 use denote.Enum.Bare.{sameb}
 
 -- the rows for each state and class, the mode of each state, how many deep frames may be open, how often a token is looked

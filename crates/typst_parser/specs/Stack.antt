@@ -6,10 +6,10 @@ use Rattle.typst_parser.specs.declared.next.Place.{Place}
 use Rattle.typst_parser.specs.declared.stack.Frame.{Frame}
 use Rattle.typst_parser.specs.declared.stack.Phase.{Phase}
 use Rattle.typst_parser.specs.declared.stack.Phase.TheVariants.{Looking}
-use Rattle.typst_rows.specs.declared.expectation.Expectation.{Expectation}
-use Rattle.typst_rows.specs.declared.row.Newline.TheVariants.{Go}
-use Rattle.typst_rows.specs.declared.rows.State.TheVariants.{Document}
-use Rattle.typst_tokens.specs.declared.place.Behind.TheVariants.{Start}
+use Rattle.typst_grammar.specs.declared.expectation.Expectation.{Expectation}
+use Rattle.typst_grammar.specs.declared.row.Newline.TheVariants.{Go}
+use Rattle.typst_grammar.specs.declared.rows.State.TheVariants.{Document}
+use Rattle.typst_lexer.specs.declared.place.Behind.TheVariants.{Start}
 
 -- The events so far, and those of the white space before the next token, as far as they aren't among these yet. What is
 -- missing before that white space, if it isn't an error yet. Where the last token ends, what was read of the next one, and

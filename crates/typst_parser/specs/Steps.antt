@@ -14,15 +14,15 @@ use Rattle.typst_parser.specs.declared.fault.Fault.TheVariants.{NoRow, TooDeep}
 use Rattle.typst_parser.specs.declared.next.Next.{Next}
 use Rattle.typst_parser.specs.declared.next.Place.{Place}
 use Rattle.typst_parser.specs.declared.stack.Phase.TheVariants.{Taken}
-use Rattle.typst_rows.specs.Row.{Row}
-use Rattle.typst_rows.specs.declared.row.Call.{Call}
-use Rattle.typst_rows.specs.declared.row.Mode.{Mode as RowMode}
-use Rattle.typst_rows.specs.declared.row.Take.{Take}
-use Rattle.typst_rows.specs.declared.row.Take.TheVariants as takes
-use Rattle.typst_rows.specs.declared.rows.Class.TheVariants.{End}
-use Rattle.typst_tokens.specs.Characters.{begins_with}
-use Rattle.typst_tokens.specs.declared.mode.Mode.{Mode}
-use Rattle.typst_tokens.specs.declared.token.TokenKind.{TokenKind}
+use Rattle.typst_grammar.specs.Row.{Row}
+use Rattle.typst_grammar.specs.declared.row.Call.{Call}
+use Rattle.typst_grammar.specs.declared.row.Mode.{Mode as RowMode}
+use Rattle.typst_grammar.specs.declared.row.Take.{Take}
+use Rattle.typst_grammar.specs.declared.row.Take.TheVariants as takes
+use Rattle.typst_grammar.specs.declared.rows.Class.TheVariants.{End}
+use Rattle.typst_lexer.specs.Characters.{begins_with}
+use Rattle.typst_lexer.specs.declared.mode.Mode.{Mode}
+use Rattle.typst_lexer.specs.declared.token.TokenKind.{TokenKind}
 
 -- the bytes of the next token
 abbrev pub token_bytes : List ℕ → Next → List ℕ

@@ -8,11 +8,11 @@ use Rattle.typst_parser.specs.declared.event.Event.{Event}
 use Rattle.typst_parser.specs.declared.event.Event.TheVariants.{Error, Leaf}
 use Rattle.typst_parser.specs.declared.fault.Fault.{Fault}
 use Rattle.typst_parser.specs.declared.fault.Fault.TheVariants as faults
-use Rattle.typst_rows.specs.declared.expectation.Expectation.{Expectation}
-use Rattle.typst_rows.specs.declared.row.Take.{Take}
-use Rattle.typst_rows.specs.declared.row.Take.TheVariants as takes
-use Rattle.typst_tokens.specs.declared.token.TokenKind.{TokenKind}
-use Rattle.typst_tokens.specs.declared.token.TokenKind.TheVariants as tokens
+use Rattle.typst_grammar.specs.declared.expectation.Expectation.{Expectation}
+use Rattle.typst_grammar.specs.declared.row.Take.{Take}
+use Rattle.typst_grammar.specs.declared.row.Take.TheVariants as takes
+use Rattle.typst_lexer.specs.declared.token.TokenKind.{TokenKind}
+use Rattle.typst_lexer.specs.declared.token.TokenKind.TheVariants as tokens
 
 -- the kind of a token's leaf, if the token is a leaf
 abbrev pub leaf_kind : TokenKind → SyntaxKind

@@ -14,8 +14,8 @@ use Rattle.typst_parser.specs.declared.fault.Fault.{Fault}
 use Rattle.typst_parser.specs.declared.fault.Fault.TheVariants as faults
 use Rattle.typst_parser.specs.declared.role.Role.{Role}
 use Rattle.typst_parser.specs.declared.role.Role.TheVariants as roles
-use Rattle.typst_rows.specs.declared.row.Unique.{Unique}
-use Rattle.typst_rows.specs.declared.row.Unique.TheVariants as uniques
+use Rattle.typst_grammar.specs.declared.row.Unique.{Unique}
+use Rattle.typst_grammar.specs.declared.row.Unique.TheVariants as uniques
 
 -- A name or a sink that was found: the number of the list in which it may not come again, its name, if it isn't a sink, and why it is
 -- an error if it comes again. The names that a pattern binds, and those of arguments, are in one list, with the number 0.

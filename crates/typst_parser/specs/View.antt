@@ -1,9 +1,9 @@
 -- How contracts see the code's table, rows and stack.
 use Rattle.std.specs.Prelude.{◌≡◌, Option}
 use Rattle.std.specs.Option.{option_map}
-use Rattle.typst_rows.specs.Row.{Row, row_of}
-use Rattle.typst_rows.specs.declared.row.Row.{Row as CodeRow}
-use Rattle.typst_rows.specs.Table.{mode_of, rows}
+use Rattle.typst_grammar.specs.Row.{Row, row_of}
+use Rattle.typst_grammar.specs.declared.row.Row.{Row as CodeRow}
+use Rattle.typst_grammar.specs.Table.{mode_of, rows}
 use Rattle.typst_parser.specs.declared.block.FirstBlock.{FirstBlock as CodeBlock}
 use Rattle.typst_parser.specs.FirstBlock.{FirstBlock}
 use Rattle.typst_parser.specs.declared.stack.Stack.{Stack as CodeStack}

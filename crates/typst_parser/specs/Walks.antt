@@ -3,7 +3,7 @@ use Rattle.std.specs.Prelude.{ℕ, List, ◌∷◌, ◌++◌, Option, reverse, t
 use Rattle.typst_parser.specs.Retag.{retagged_back}
 use Rattle.typst_parser.specs.declared.event.Event.{Event}
 use Rattle.typst_parser.specs.declared.retag.Walk.{Walk as CodeWalk}
-use Rattle.typst_rows.specs.declared.maps.Map.{Map}
+use Rattle.typst_grammar.specs.declared.maps.Map.{Map}
 
 -- The events that aren't passed yet, the maps for their last trees, what came of the events that were passed, and how many
 -- bytes come before those. In each list the last one is first, but what came of events stands in its order.

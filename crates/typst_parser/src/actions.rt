@@ -18,7 +18,7 @@ use crate::table::is_last;
 use crate::unique::make_unique;
 use std::alloc::{AllocError, Global};
 use typst_base::SyntaxKind;
-use typst_rows::{Action, Call, Expectation, Map, Newline, Unique};
+use typst_grammar::{Action, Call, Expectation, Map, Newline, Unique};
 
 /// What a line feed does in a frame that opens in another one.
 fn inherited(new: Option<Newline>, old: Newline) -> Newline

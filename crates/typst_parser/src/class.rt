@@ -3,8 +3,8 @@ ghost use Rattle.std.specs.Prelude.{◌≡◌};
 ghost use Rattle.typst_parser.specs.Classes.{class_of, fault_of};
 
 use crate::fault::Fault;
-use typst_rows::Class;
-use typst_tokens::TokenKind;
+use typst_grammar::Class;
+use typst_lexer::TokenKind;
 
 /// The class of a token.
 pub(crate) fn class_of(kind: TokenKind) -> Class

@@ -2,7 +2,7 @@
 ghost use Rattle.std.specs.Prelude.{◌≡◌};
 ghost use Rattle.typst_parser.specs.Columns.{column_after, column_step, has_newline};
 
-use typst_tokens::{begins_inside_char, begins_newline};
+use typst_lexer::{begins_inside_char, begins_newline};
 
 /// The column after the first byte of a text.
 fn column_step(column: usize, text: &[u8]) -> usize

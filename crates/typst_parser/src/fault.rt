@@ -1,6 +1,6 @@
 //! Why an error is one.
 use typst_base::SyntaxKind;
-use typst_rows::{Expectation, Unique};
+use typst_grammar::{Expectation, Unique};
 
 /// Why an error is one.
 #[derive(Clone, Copy, Debug, PartialEq, Eq)]

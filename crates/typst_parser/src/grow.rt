@@ -4,10 +4,11 @@ ghost use Rattle.typst_base.specs.declared.kind.SyntaxKind.TheVariants.{Error};
 ghost use Rattle.typst_node.specs.Count.{SumsFit};
 ghost use Rattle.typst_node.specs.declared.node.build.InnerError.TheVariants.{Overflow};
 ghost use Rattle.typst_parser.specs.Events.{CanBeCut};
-ghost use Rattle.typst_parser.specs.Growth.{grown, proper, with_event};
+ghost use Rattle.typst_parser.specs.Growth.{grown, node_tree, proper, with_event};
 
 use crate::event::Event;
 use crate::message::error_of;
+use crate::warning::{warned_by, warning_for};
 use std::alloc::Global;
 use typst_base::SyntaxKind;
 use typst_node::{InnerError, SyntaxNode};
@@ -24,6 +25,21 @@ fn proper(kind: SyntaxKind) -> SyntaxKind
     }
 }
 
+/// The node of a kind over these children, with its warning.
+fn node_of(
+    alloc: Global,
+    kind: SyntaxKind,
+    children: Vec<SyntaxNode>,
+) -> Result<SyntaxNode, InnerError>
+    requires { kind ≢ Error }
+    ensures node { IfOk result (λ t. t ≡ node_tree kind children.items) }
+    ensures overflow { IsErrOf result Overflow → ¬ (SumsFit children.items) }
+{
+    let warning = warning_for(kind, &children);
+    let node = SyntaxNode::inner(alloc, kind, children)?;
+    Ok(warned_by(alloc, warning, node)?)
+}
+
 /// Makes the last trees the children of a node.
 fn join(
     alloc: Global,
@@ -36,7 +52,7 @@ fn join(
 {
     let at = trees.len().saturating_sub(children);
     let children = trees.split_off(at)?;
-    trees.push(SyntaxNode::inner(alloc, proper(kind), children)?)?;
+    trees.push(node_of(alloc, proper(kind), children)?)?;
     Ok(())
 }
 

@@ -5,7 +5,7 @@ ghost use Rattle.typst_parser.specs.Frames.{is_looking, is_taken};
 ghost use Rattle.typst_parser.specs.Steps.{advanced, after_row, between, eaten, followed, forgotten, is_between, is_over, is_too_deep, looked, looked_at, looked_in, looks, put, refused, step, steps, taken, token_bytes};
 ghost use Rattle.typst_parser.specs.Tokens.{events_for};
 ghost use Rattle.typst_parser.specs.View.{found_of, stack_of, table_of};
-ghost use Rattle.typst_rows.specs.Row.{row_of};
+ghost use Rattle.typst_grammar.specs.Row.{row_of};
 
 use crate::column::column_after;
 use crate::event::Event;
@@ -16,9 +16,9 @@ use crate::stack::{Phase, Stack};
 use crate::table::{Table, lexer_mode};
 use crate::token::push_token;
 use std::alloc::{AllocError, Global};
-use typst_rows::rows::mode_of;
-use typst_rows::{Call, Class, Row, Take};
-use typst_tokens::{Mode, TokenKind};
+use typst_grammar::rows::mode_of;
+use typst_grammar::{Call, Class, Row, Take};
+use typst_lexer::{Mode, TokenKind};
 
 /// The bytes of the next token.
 fn token_bytes(text: &[u8], next: Next) -> &[u8]

@@ -4,15 +4,16 @@ ghost use Rattle.std.specs.List.{prefix_len};
 ghost use Rattle.std.specs.Prelude.{◌≡◌, ◌≤◌, ◌<◌, ◌++◌, true, length, take, drop, slice_index, string_bytes, IfOk};
 ghost use Rattle.std.specs.Str.{IsCharBoundary};
 ghost use Rattle.typst_node.specs.Converted.{expected_message, unexpected_message};
-ghost use Rattle.typst_node.specs.Hints.{error_tree};
-ghost use Rattle.typst_rows.specs.Expectations.{expectation_what};
+ghost use Rattle.typst_grammar.specs.Expectations.{expectation_what};
+ghost use Rattle.typst_parser.specs.Growth.{faulty_tree};
 ghost use Rattle.typst_parser.specs.Faults.{based_len, begins_exponent, character_message, digits_in, duplicate_message, exponent_len, fault_text, is_base_mark, is_digit_or_sign, mantissa_len, name_in, number_len, unique_word, without_end};
 
 use crate::fault::Fault;
+use crate::hint::hints;
 use std::alloc::{AllocError, Global};
 use typst_base::SyntaxKind;
+use typst_grammar::{Expectation, Unique};
 use typst_node::SyntaxNode;
-use typst_rows::{Expectation, Unique};
 
 /// What is said of a link with a bracket that isn't closed.
 const UNBALANCED: &str =
@@ -264,10 +265,11 @@ fn message(alloc: Global, fault: Fault, text: &str) -> Result<String, AllocError
     }
 }
 
-/// The error of a fault with this text.
+/// The error of a fault with this text, with its hints.
 pub(crate) fn error_of(alloc: Global, fault: Fault, text: &str) -> Result<SyntaxNode, AllocError>
-    ensures { IfOk result (λ t. t ≡ error_tree (fault_text fault text.now) text.now) }
+    ensures { IfOk result (λ t. t ≡ faulty_tree fault text.now) }
 {
     let message = message(alloc, fault, text)?;
-    SyntaxNode::error(alloc, message.as_str(), text)
+    let hints = hints(alloc, fault, text)?;
+    SyntaxNode::error(alloc, message.as_str(), text)?.with_hints(alloc, hints)
 }

@@ -6,7 +6,7 @@ use crate::event::Event;
 use crate::fault::Fault;
 use crate::span::{span, width};
 use std::alloc::AllocError;
-use typst_rows::Expectation;
+use typst_grammar::Expectation;
 
 /// Whether there is a last event, and it isn't an error.
 fn can_be_mistaken(events: &[Event]) -> bool

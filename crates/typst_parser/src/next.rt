@@ -2,7 +2,7 @@
 ghost use Rattle.std.specs.Prelude.{◌≡◌};
 ghost use Rattle.typst_parser.specs.Stack.{unread};
 
-use typst_tokens::{Behind, Mode, TokenKind};
+use typst_lexer::{Behind, Mode, TokenKind};
 
 /// A place in the text.
 #[derive(Clone, Copy)]

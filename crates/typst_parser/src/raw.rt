@@ -9,7 +9,7 @@ use crate::event::Event;
 use crate::lines::{Line, indent, is_blank, lines, whites_len};
 use std::alloc::{AllocError, Global};
 use typst_base::SyntaxKind;
-use typst_tokens::{Behind, Mode, TokenKind, token_of_bytes};
+use typst_lexer::{Behind, Mode, TokenKind, token_of_bytes};
 
 /// A piece of raw text that isn't trimmed.
 #[derive(Clone, Copy, Debug)]

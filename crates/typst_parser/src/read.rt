@@ -2,8 +2,8 @@
 ghost use Rattle.std.specs.Prelude.{◌≡◌, ◌+◌, ◌^◌, ◌<◌, ◌≤◌, ◌-◌, take, drop, length, IfSome, OnOk};
 ghost use Rattle.typst_parser.specs.Reads.{at_token, behind_token, breaks_line, is_alike, is_blank_line, is_read_in, is_settled, is_some_mode, is_white_at, known, mode_of_space, part, read, seen_to, skipped, spaced, token_at, tokened, unspaced, whitened};
 ghost use Rattle.typst_parser.specs.View.{stack_of};
-ghost use Rattle.typst_tokens.specs.FirstToken.{first};
-ghost use Rattle.typst_tokens.specs.Spaces.{is_markup};
+ghost use Rattle.typst_lexer.specs.FirstToken.{first};
+ghost use Rattle.typst_lexer.specs.Spaces.{is_markup};
 
 use crate::column::{column_after, has_newline};
 use crate::event::Event;
@@ -11,7 +11,7 @@ use crate::next::{Next, Place};
 use crate::stack::Stack;
 use crate::token::leaf_kind;
 use std::alloc::AllocError;
-use typst_tokens::{FirstToken, Mode, TokenKind, begins_white, token_of_bytes};
+use typst_lexer::{FirstToken, Mode, TokenKind, begins_white, token_of_bytes};
 
 /// How many bytes are looked at to know that no more white space comes.
 const AHEAD: usize = 10;

@@ -12,8 +12,8 @@ use std::alloc::{AllocError, Global};
 use std::mem;
 use typst_atoms::expr_kinds::is_expr;
 use typst_base::SyntaxKind;
-use typst_rows::maps::changes;
-use typst_rows::{Change, Effect, Expectation, Map, Test};
+use typst_grammar::maps::changes;
+use typst_grammar::{Change, Effect, Expectation, Map, Test};
 
 /// The last bytes of a text.
 fn last_bytes(text: &[u8], len: usize) -> &[u8]

@@ -3,7 +3,7 @@ ghost use Rattle.std.specs.Prelude.{◌≡◌};
 ghost use Rattle.typst_parser.specs.Roles.{first_role, list_role, others_role, pattern_role, root_role};
 
 use typst_base::SyntaxKind;
-use typst_rows::Unique;
+use typst_grammar::Unique;
 
 /// What is looked at in a tree. A number is that of the list that the tree is in.
 #[derive(Clone, Copy, Debug, PartialEq, Eq)]

@@ -9,8 +9,8 @@ use crate::event::Event;
 use crate::fault::Fault;
 use crate::next::{Next, Place};
 use std::alloc::{AllocError, Global};
-use typst_rows::{Expectation, Newline, State};
-use typst_tokens::Behind;
+use typst_grammar::{Expectation, Newline, State};
+use typst_lexer::Behind;
 
 /// How many levels the tree of a token may have: raw text has two.
 pub(crate) const LEAST: usize = 2;

@@ -2,15 +2,15 @@
 ghost use Rattle.std.specs.Prelude.{◌≡◌};
 ghost use Rattle.typst_parser.specs.Rows.{class_of_next, first_row, goes_on, holds, is_context, is_last, is_stopped, lexer_mode, row_for, seen, stops};
 ghost use Rattle.typst_parser.specs.View.{found_of, stack_of, table_of};
-ghost use Rattle.typst_rows.specs.Row.{rows_of};
+ghost use Rattle.typst_grammar.specs.Row.{rows_of};
 
 use crate::class::class_of;
 use crate::event::Event;
 use crate::stack::Stack;
 use typst_base::SyntaxKind;
-use typst_rows::rows::rows;
-use typst_rows::{Class, Condition, Mode as RowMode, Newline, Row};
-use typst_tokens::{Mode, TokenKind};
+use typst_grammar::rows::rows;
+use typst_grammar::{Class, Condition, Mode as RowMode, Newline, Row};
+use typst_lexer::{Mode, TokenKind};
 
 /// The bounds of the machine.
 #[derive(Clone, Copy, Debug)]

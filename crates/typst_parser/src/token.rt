@@ -8,8 +8,8 @@ use crate::fault::Fault;
 use crate::raw::push_raw;
 use std::alloc::{AllocError, Global};
 use typst_base::SyntaxKind;
-use typst_rows::{Expectation, Take};
-use typst_tokens::TokenKind;
+use typst_grammar::{Expectation, Take};
+use typst_lexer::TokenKind;
 
 /// The kind of the leaf that a token becomes. For a token that becomes no leaf it is `Text`.
 pub(crate) fn leaf_kind(kind: TokenKind) -> SyntaxKind

@@ -3,8 +3,10 @@ ghost use Rattle.std.specs.Option.{option_map};
 ghost use Rattle.std.specs.Prelude.{◌≡◌, ◌++◌, ◌≤◌, ◌<◌, [], ◌∷◌, drop, length, map, reverse, slice_index_or, IfOk, OnOk};
 ghost use Rattle.typst_parser.specs.Faults.{name_in};
 ghost use Rattle.typst_parser.specs.FoundViews.{found_of};
+ghost use Rattle.typst_parser.specs.Seen.{fault_if_seen, fault_seen, is_seen, seen_after, seen_with};
 ghost use Rattle.typst_parser.specs.declared.event.Event.{Event as AnyEvent};
-ghost use Rattle.typst_parser.specs.Unique.{bound_found, child_roles, fault_among, fault_gone, fault_put, faulted_back, faults_of, found_back, found_in, is_among, is_same, is_same_name, made_unique, name_found};
+ghost use Rattle.typst_parser.specs.declared.unique.Found.{Found as AnyFound};
+ghost use Rattle.typst_parser.specs.Unique.{bound_found, child_roles, fault_gone, fault_put, faulted_back, faults_of, found_back, found_in, made_unique, name_found};
 ghost use Rattle.typst_parser.specs.Roles.{root_role};
 
 use crate::event::Event;
@@ -12,8 +14,9 @@ use crate::fault::Fault;
 use crate::role::{Role, first_role, others_role, root_role};
 use crate::span::{span, width};
 use std::alloc::{AllocError, Global};
+use std::collections::HashSet;
 use typst_base::SyntaxKind;
-use typst_rows::Unique;
+use typst_grammar::Unique;
 
 /// A name or a sink that was found.
 #[derive(Clone, Copy)]
@@ -144,51 +147,29 @@ fn find<'a>(
     Ok(found)
 }
 
-/// Whether two names are the same, or both are sinks.
-fn is_same_name(one: Option<&[u8]>, other: Option<&[u8]>) -> bool
-    ensures { result ≡ is_same_name (option_map (λ n. n.now) one.entry) (option_map (λ n. n.now) other.entry) }
+/// The names and sinks that were seen, each with the number of its list.
+type Seen<'a> = HashSet<(usize, Option<&'a [u8]>)>;
+
+/// Why it is an error, if it was seen. From then on it is seen.
+fn see<'a>(seen: &mut Seen<'a>, one: Found<'a>) -> Result<Option<Fault>, AllocError>
+    ensures fault { IfOk result (λ fault. fault ≡ fault_seen seen.old one.entry) }
+    ensures seen { OnOk result ((q : AnyFound) → is_seen seen.new q ≡ seen_after seen.old one.entry q) }
 {
-    match (one, other) {
-        (None, None) => true,
-        (Some(one), Some(other)) => one == other,
-        _ => false,
+    if seen.insert((one.list, one.name))? {
+        Ok(None)
+    } else {
+        Ok(Some(one.fault))
     }
 }
 
-/// Whether two names in the same list are the same, or both are sinks.
-fn is_same(one: Found<'_>, other: Found<'_>) -> bool
-    ensures { result ≡ is_same (found_of one.entry) (found_of other.entry) }
-{
-    one.list == other.list && is_same_name(one.name, other.name)
-}
-
-/// Whether something is among what was found.
-fn is_among(one: Found<'_>, found: &[Option<Found<'_>>]) -> bool
-    ensures { result ≡ is_among (found_of one.entry) (map (option_map found_of) found.now) }
-{
-    for other in found {
-        if let Some(other) = other {
-            if is_same(one, *other) {
-                return true;
-            }
-        }
-    }
-    false
-}
-
-/// Why it is an error, if it comes before in the text.
-fn fault_among(one: Option<Found<'_>>, before: &[Option<Found<'_>>]) -> Option<Fault>
-    ensures { result ≡ fault_among (option_map found_of one.entry) (map (option_map found_of) before.now) }
+/// Why it is an error, if something was found and was seen. From then on it is seen.
+fn see_any<'a>(seen: &mut Seen<'a>, one: Option<Found<'a>>) -> Result<Option<Fault>, AllocError>
+    ensures fault { IfOk result (λ fault. fault ≡ fault_if_seen seen.old one.entry) }
+    ensures seen { OnOk result ((q : AnyFound) → is_seen seen.new q ≡ seen_with seen.old one.entry q) }
 {
     match one {
-        Some(one) => {
-            if is_among(one, before) {
-                Some(one.fault)
-            } else {
-                None
-            }
-        }
-        None => None,
+        Some(one) => see(seen, one),
+        None => Ok(None),
     }
 }
 
@@ -196,10 +177,14 @@ fn fault_among(one: Option<Found<'_>>, before: &[Option<Found<'_>>]) -> Option<F
 fn faults_of(alloc: Global, found: &[Option<Found<'_>>]) -> Result<Vec<Option<Fault>>, AllocError>
     ensures { IfOk result (λ faults. faults.items ≡ faults_of (map (option_map found_of) found.now)) }
 {
+    let mut seen = HashSet::new(alloc);
     let mut faults = Vec::new(alloc);
-    for (i, one) in found.iter().enumerate() {
-        faults.push(fault_among(*one, &found[i + 1..]))?;
+    let mut left = found.len();
+    while left > 0 {
+        left -= 1;
+        faults.push(see_any(&mut seen, found[left])?)?;
     }
+    faults.reverse();
     Ok(faults)
 }
 
@@ -255,7 +240,7 @@ fn take_faulted(
 /// Makes errors of names that come again in the last tree, and of second sinks. The text ends with that tree. After an
 /// error the events are gone.
 ///
-/// It takes time in proportion to the events of the tree, and to the square of the number of names in it.
+/// It takes time in proportion to the events of the tree and to the bytes of its names, as far as hashes tell names apart.
 pub(crate) fn make_unique(
     alloc: Global,
     events: &mut Vec<Event>,

@@ -11,7 +11,7 @@ use Rattle.typst_session.specs.Reading.{IsNoNode, OfNode}
 use Rattle.typst_session.specs.Sessions.{HasStack, IsKept}
 use Rattle.typst_session.specs.declared.session.Session.{Session}
 use Rattle.typst_session.specs.declared.refusal.Refusal.{Refusal}
-use Rattle.typst_session.specs.declared.refusal.Refusal.TheVariants.{Memory, Kind, Text, Stack, Size, NoHints}
+use Rattle.typst_session.specs.declared.refusal.Refusal.TheVariants.{Memory, Kind, Text, Stack, Overflow, NoHints}
 
 -- the number is the number of a kind that a leaf or an inner node may have
 pub record IsPlainKind (number : ℕ) (kind : SyntaxKind) : Type 0 where
@@ -95,7 +95,7 @@ Wraps number count old (Ok done) new =
     × HasStack (below_top count old.stack.items ++ inner_tree kind (top_of count old.stack.items) ∷ []) old new
 Wraps number count old (Err Kind) new = IsNoPlainKind number × IsKept old new
 Wraps number count old (Err Stack) new = (length old.stack.items < count) × IsKept old new
-Wraps number count old (Err Size) new = ¬ (SumsFit (top_of count old.stack.items)) × IsKept old new
+Wraps number count old (Err Overflow) new = ¬ (SumsFit (top_of count old.stack.items)) × IsKept old new
 Wraps number count old (Err Memory) new = IsKept old new
 Wraps number count old (Err _) new = ⊥
 

@@ -29,15 +29,17 @@ node_number Detached = 1
 node_number (Number id num part) = num.0
 node_number (Range id range) = 1
 
--- the ends of a range, and 1 to say that there is one; without a range they are all 0
+-- where a range begins, or 0 if there is none
 abbrev pub start_of : Option (Interval ℕ) → ℕ
 start_of None = 0
 start_of (Some range) = range.start
 
+-- where a range ends, or 0 if there is none
 abbrev pub end_of : Option (Interval ℕ) → ℕ
 end_of None = 0
 end_of (Some range) = range.end
 
+-- how many ranges there are
 abbrev pub count_of : Option (Interval ℕ) → ℕ
 count_of None = 0
 count_of (Some range) = 1

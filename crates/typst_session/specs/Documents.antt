@@ -16,17 +16,17 @@ use Rattle.typst_source.specs.Source.{IsTooLarge}
 use Rattle.typst_source.specs.declared.edited.Edited.{Edited}
 use Rattle.typst_source.specs.declared.error.SourceError.{SourceError}
 use Rattle.typst_source.specs.declared.error.SourceError.TheVariants as source_error
-use Rattle.typst_markup.specs.Block.{first}
+use Rattle.typst_language.specs.Block.{first}
 use Rattle.typst_session.specs.Changes.{IsChange}
 use Rattle.typst_session.specs.LinedText.{LinedText}
 use Rattle.typst_session.specs.Sessions.{IsKept, Holds}
-use Rattle.typst_session.specs.declared.documents.TextChange.{TextChange}
+use Rattle.typst_session.specs.declared.editing.TextChange.{TextChange}
 use Rattle.typst_session.specs.declared.session.Session.{Session}
 use Rattle.typst_session.specs.declared.session.Held.TheVariants as held
 use Rattle.typst_session.specs.declared.refusal.Refusal.{Refusal}
-use Rattle.typst_session.specs.declared.refusal.Refusal.TheVariants.{Memory, Text, Size, NoDocument, File, Unnumberable, Range}
+use Rattle.typst_session.specs.declared.refusal.Refusal.TheVariants.{Memory, Text, Overflow, NoDocument, File, Unnumberable, Range}
 
--- the tree of a text of markup, numbered for a file, and all line ends of Unicode
+-- the tree of a text of Typst, numbered for a file, and all line ends of Unicode
 pub record IsDocumentOf (file : ℕ) (source : List ℕ) (new : LinedText) : Type 0 where
   pub text_is : text new.tree ≡ source
   pub fresh : plain new.tree ≡ document first source
@@ -56,7 +56,7 @@ Opens file source old (Ok done) new = IsOpened file source old new
 Opens file source old (Err File) new = (file ≡ 0) × IsKept old new
 Opens file source old (Err Text) new = ¬ (IsUtf8 source) × IsKept old new
 Opens file source old (Err Unnumberable) new = (2 ^ 46 ≤ count (document first source)) × IsKept old new
-Opens file source old (Err Size) new = IsTooLarge first source × IsKept old new
+Opens file source old (Err Overflow) new = IsTooLarge first source × IsKept old new
 Opens file source old (Err Memory) new = IsKept old new
 Opens file source old (Err _) new = ⊥
 
@@ -79,7 +79,7 @@ abbrev pub WhyNotEdited : Interval ℕ → List ℕ → Tree → Refusal → Typ
 WhyNotEdited range with tree Text = ¬ (IsUtf8 with)
 WhyNotEdited range with tree Range = ¬ (FitsText (text tree) range)
 WhyNotEdited range with tree Unnumberable = IsCrowdedBy first tree (replace_range (text tree) range.start range.end with)
-WhyNotEdited range with tree Size = IsTooLarge first (replace_range (text tree) range.start range.end with)
+WhyNotEdited range with tree Overflow = IsTooLarge first (replace_range (text tree) range.start range.end with)
 WhyNotEdited range with tree Memory = Unit {0}
 WhyNotEdited range with tree _ = ⊥
 

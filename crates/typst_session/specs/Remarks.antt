@@ -14,6 +14,7 @@ pub record Remark : Type 0 where
   pub place : DiagPlace
   pub text : List ℕ
 
+-- the remark of a hint
 abbrev pub hint_remark : PlacedHint → Remark
 hint_remark hint = record { severity = Hint; place = hint.place; text = hint.text }
 

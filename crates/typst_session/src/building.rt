@@ -117,7 +117,7 @@ impl Session {
         let children = copies(alloc, &self.stack[start..])?;
         match SyntaxNode::inner(alloc, kind, children) {
             Ok(node) => self.put(start, node),
-            Err(InnerError::Overflow) => Err(Refusal::Size),
+            Err(InnerError::Overflow) => Err(Refusal::Overflow),
             Err(InnerError::Memory) => Err(Refusal::Memory),
         }
     }

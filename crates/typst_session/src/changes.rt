@@ -49,8 +49,8 @@ fn change_below(alloc: Global, done: Updated) -> (Option<Change>, LastEdit)
 /// # Edits that are kept
 impl Session {
     /// Takes the inner node that the path leads to in the tree that is held, and replaces its children in the range by
-    /// the last `count` nodes of the stack. The range is of child indices. The nodes that go on keep their numbers, and
-    /// [`Session::follow`] follows each number.
+    /// the last `count` nodes of the stack. The range is of child indices. [`Session::follow`] follows the
+    /// nodes that go on.
     ///
     /// It takes as long as `NumberedTree::reconcile`. It also takes time and memory in proportion to the new nodes,
     /// since copies of them come into the tree. After a refusal the nodes themselves are still on the stack.
@@ -90,8 +90,8 @@ impl Session {
         }
     }
 
-    /// Puts the last node of the stack in place of the tree that is held. The nodes that go on keep their numbers, and
-    /// [`Session::follow`] follows each number. Tells what changed below the root, or `None` if the root itself did.
+    /// Puts the last node of the stack in place of the tree that is held. [`Session::follow`] follows the
+    /// nodes that go on. Tells what changed below the root, or `None` if the root itself did.
     ///
     /// It takes as long as `NumberedTree::update`. It also takes time and memory in proportion to the new nodes, since
     /// a copy comes into the tree. After a refusal the node itself is still on the stack.

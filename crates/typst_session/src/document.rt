@@ -2,12 +2,12 @@
 ghost use Rattle.std.specs.Prelude.{ℕ, List, [], ◌∷◌, ◌≡◌, ◌≤◌, ◌↔◌, length, IsTrue, IfErr, IfOk, MatchOption, MatchResult, OnErr, OnOk};
 ghost use Rattle.std.specs.List.{replace_range, splice};
 ghost use Rattle.std.specs.Str.{IsCharBoundary};
+ghost use Rattle.typst_language.specs.Block.{first};
 ghost use Rattle.typst_lines.specs.Clamped.{HasNoClampedPlace, IsClampedPlace};
 ghost use Rattle.typst_lines.specs.Columns.{IsPlace};
 ghost use Rattle.typst_lines.specs.LineStarts.{line_starts};
 ghost use Rattle.typst_lines.specs.LineTable.{AreLines};
 ghost use Rattle.typst_lines.specs.TextLines.{lines};
-ghost use Rattle.typst_markup.specs.Block.{first};
 ghost use Rattle.typst_node.specs.Numbered.{IsNumbered};
 ghost use Rattle.typst_node.specs.Text.{text};
 ghost use Rattle.typst_source.specs.Blocks.{document};
@@ -21,17 +21,17 @@ use crate::places::LineColumn;
 use std::alloc::{AllocError, Global};
 use std::marker::Model;
 use std::ops::Range;
+use typst_language::Typst;
 use typst_lines::{ColumnUnit, LineEnds, Lines};
-use typst_markup::Markup;
 use typst_source::{Edited, Source, SourceError};
 use typst_tree::{FileId, SyntaxNode};
 
-/// A text of markup with its tree and its lines, edited together.
+/// A text of Typst with its tree and its lines, edited together.
 ///
 /// In contracts a document is the root of the tree, whose text is the text, and what ends the text's lines.
 #[derive(Drop)]
 pub struct Document {
-    source: Source<Markup>,
+    source: Source<Typst>,
     lines: Lines,
 }
 
@@ -75,13 +75,13 @@ impl Document {
     pub fn new(alloc: Global, file: FileId, content: &str) -> Result<Document, SourceError>
         ensures { MatchResult result (IsDocumentOf file content.now) (WhyNoDocument content.now) }
     {
-        let source = Source::new(alloc, file, content, Markup)?;
+        let source = Source::new(alloc, file, content, Typst)?;
         let lines = Lines::new(alloc, content)?;
         Ok(Document { source, lines })
     }
 
     /// The text with its tree, for reading: [`Source`] finds nodes by number, and bytes of nodes.
-    pub fn source(&self) -> &Source<Markup>
+    pub fn source(&self) -> &Source<Typst>
         ensures { result.now ≡ self.now.tree }
     {
         &self.source
@@ -213,8 +213,8 @@ impl Document {
     }
 }
 
-/// A law of all texts: the tree of a text of markup has at most 133 levels, however its delimiters nest, since the trees of
-/// its blocks have at most 132. So a path in it has at most 132 child indices.
-pub fn documents_of_markup_are_shallow()
-    ensures { (source : List ℕ) → AreWithin 133 (document first source ∷ []) }
+/// A law of all texts: the tree of a text has at most 256 levels, however its syntax nests, since the trees of its blocks
+/// have at most 255. So a path in it has at most 255 child indices.
+pub fn documents_are_shallow()
+    ensures { (source : List ℕ) → AreWithin 256 (document first source ∷ []) }
 {}

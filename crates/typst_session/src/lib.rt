@@ -9,8 +9,8 @@
 
 pub use changes::Change;
 pub use diagnostics::{Diagnostic, DiagnosticSizes};
-pub use document::{Document, documents_of_markup_are_shallow};
-pub use documents::TextChange;
+pub use document::{Document, documents_are_shallow};
+pub use editing::TextChange;
 pub use info::NodeInfo;
 pub use neighbors::Neighbor;
 pub use places::LineColumn;
@@ -24,7 +24,7 @@ pub mod classes;
 pub mod comparing;
 pub mod diagnostics;
 pub mod document;
-pub mod documents;
+pub mod editing;
 pub mod finding;
 pub mod info;
 pub mod kinds;

@@ -25,7 +25,7 @@ pub enum Refusal {
     Stack,
     /// The length of the text or the number of nodes would not fit in a usize.
     #[error("the tree is too large")]
-    Size,
+    Overflow,
     /// The session holds no tree.
     #[error("there is no tree")]
     NoTree,
@@ -86,7 +86,7 @@ impl Refusal {
             Refusal::Kind => 3,
             Refusal::Text => 4,
             Refusal::Stack => 5,
-            Refusal::Size => 6,
+            Refusal::Overflow => 6,
             Refusal::NoTree => 7,
             Refusal::IsDocument => 8,
             Refusal::NoDocument => 9,
@@ -138,7 +138,7 @@ impl From<EditError> for Refusal {
             EditError::Leaf => Refusal::Leaf,
             EditError::Range { .. } => Refusal::Range,
             EditError::Refused(ReplaceError::Unnumberable) => Refusal::Unnumberable,
-            EditError::Refused(ReplaceError::Overflow) => Refusal::Size,
+            EditError::Refused(ReplaceError::Overflow) => Refusal::Overflow,
             EditError::Refused(ReplaceError::Memory) => Refusal::Memory,
         }
     }
@@ -152,7 +152,7 @@ impl From<ReplaceError> for Refusal {
     fn from(e: ReplaceError) -> Refusal {
         match e {
             ReplaceError::Unnumberable => Refusal::Unnumberable,
-            ReplaceError::Overflow => Refusal::Size,
+            ReplaceError::Overflow => Refusal::Overflow,
             ReplaceError::Memory => Refusal::Memory,
         }
     }
@@ -166,7 +166,7 @@ impl From<SourceError> for Refusal {
     fn from(e: SourceError) -> Refusal {
         match e {
             SourceError::Unnumberable => Refusal::Unnumberable,
-            SourceError::Overflow => Refusal::Size,
+            SourceError::Overflow => Refusal::Overflow,
             SourceError::Memory => Refusal::Memory,
         }
     }

@@ -109,6 +109,34 @@ fn a_document_answers_without_a_session(rt: HostRuntime) -> Result<(), Fail> {
     Ok(())
 }
 
+/// Calls on a document with code and an equation. A line in brackets ends no block.
+const CODE: &[(DocumentCall, &str)] = &[
+    (Edit(5, 6, "y"), "0..11 parsed, 1: leaf 2"),
+    (Edit(16, 17, "c^2"), "0..21 parsed, 2: 4..5 of 1"),
+    (Edit(9, 10, "[\n2]"), "0..14 parsed, 1: 6..7 of 1"),
+    (Edit(11, 11, "3 "), "0..16 parsed, 3: leaf 1"),
+    (
+        Shown,
+        "\"#let y = [\\n3 2]\\n$a + c^2$\\n\" \"#let y = [\\n3 2]\\n$a + c^2$\\n\", 4 lines, \
+        Markup: 26 [Hash: \"#\", LetBinding: 14 [Let: \"let\", Space: \" \", Ident: \"y\", Space: \" \", \
+        Eq: \"=\", Space: \" \", ContentBlock: 6 [LeftBracket: \"[\", Markup: 4 [Space: \"\\n\", Text: \"3 2\"], \
+        RightBracket: \"]\"]], Space: \"\\n\", Equation: 9 [Dollar: \"$\", Math: 7 [MathText: \"a\", Space: \" \", \
+        MathText: \"+\", Space: \" \", MathAttach: 3 [MathText: \"c\", Hat: \"^\", MathText: \"2\"]], \
+        Dollar: \"$\"], Space: \"\\n\"]",
+    ),
+];
+
+#[test]
+fn a_document_has_code_and_equations(rt: HostRuntime) -> Result<(), Fail> {
+    let alloc = rt.alloc();
+    let mut document = Document::new(alloc, FileId::FIRST, "#let x = 1\n$a + b$\n")?;
+    for (call, wanted) in CODE {
+        let said = said(alloc, &mut document, *call)?;
+        assert_eq!(rt; said.as_str(), *wanted);
+    }
+    Ok(())
+}
+
 #[test]
 fn line_ends_stay_over_edits_and_in_copies(rt: HostRuntime) -> Result<(), Fail> {
     let alloc = rt.alloc();

@@ -6,7 +6,7 @@ use typst_session::Refusal;
 fn refusals_say_why(rt: HostRuntime) -> Result<(), Fail> {
     let rows = [
         (Refusal::Memory, "2: out of memory"),
-        (Refusal::Size, "6: the tree is too large"),
+        (Refusal::Overflow, "6: the tree is too large"),
     ];
     for (refusal, wanted) in rows {
         let said = format!(in rt.alloc(); "{}: {refusal}", refusal.code())?;

@@ -5,7 +5,7 @@ use std::alloc::{AllocError, Global};
 use typst_answers::remark::Remark;
 use typst_script::Command;
 
-/// How many levels the tree of a script may have. The tree of a text has at most 133.
+/// How many levels the tree of a script may have. The tree of a text has at most 256.
 pub(crate) const MOST_LEVELS: usize = 1000;
 
 /// How many levels the nodes of a script have at most. A warning counts as a level, and so does a replacement that is

@@ -8,7 +8,7 @@ use typst_shown::{Asked, Form, Manner, Problem, Wanted};
 
 /// What `--help` prints below the words.
 const AFTER_HELP: &str = "\
-FILE is a text of markup. If its name ends in .script or .look, it is a script or a look, which builds a tree.
+FILE is a text of Typst. If its name ends in .script or .look, it is a script or a look, which builds a tree.
 Each line of EDITS is an edit: 7..12 \"text\" in bytes, or 2:5..2:9 \"text\" in lines and columns, which count from 1.
 In the quotes the escapes are those of Rust. docs/SHOW.md explains what is shown.
 The status is 0 if the text has no error, 1 if it has one, 2 if the words, an edit or a script are wrong, and 3 if a file

@@ -9,7 +9,7 @@ use crate::shown::Shown;
 use std::alloc::Global;
 use std::rt::Files;
 use typst_base::FileId;
-use typst_markup::Markup;
+use typst_language::Typst;
 use typst_source::Source;
 
 /// A text with its tree, and the names of its file and of the file with its edits.
@@ -19,7 +19,7 @@ pub struct Text<'a> {
     edits_file: &'a str,
     wanted: Wanted,
     manner: Manner,
-    source: Source<Markup>,
+    source: Source<Typst>,
 }
 
 impl<'a> Text<'a> {
@@ -38,7 +38,7 @@ impl<'a> Text<'a> {
             None => Vec::new(alloc),
             Some(file) => parse_edits(alloc, file, &read(rt, file)?)?,
         };
-        match Source::new(alloc, FileId::FIRST, &text, Markup) {
+        match Source::new(alloc, FileId::FIRST, &text, Typst) {
             Ok(source) => Ok((
                 Text {
                     file,

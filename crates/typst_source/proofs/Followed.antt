@@ -1,7 +1,6 @@
 -- The numbers of nodes, followed through a whole run.
 use Rattle.std.proofs.Common.{◌≡◌, ℕ, inl, inr, ◌⊎◌, List, [], ◌∷◌, refl, sym, ap, subst, ◌∙◌, Option, Some, None}
 use Rattle.typst_linked.proofs.OneNumber.{own_number}
-use Rattle.typst_linked.specs.Search.{with_number}
 use Rattle.typst_node.specs.Tree.{Tree, Content, AsLeaf, AsError, AsInner, Label, kind_of}
 use Rattle.typst_node.specs.Labels.{number}
 use Rattle.typst_node.specs.Numbered.{IsNumbered}

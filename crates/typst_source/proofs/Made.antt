@@ -11,11 +11,11 @@ use Rattle.typst_source.specs.Blocks.{Block, blocks, bytes_of, reach_of, trees_o
 use Rattle.typst_source.specs.Reparsed.{IsCut, IsEnd, IsEndOf, IsMeeting, AreReparsed, AreSeams}
 use Rattle.typst_source.specs.Extents.{extent_of, extents_of, bytes_in, nodes_in, reach_in, AreUntouched}
 use Rattle.typst_source.specs.Source.{IsTooLarge}
-use Rattle.typst_source.specs.Window.{IsWindow}
+use Rattle.typst_source.specs.NewBlocks.{AreNewBlocks}
 use Rattle.typst_source.specs.declared.cut.Cut.{Cut}
 use Rattle.typst_source.specs.declared.extents.Extent.{Extent}
 use Rattle.typst_source.specs.declared.extents.Sums.{Sums}
-use Rattle.typst_source.specs.declared.window.Window.{Window}
+use Rattle.typst_source.specs.declared.new_blocks.NewBlocks.{NewBlocks}
 use Rattle.typst_source.proofs.Laws.{AreLaws}
 use Rattle.typst_source.proofs.Blocks.{drop_blocks, blocks_none, bytes_add, bytes_mono, reach_mono, behind_end, bytes_before, bytes_all, bytes_take_drop, ends_between}
 use Rattle.typst_source.proofs.Kept.{same_tail, front_stays, front_within, front_before, rest_blocks, changed_blocks}
@@ -55,19 +55,19 @@ module _ (first : List ℕ → Block) (laws : AreLaws first) where
         let place : kept.bytes ≡ bytes_of (take kept.blocks (blocks first new)) = kept_bytes ∙ ap bytes_of same in
         rest_too_large first laws kept.blocks new (front_within first laws old new cut is kept.blocks kept_some kept_far) (subst (λ i. IsTooLarge first (drop i new)) place large)
 
-    module _ (olds : List Extent) (rest : List ℕ) (tail : ℕ) (w : Window) (olds_are : olds ≡ drop kept.blocks exts) (rest_is : rest ≡ drop kept.bytes new)
-        (tail_is : tail ≡ length old - cut.old_end) (window : IsWindow first rest olds tail w) where
+    module _ (olds : List Extent) (rest : List ℕ) (tail : ℕ) (w : NewBlocks) (olds_are : olds ≡ drop kept.blocks exts) (rest_is : rest ≡ drop kept.bytes new)
+        (tail_is : tail ≡ length old - cut.old_end) (anew : AreNewBlocks first rest olds tail w) where
       old_blocks : olds ≡ extents_of (drop kept.blocks (blocks first old))
       old_blocks = olds_are ∙ ap (drop kept.blocks) are ∙ drop-map extent_of kept.blocks (blocks first old)
 
       rest_from : rest ≡ drop (bytes_of (take kept.blocks (blocks first old))) new
       rest_from = rest_is ∙ ap (λ i. drop i new) kept_bytes
 
-      there : IsWindow first (drop (bytes_of (take kept.blocks (blocks first old))) new) (extents_of (drop kept.blocks (blocks first old))) (length old - cut.old_end) w
+      there : AreNewBlocks first (drop (bytes_of (take kept.blocks (blocks first old))) new) (extents_of (drop kept.blocks (blocks first old))) (length old - cut.old_end) w
       there =
-          subst (λ i. IsWindow first (drop (bytes_of (take kept.blocks (blocks first old))) new) (extents_of (drop kept.blocks (blocks first old))) i w) tail_is
-          (subst (λ (es : List Extent). IsWindow first (drop (bytes_of (take kept.blocks (blocks first old))) new) es tail w) old_blocks
-          (subst (λ (s : List ℕ). IsWindow first s olds tail w) rest_from window))
+          subst (λ i. AreNewBlocks first (drop (bytes_of (take kept.blocks (blocks first old))) new) (extents_of (drop kept.blocks (blocks first old))) i w) tail_is
+          (subst (λ (es : List Extent). AreNewBlocks first (drop (bytes_of (take kept.blocks (blocks first old))) new) es tail w) old_blocks
+          (subst (λ (s : List ℕ). AreNewBlocks first s olds tail w) rest_from anew))
 
       passed_within : w.passed.blocks ≤ length (drop kept.blocks (blocks first old))
       passed_within = omega (arith, there.passed_are.within, length-map (drop kept.blocks (blocks first old)) extent_of)
@@ -242,7 +242,7 @@ module _ (first : List ℕ → Block) (laws : AreLaws first) where
             )
 
   -- what is parsed of a whole text are all of its blocks
-  pub whole_blocks : (source : List ℕ) (olds : List Extent) (w : Window) → IsWindow first source olds 0 w → take (length w.extents.items) (blocks first source) ≡ blocks first source
+  pub whole_blocks : (source : List ℕ) (olds : List Extent) (w : NewBlocks) → AreNewBlocks first source olds 0 w → take (length w.extents.items) (blocks first source) ≡ blocks first source
   whole_blocks source olds w is =
       let m : ℕ = length w.extents.items in
       let none : drop m (blocks first source) ≡ [] =

@@ -11,7 +11,7 @@ use Rattle.typst_source.specs.declared.parser.ParsedBlock.{ParsedBlock}
 use Rattle.typst_source.specs.Blocks.{Block, blocks, bytes_of, trees_of}
 use Rattle.typst_source.specs.Parsed.{IsParsedBlock}
 use Rattle.typst_source.specs.Extents.{extent_of, extents_of, bytes_in}
-use Rattle.typst_source.specs.Window.{Meet}
+use Rattle.typst_source.specs.NewBlocks.{Meet}
 use Rattle.typst_source.proofs.Laws.{AreLaws}
 use Rattle.typst_source.proofs.Blocks.{blocks_step, drop_blocks, bytes_before, bytes-append}
 use Rattle.typst_source.proofs.Sums.{bytes_behind}

@@ -10,17 +10,15 @@ use Rattle.typst_node.specs.Text.{own_text, text, text_of_all}
 use Rattle.typst_node.specs.Tree.{AsError, AsInner, AsLeaf, Content, Tree, IsInner, inner_tree}
 use Rattle.typst_node.specs.declared.node.build.InnerError.{InnerError}
 use Rattle.typst_node.specs.declared.node.build.InnerError.TheVariants as inner
-use Rattle.typst_node.specs.declared.node.replace.ReplaceError.{ReplaceError}
-use Rattle.typst_node.specs.declared.node.replace.ReplaceError.TheVariants as replace
 use Rattle.typst_node.proofs.Opens.{count_append}
 use Rattle.typst_node.proofs.Plain.{count_plain, text_plain}
 use Rattle.typst_node.proofs.Trees.{trees_of_forest}
 use Rattle.typst_node.proofs.WholeTreeEdited.{text_forest}
 use Rattle.typst_source.specs.Blocks.{Block, blocks, bytes_of, trees_of, document}
-use Rattle.typst_source.specs.Errors.{of_inner, of_replace}
+use Rattle.typst_source.specs.Errors.{of_inner}
 use Rattle.typst_source.specs.Source.{IsTooLarge}
 use Rattle.typst_source.specs.declared.error.SourceError.{SourceError}
-use Rattle.typst_source.specs.declared.error.SourceError.TheVariants.{Unnumberable, Overflow, Memory}
+use Rattle.typst_source.specs.declared.error.SourceError.TheVariants.{Overflow, Memory}
 use Rattle.typst_source.specs.declared.extents.Extent.{Extent}
 use Rattle.typst_source.proofs.Blocks.{blocks_step, drop_blocks}
 use Rattle.typst_source.proofs.Kids.{kids_are, text-append, trees_parts, new_fresh}
@@ -41,13 +39,6 @@ pub inner_overflow : {A : Type 0} (r : Result A SourceError) (e : InnerError) �
 inner_overflow (Ok a) e h is = cc
 inner_overflow (Err s) inner.Overflow h is = refl
 inner_overflow (Err s) inner.Memory h is = let same : s ≡ Memory = h in cc
-
--- and the one that a replacement's becomes
-pub replace_overflow : {A : Type 0} (r : Result A SourceError) (e : ReplaceError) → IsErrAnd r (λ s. s ≡ of_replace e) → IsErrOf r Overflow → e ≡ replace.Overflow
-replace_overflow (Ok a) e h is = cc
-replace_overflow (Err s) replace.Overflow h is = refl
-replace_overflow (Err s) replace.Unnumberable h is = let same : s ≡ Unnumberable = h in cc
-replace_overflow (Err s) replace.Memory h is = let same : s ≡ Memory = h in cc
 
 module _ (first : List ℕ → Block) (laws : AreLaws first) where
   -- the children of a document

@@ -2,7 +2,7 @@
 use Rattle.std.proofs.Common.{◌≡◌, ℕ, zero, suc, ◌+◌, ◌-◌, ◌<◌, ◌≤◌, inl, inr, List, [], ◌∷◌, length, map, refl, sym, ap, subst, ◌∙◌, arith}
 use Rattle.std.specs.List.{AllByRecursion}
 use Rattle.std.specs.declared.ops.Range.{Range}
-use Rattle.std.specs.Prelude.{Result, Ok, Err, IsErrAnd, IsErrOf}
+use Rattle.std.specs.Prelude.{Result, Ok, Err, IfErr, IsErrAnd}
 use Rattle.std.proofs.lemmas.List.{length-map}
 use Rattle.typst_base.specs.declared.kind.SyntaxKind.TheVariants as kinds
 use Rattle.typst_node.specs.Tree.{Tree, trees, IsInner, inner_tree}
@@ -20,10 +20,10 @@ use Rattle.typst_source.specs.Blocks.{Block, first_blocks, blocks, trees_of, doc
 use Rattle.typst_source.specs.Extents.{extents_of, bytes_in, nodes_in}
 use Rattle.typst_source.specs.Errors.{of_replace}
 use Rattle.typst_source.specs.declared.error.SourceError.{SourceError}
-use Rattle.typst_source.specs.declared.error.SourceError.TheVariants.{Unnumberable, Overflow, Memory}
 use Rattle.typst_node.specs.declared.node.replace.ReplaceError.{ReplaceError}
 use Rattle.typst_node.specs.declared.node.replace.ReplaceError.TheVariants as replace
-use Rattle.typst_source.specs.Source.{IsParsed, IsRoomy}
+use Rattle.typst_source.specs.Edited.{IsCrowdedBy, IsRefusedBy}
+use Rattle.typst_source.specs.Source.{IsParsed, IsRoomy, IsTooLarge}
 use Rattle.typst_source.specs.declared.extents.Extent.{Extent}
 use Rattle.typst_source.proofs.Laws.{AreLaws}
 use Rattle.typst_source.proofs.Blocks.{bytes_all}
@@ -42,12 +42,13 @@ pub root_label : (path : List ℕ) (range : Range ℕ) (t new : Tree) → KeepsB
 root_label [] range t new keeps = (keeps [] tt (λ inside. inside)).1
 root_label (i ∷ path) range t new keeps = (keeps [] tt (λ inside. inside)).1
 
--- the error that a replacement's becomes is want of numbers only where that was
-pub refused_by : {A : Type 0} (r : Result A SourceError) (e : ReplaceError) → IsErrAnd r (λ s. s ≡ of_replace e) → IsErrOf r Unnumberable → e ≡ replace.Unnumberable
-refused_by (Ok a) e h is = cc
-refused_by (Err s) replace.Unnumberable h is = refl
-refused_by (Err s) replace.Overflow h is = let same : s ≡ Overflow = h in cc
-refused_by (Err s) replace.Memory h is = let same : s ≡ Memory = h in cc
+-- why an edit is refused whose nodes are not replaced
+pub refused_as : (first : List ℕ → Block) (t : Tree) (source : List ℕ) {A : Type 0} (r : Result A SourceError) (e : ReplaceError) → IsErrAnd r (λ s. s ≡ of_replace e)
+    → (e ≡ replace.Unnumberable → IsCrowdedBy first t source) → (e ≡ replace.Overflow → IsTooLarge first source) → IfErr r (λ s. IsRefusedBy s first t source)
+refused_as first t source (Ok a) e h crowded large = tt
+refused_as first t source (Err s) replace.Unnumberable h crowded large = subst (λ s. IsRefusedBy s first t source) (sym h) (crowded refl)
+refused_as first t source (Err s) replace.Overflow h crowded large = subst (λ s. IsRefusedBy s first t source) (sym h) (large refl)
+refused_as first t source (Err s) replace.Memory h crowded large = subst (λ s. IsRefusedBy s first t source) (sym h) tt
 
 -- where no window has room, the nodes that the tree would have are more than the root's open numbers
 pub crowded : (from to : ℕ) (others : List Tree) (t : Tree) → from ≤ to → to ≤ length (trees t.children)

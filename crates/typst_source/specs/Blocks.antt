@@ -34,12 +34,20 @@ trees_of bs = flat_map (λ (b : Block). b.trees) bs
 abbrev pub document : (List ℕ → Block) → List ℕ → Tree
 document first text = inner_tree kinds.Markup (trees_of (blocks first text))
 
+-- how much pieces have together, given how much each has
+abbrev pub total : {A : Type 0} → (A → ℕ) → List A → ℕ
+total each [] = 0
+total each (x ∷ xs) = each x + total each xs
+
 -- how many bytes the blocks have together
 abbrev pub bytes_of : List Block → ℕ
-bytes_of [] = 0
-bytes_of (b ∷ bs) = b.len + bytes_of bs
+bytes_of bs = total (λ (b : Block). b.len) bs
+
+-- how far from the beginning of the first piece the pieces reach, given the length of each and how far it reaches
+abbrev pub reach_by : {A : Type 0} → (A → ℕ) → (A → ℕ) → List A → ℕ
+reach_by len reach [] = 0
+reach_by len reach (x ∷ xs) = max (reach x) (len x + reach_by len reach xs)
 
 -- how many bytes from the beginning of the first block the parser looked at for any of the blocks
 abbrev pub reach_of : List Block → ℕ
-reach_of [] = 0
-reach_of (b ∷ bs) = max b.reach (b.len + reach_of bs)
+reach_of bs = reach_by (λ (b : Block). b.len) (λ (b : Block). b.reach) bs

@@ -2,11 +2,12 @@
 use Rattle.std.specs.Prelude.{ℕ, zero, suc, List}
 use Rattle.typst_node.specs.Tree.{Forest, none, tree, Tree, forest}
 
--- The trees nest at most `depth` deep. A tree without children is 1 deep.
+-- The trees of a forest have at most `depth` levels. A tree without children has one.
 abbrev pub AreForestWithin : ℕ → Forest → Type 0
 AreForestWithin depth none = Unit {0}
 AreForestWithin zero (tree l c r) = ⊥
 AreForestWithin (suc depth) (tree l c r) = AreForestWithin depth c × AreForestWithin (suc depth) r
 
+-- trees side by side have at most `depth` levels
 abbrev pub AreWithin : ℕ → List Tree → Type 0
 AreWithin depth ts = AreForestWithin depth (forest ts)

@@ -30,20 +30,25 @@ IsReplaced first cut old done new =
     (e : Edit) × ReplacesBlocks first cut (text old) (text new) done.reparsed e
     × IsReconciled e old done.path.items done.touched done.moves new
 
--- An edit was done. The text is the edited one. The tree is the one that the text is parsed into, numbered for the same
--- file. The bytes that were parsed anew are those of `AreReparsed`. The nodes that go on stay, and all nodes outside the
--- touched children keep their labels. Each node of the old tree goes on or is gone, as the moves say, by its number and
--- by its span. If a leaf or an error went on, all nodes keep their places and numbers.
-pub record IsEdited (first : List ℕ → Block) (old : Tree) (range : Range ℕ) (with : List ℕ) (done : Edited) (new : Tree) : Type 0 where
-  pub edited : text new ≡ replace_range (text old) range.start range.end with
+-- A cut was made, after which the tree has this text. The tree is the one that the text is parsed into, numbered for the
+-- same file. The bytes that were parsed anew are those of `AreReparsed`. The nodes that go on stay, and all nodes outside
+-- the touched children keep their labels. Each node of the old tree goes on or is gone, as the moves say, by its number
+-- and by its span. If a leaf or an error went on, all nodes keep their places and numbers.
+pub record IsEditedTo (first : List ℕ → Block) (old : Tree) (cut : Cut) (source : List ℕ) (done : Edited) (new : Tree) : Type 0 where
+  pub edited : text new ≡ source
   pub fresh : plain new ≡ document first (text new)
   pub numbered : IsNumberedFor old.label.span.file new
-  pub reparsed : AreReparsed first (text old) (text new) (cut_of range (length with)) done.reparsed
-  pub replaced : IsReplaced first (cut_of range (length with)) old done new
+  pub reparsed : AreReparsed first (text old) (text new) cut done.reparsed
+  pub replaced : IsReplaced first cut old done new
   pub outside : KeepsBeside done.path.items (touched_children done.touched) old new
   pub all : AllGoOnOrGo done.moves old new
   pub spans : SpansFollow done.moves old
   pub still : LeafKeepsNumbers done.touched done.moves old new
+
+-- other bytes came in place of those of a range
+abbrev pub IsEdited : (List ℕ → Block) → Tree → Range ℕ → List ℕ → Edited → Tree → Type 0
+IsEdited first old range with done new =
+    IsEditedTo first old (cut_of range (length with)) (replace_range (text old) range.start range.end with) done new
 
 -- The numbers after the root's own and below its bound are fewer than the nodes of the tree that a text is parsed into.
 -- These are at least 2^46.

@@ -1,6 +1,6 @@
 -- Working form: the extents of blocks, and their sums.
-use Rattle.std.specs.Prelude.{ℕ, max, ◌≡◌, ◌+◌, ◌<◌, ◌≤◌, List, [], ◌∷◌, length, map, take}
-use Rattle.typst_source.specs.Blocks.{Block}
+use Rattle.std.specs.Prelude.{ℕ, ◌≡◌, ◌+◌, ◌<◌, ◌≤◌, List, length, map, take}
+use Rattle.typst_source.specs.Blocks.{Block, total, reach_by}
 use Rattle.typst_source.specs.declared.extents.Beginning.{Beginning}
 use Rattle.typst_source.specs.declared.extents.Extent.{Extent}
 use Rattle.typst_source.specs.declared.extents.Sums.{Sums}
@@ -9,22 +9,21 @@ use Rattle.typst_source.specs.declared.extents.Sums.{Sums}
 abbrev pub extent_of : Block → Extent
 extent_of b = record { bytes = b.len; nodes = length b.trees; reach = b.reach }
 
+-- the extents of blocks, in order
 abbrev pub extents_of : List Block → List Extent
 extents_of bs = map extent_of bs
 
 -- how many bytes the extents have together
 abbrev pub bytes_in : List Extent → ℕ
-bytes_in [] = 0
-bytes_in (e ∷ es) = e.bytes + bytes_in es
+bytes_in es = total (λ (e : Extent). e.bytes) es
 
+-- how many trees the extents have together
 abbrev pub nodes_in : List Extent → ℕ
-nodes_in [] = 0
-nodes_in (e ∷ es) = e.nodes + nodes_in es
+nodes_in es = total (λ (e : Extent). e.nodes) es
 
 -- how far the parser looked for any of the extents
 abbrev pub reach_in : List Extent → ℕ
-reach_in [] = 0
-reach_in (e ∷ es) = max e.reach (e.bytes + reach_in es)
+reach_in es = reach_by (λ (e : Extent). e.bytes) (λ (e : Extent). e.reach) es
 
 -- the sums of the first `sums.blocks` extents
 pub record AreSums (extents : List Extent) (sums : Sums) : Type 0 where

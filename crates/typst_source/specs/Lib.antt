@@ -3,7 +3,7 @@ pub mod Depth
 pub mod Parsed
 pub mod Reparsed
 pub mod Extents
-pub mod Window
+pub mod NewBlocks
 pub mod Source
 pub mod Errors
 pub mod Change

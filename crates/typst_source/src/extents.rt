@@ -138,7 +138,7 @@ fn widen(extents: &mut Vec<Extent>, at: usize, more: usize)
 
 /// Removes the extents from `from` up to `to`.
 fn narrow(extents: &mut Vec<Extent>, from: usize, to: usize)
-    requires window { from ≤ to }
+    requires ordered { from ≤ to }
     requires inside { to ≤ vec_len extents.old }
     ensures { extents.new.items ≡ take from extents.old.items ++ drop to extents.old.items }
 {
@@ -159,7 +159,7 @@ fn overwrite(extents: &mut [Extent], from: usize, others: &[Extent])
 ///
 /// If there are as many, it writes only these. Otherwise it also moves the extents after them.
 fn exchange(extents: &mut Vec<Extent>, from: usize, to: usize, others: &[Extent])
-    requires window { from ≤ to }
+    requires ordered { from ≤ to }
     requires inside { to ≤ vec_len extents.old }
     requires room { vec_len extents.old + length others.now ≤ vec_capacity extents.old }
     ensures { extents.new.items ≡ splice extents.old.items from to others.now }
@@ -218,7 +218,7 @@ impl Extents {
     /// Replaces the extents after a beginning, up to those from `to` on. There is memory for as many more.
     pub(crate) fn replace(&mut self, kept: Beginning, to: usize, others: &[Extent])
         requires beginning { IsBeginning self.old.items kept }
-        requires window { kept.sums.blocks ≤ to }
+        requires ordered { kept.sums.blocks ≤ to }
         requires inside { to ≤ length self.old.items }
         requires room { length self.old.items + length others.now ≤ self.old.room }
         ensures { self.new.items ≡ splice self.old.items kept.sums.blocks to others.now }

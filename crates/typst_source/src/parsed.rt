@@ -1,16 +1,12 @@
 //! The tree of a text, with how far the text's blocks extend.
-ghost use Rattle.std.specs.Prelude.{ℕ, [], ◌≡◌, ◌+◌, ◌-◌, ◌^◌, ◌<◌, ◌≤◌, IfOk, OnOk, OnErr, IsErrOf};
+ghost use Rattle.std.specs.Prelude.{◌≡◌, ◌^◌, ◌≤◌, IfOk, IfErr, OnOk, OnErr, IsErrOf};
 ghost use Rattle.typst_node.specs.Count.{count};
-ghost use Rattle.typst_node.specs.Following.{AllGoOnOrGo, SpansFollow};
-ghost use Rattle.typst_node.specs.Labels.{number, bound};
 ghost use Rattle.typst_node.specs.Numbered.{IsNumberedFor};
-ghost use Rattle.typst_node.specs.Outside.{KeepsBeside};
-ghost use Rattle.typst_node.specs.Reconciled.{LeafKeepsNumbers, touched_children};
 ghost use Rattle.typst_node.specs.Text.{text};
 ghost use Rattle.typst_source.specs.Blocks.{document};
 ghost use Rattle.typst_source.specs.Change.{IsChange};
-ghost use Rattle.typst_source.specs.Edited.{IsReplaced};
-ghost use Rattle.typst_source.specs.Reparsed.{IsCut, AreReparsed};
+ghost use Rattle.typst_source.specs.Edited.{IsEditedTo, IsRefusedBy};
+ghost use Rattle.typst_source.specs.Reparsed.{IsCut};
 ghost use Rattle.typst_source.specs.Source.{IsParsed, IsTooLarge};
 ghost use Rattle.typst_source.specs.declared.error.SourceError.TheVariants.{Overflow, Unnumberable};
 
@@ -18,8 +14,8 @@ use crate::cut::Cut;
 use crate::edited::Edited;
 use crate::error::SourceError;
 use crate::extents::{Beginning, Extent, Extents};
+use crate::new_blocks::{Olds, parse_until};
 use crate::parser::BlockParser;
-use crate::window::{Olds, parse_until};
 use std::alloc::Global;
 use std::ops::Range;
 use typst_base::{FileId, Span, SyntaxKind};
@@ -109,14 +105,14 @@ impl Parsed {
             bytes: bytes - kept.sums.bytes,
         };
         let (_, rest) = new.split_at(kept.sums.bytes);
-        let window = parse_until(alloc, parser, rest, &olds, new.len() - cut.new_end)?;
+        let new_blocks = parse_until(alloc, parser, rest, &olds, new.len() - cut.new_end)?;
         Ok(Change {
             kept,
-            upto: kept.sums.blocks + window.passed.blocks,
-            children: kept.sums.nodes..kept.sums.nodes + window.passed.nodes,
-            extents: window.extents,
-            nodes: window.nodes,
-            reparsed: kept.sums.bytes..new.len() - window.left,
+            upto: kept.sums.blocks + new_blocks.passed.blocks,
+            children: kept.sums.nodes..kept.sums.nodes + new_blocks.passed.nodes,
+            extents: new_blocks.extents,
+            nodes: new_blocks.nodes,
+            reparsed: kept.sums.bytes..new.len() - new_blocks.left,
         })
     }
 
@@ -130,22 +126,11 @@ impl Parsed {
     ) -> Result<Edited, SourceError>
         requires parsed { IsParsed P.first self.old.extents.items self.old.root }
         requires cut { IsCut (text self.old.root) new.now cut.now }
+        ensures edited { IfOk result (λ done. IsEditedTo P.first self.old.root cut.now new.now done self.new.root) }
+        ensures parsed { OnOk result (IsParsed P.first self.new.extents.items self.new.root) }
+        ensures refused { IfErr result (λ error. IsRefusedBy error P.first self.old.root new.now) }
         ensures err_root { OnErr result (self.new.root ≡ self.old.root) }
         ensures err_extents { OnErr result (self.new.extents.items ≡ self.old.extents.items) }
-        ensures unnumberable { IsErrOf result Unnumberable
-            → bound self.old.root.label - (number self.old.root.label + 1) < count (document P.first new.now) }
-        ensures overflow { IsErrOf result Overflow → IsTooLarge P.first new.now }
-        ensures new_text { OnOk result (text self.new.root ≡ new.now) }
-        ensures parsed { OnOk result (IsParsed P.first self.new.extents.items self.new.root) }
-        ensures numbered { OnOk result (IsNumberedFor self.old.root.label.span.file self.new.root) }
-        ensures reparsed { IfOk result (λ done. AreReparsed P.first (text self.old.root) new.now cut.now
-            done.reparsed) }
-        ensures replaced { IfOk result (λ done. IsReplaced P.first cut.now self.old.root done self.new.root) }
-        ensures outside { IfOk result (λ done. KeepsBeside done.path.items (touched_children done.touched)
-            self.old.root self.new.root) }
-        ensures all { IfOk result (λ done. AllGoOnOrGo done.moves self.old.root self.new.root) }
-        ensures spans { IfOk result (λ done. SpansFollow done.moves self.old.root) }
-        ensures still { IfOk result (λ done. LeafKeepsNumbers done.touched done.moves self.old.root self.new.root) }
     {
         let change = self.change(alloc, parser, new, cut)?;
         self.extents.reserve(change.extents.len())?;

@@ -1,18 +1,13 @@
 //! Sources: texts with their trees.
-ghost use Rattle.std.specs.Prelude.{ℕ, [], ◌≡◌, ◌+◌, ◌-◌, ◌^◌, ◌<◌, ◌≤◌, ◌↔◌, IfOk, OnOk, OnErr, IsErrOf, IsTrue, length, string_bytes};
+ghost use Rattle.std.specs.Prelude.{◌≡◌, ◌^◌, ◌≤◌, ◌↔◌, IfOk, IfErr, OnErr, IsErrOf, IsTrue, string_bytes};
 ghost use Rattle.std.specs.List.{replace_range};
 ghost use Rattle.typst_node.specs.Count.{count};
-ghost use Rattle.typst_node.specs.Following.{AllGoOnOrGo, SpansFollow};
-ghost use Rattle.typst_node.specs.Labels.{number, bound};
 ghost use Rattle.typst_node.specs.Numbered.{IsNumbered, IsNumberedFor};
-ghost use Rattle.typst_node.specs.Outside.{KeepsBeside};
-ghost use Rattle.typst_node.specs.Reconciled.{LeafKeepsNumbers, touched_children};
 ghost use Rattle.typst_node.specs.Plain.{plain};
 ghost use Rattle.typst_node.specs.Text.{text};
 ghost use Rattle.typst_source.specs.Blocks.{document};
-ghost use Rattle.typst_source.specs.Edited.{IsReplaced};
+ghost use Rattle.typst_source.specs.Edited.{IsEdited, IsRefusedBy};
 ghost use Rattle.typst_source.specs.Fits.{FitsText};
-ghost use Rattle.typst_source.specs.Reparsed.{AreReparsed, cut_of};
 ghost use Rattle.typst_source.specs.Source.{IsTooLarge};
 ghost use Rattle.typst_source.specs.declared.error.SourceError.TheVariants.{Overflow, Unnumberable};
 
@@ -170,31 +165,10 @@ impl<P: BlockParser + Drop> Source<P> {
         with: &str,
     ) -> Result<Edited, SourceError>
         requires fits_ask_fits { FitsText (text self.old) range }
-
-        // A refusal changes nothing.
+        ensures edited { IfOk result (λ done. IsEdited P.first self.old range with.now done self.new) }
+        ensures refused { IfErr result (λ error. IsRefusedBy error P.first self.old
+            (replace_range (text self.old) range.start range.end with.now)) }
         ensures err { OnErr result (self.new ≡ self.old) }
-        ensures unnumberable { IsErrOf result Unnumberable
-            → bound self.old.label - (number self.old.label + 1)
-            < count (document P.first (replace_range (text self.old) range.start range.end with.now)) }
-        ensures large { IsErrOf result Unnumberable
-            → 2 ^ 46 ≤ count (document P.first (replace_range (text self.old) range.start range.end with.now)) }
-
-        ensures overflow { IsErrOf result Overflow
-            → IsTooLarge P.first (replace_range (text self.old) range.start range.end with.now) }
-
-        // What an edit makes.
-        ensures edited { OnOk result (text self.new ≡ replace_range (text self.old) range.start range.end with.now) }
-        ensures fresh { OnOk result (plain self.new ≡ document P.first (text self.new)) }
-        ensures numbered { OnOk result (IsNumberedFor self.old.label.span.file self.new) }
-        ensures reparsed { IfOk result (λ done.
-            AreReparsed P.first (text self.old) (text self.new) (cut_of range (length with.now)) done.reparsed) }
-        ensures replaced { IfOk result (λ done.
-            IsReplaced P.first (cut_of range (length with.now)) self.old done self.new) }
-        ensures outside { IfOk result (λ done. KeepsBeside done.path.items (touched_children done.touched) self.old
-            self.new) }
-        ensures all { IfOk result (λ done. AllGoOnOrGo done.moves self.old self.new) }
-        ensures spans { IfOk result (λ done. SpansFollow done.moves self.old) }
-        ensures still { IfOk result (λ done. LeafKeepsNumbers done.touched done.moves self.old self.new) }
     {
         let gone = put(alloc, &mut self.content, &range, with)?;
         let cut = Cut {

@@ -1,5 +1,4 @@
-//! Tests of `typst_scanner`, `typst_lexer` and `typst_tokens`.
-mod blocks;
+//! Tests of `typst_lexer`.
 mod modes;
 mod rows;
 mod tokens;

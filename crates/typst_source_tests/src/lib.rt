@@ -1,4 +1,4 @@
-//! Tests of `typst_source` with a small parser, which is proved to keep the laws, and with that of markup, and of crates that
+//! Tests of `typst_source` with a small parser, which is proved to keep the laws, and with that of Typst, and of crates that
 //! know no trees.
 #![tactic(auto)]
 

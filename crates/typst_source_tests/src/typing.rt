@@ -1,10 +1,10 @@
-//! Where nodes of markup are after edits of its text, by their spans.
+//! Where nodes are after edits of their text, by their spans.
 use std::alloc::Global;
 use std::process::Abort;
 use std::test::Fail;
 use typst_base::{FileId, Span, SpanNumber, SyntaxKind};
+use typst_language::Typst;
 use typst_linked::LinkedNode;
-use typst_markup::Markup;
 use typst_source::{Edited, Outcome, Source, TextEdit};
 
 /// An edit: where the bytes that go begin and end, and the text that comes.
@@ -25,7 +25,7 @@ struct Row {
 const NEXT: Edit = (3, 3, "a\n\n");
 
 /// Texts, edits, and where a node is after them.
-const ROWS: [Row; 19] = [
+const ROWS: [Row; 24] = [
     Row {
         shows: "a letter in its title",
         text: "= A\n\nb\n",
@@ -139,6 +139,41 @@ const ROWS: [Row; 19] = [
         wanted: "same 2..6",
     },
     Row {
+        shows: "a letter in a name in code",
+        text: "#let a = 1\nb\n",
+        kind: SyntaxKind::LetBinding,
+        edits: &[(6, 6, "b")],
+        wanted: "same 1..11",
+    },
+    Row {
+        shows: "its hash is deleted",
+        text: "#let a = 1\nb\n",
+        kind: SyntaxKind::LetBinding,
+        edits: &[(0, 1, "")],
+        wanted: "gone",
+    },
+    Row {
+        shows: "lines in a bracket, which end no block",
+        text: "#[a\n\nb]\nc\n",
+        kind: SyntaxKind::ContentBlock,
+        edits: &[(6, 6, "c\n= d\n")],
+        wanted: "same 1..13",
+    },
+    Row {
+        shows: "its other branch, in a line of its own",
+        text: "#{\nif a {}\n}\nb\n",
+        kind: SyntaxKind::Conditional,
+        edits: &[(11, 11, "else {}\n")],
+        wanted: "same 3..18",
+    },
+    Row {
+        shows: "a script in an equation",
+        text: "$a$\nb\n",
+        kind: SyntaxKind::Equation,
+        edits: &[(2, 2, "^2")],
+        wanted: "same 0..5",
+    },
+    Row {
         shows: "the root",
         text: "a\n",
         kind: SyntaxKind::Markup,
@@ -167,7 +202,7 @@ const ROWS: [Row; 19] = [
 ];
 
 /// The span of the first node of a kind, in preorder.
-fn first_of(alloc: Global, source: &Source<Markup>, kind: SyntaxKind) -> Result<Span, Fail> {
+fn first_of(alloc: Global, source: &Source<Typst>, kind: SyntaxKind) -> Result<Span, Fail> {
     for node in LinkedNode::new(source.root()).preorder(alloc)? {
         let node = node?;
         if node.get().kind() == kind {
@@ -178,7 +213,7 @@ fn first_of(alloc: Global, source: &Source<Markup>, kind: SyntaxKind) -> Result<
 }
 
 /// Makes an edit.
-fn edit(alloc: Global, source: &mut Source<Markup>, edit: &Edit) -> Result<Edited, Fail> {
+fn edit(alloc: Global, source: &mut Source<Typst>, edit: &Edit) -> Result<Edited, Fail> {
     let (start, end, with) = edit;
     let edit = TextEdit {
         range: *start..*end,
@@ -192,7 +227,7 @@ fn edit(alloc: Global, source: &mut Source<Markup>, edit: &Edit) -> Result<Edite
 
 /// Where the node of a row is after its edits.
 fn followed(alloc: Global, row: &Row) -> Result<String, Fail> {
-    let mut source = Source::new(alloc, FileId::FIRST, row.text, Markup)?;
+    let mut source = Source::new(alloc, FileId::FIRST, row.text, Typst)?;
     let first = first_of(alloc, &source, row.kind)?;
     let mut span = first;
     for each in row.edits {
@@ -226,7 +261,7 @@ fn a_node_is_followed_while_its_text_is_typed(rt: HostRuntime) -> Result<(), Fai
 
 #[test]
 fn a_span_of_no_node_stays_as_it_is(rt: HostRuntime) -> Result<(), Fail> {
-    let mut source = Source::new(rt.alloc(), FileId::FIRST, "a\n", Markup)?;
+    let mut source = Source::new(rt.alloc(), FileId::FIRST, "a\n", Typst)?;
     let done = edit(rt.alloc(), &mut source, &(0, 2, ""))?;
     let other = FileId::new(2).ok_or("no file")?;
     // A detached span, one of another file, and one of bytes.

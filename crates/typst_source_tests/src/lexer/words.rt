@@ -1,12 +1,12 @@
-//! Word characters, against the tables of the crate `unicode`.
+//! Wordy characters, against the tables of the crate `unicode`.
 
 use crate::lexer::rows::assert_in;
 use std::test::Fail;
-use typst_lexer::{Lexer, TokenKind};
-use unicode::properties::{GeneralCategory, is_alphabetic};
+use typst_lexer::{Lexer, Mode, Token, TokenKind};
+use unicode::properties::{GeneralCategory, Script, is_alphabetic};
 
 /// Whether the character is alphabetic or a number.
-fn is_word(c: char) -> bool {
+fn is_alphanumeric(c: char) -> bool {
     is_alphabetic(c)
         || matches!(
             GeneralCategory::for_char(c),
@@ -16,23 +16,38 @@ fn is_word(c: char) -> bool {
         )
 }
 
-/// Whether the text is one token.
-fn is_one_text(text: &str) -> bool {
-    match Lexer::new(text).next() {
-        Some(token) => token.kind == TokenKind::Text && token.text.len() == text.len(),
+/// Whether the character is of a script that puts no spaces between words.
+fn is_unspaced(c: char) -> bool {
+    matches!(
+        Script::for_char(c),
+        Script::Han | Script::Hiragana | Script::Katakana | Script::Hangul
+    )
+}
+
+/// Whether this is a token of text with so many bytes.
+fn is_text(token: Option<Token>, len: usize) -> bool {
+    match token {
+        Some(token) => token.kind == TokenKind::Text && token.text.len() == len,
         None => false,
     }
 }
 
-/// No letter and no number has this code or a larger one.
-const LETTERS_END: u32 = 0x4_0000;
+/// Whether a star between two of the character begins text.
+fn is_star_text(text: &str, c: char) -> bool {
+    let mut lexer = Lexer::new(text, Mode::Markup);
+    is_text(lexer.next(), c.len_utf8()) && is_text(lexer.next(), 1 + c.len_utf8())
+}
+
+/// No wordy character has this code or a larger one: the letters from here on are Han.
+const WORDY_END: u32 = 0x2_0000;
 
 #[test]
-fn a_star_between_word_characters_is_text(rt: HostRuntime) -> Result<(), Fail> {
-    for code in 0..LETTERS_END {
+fn a_star_between_wordy_characters_is_text(rt: HostRuntime) -> Result<(), Fail> {
+    for code in 0..WORDY_END {
         if let Some(c) = char::from_u32(code) {
             let text = format!(in rt.alloc(); "{c}*{c}")?;
-            assert_in(&rt, &text, &is_one_text(&text), &is_word(c));
+            let is_wordy = is_alphanumeric(c) && !is_unspaced(c);
+            assert_in(&rt, &text, &is_star_text(&text, c), &is_wordy);
         }
     }
     Ok(())

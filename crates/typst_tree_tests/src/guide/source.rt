@@ -3,16 +3,16 @@ use crate::rows::assert_text;
 use std::alloc::{AllocError, Global};
 use std::ops::Range;
 use std::test::Fail;
+use typst_language::Typst;
 use typst_lines::{ColumnUnit, Lines};
-use typst_markup::Markup;
 use typst_source::{Outcome, Source, SourceError, TextEdit};
 use typst_tree::{FileId, Renumbered, SyntaxKind, Touched};
 
 /// A heading and two paragraphs, the first with strong content.
 const TEXT: &str = "= Trees of Typst\n\nSee *this* tree.\n\nThe end.\n";
 
-fn parsed(alloc: Global) -> Result<Source<Markup>, SourceError> {
-    Source::new(alloc, FileId::FIRST, TEXT, Markup)
+fn parsed(alloc: Global) -> Result<Source<Typst>, SourceError> {
+    Source::new(alloc, FileId::FIRST, TEXT, Typst)
 }
 
 #[test]
@@ -66,7 +66,7 @@ fn a_span_leads_to_its_node_after_edits(rt: HostRuntime) -> Result<(), Fail> {
 /// The bytes of the first error of a source.
 fn place_of_error(
     alloc: Global,
-    source: &Source<Markup>,
+    source: &Source<Typst>,
 ) -> Result<Option<Range<usize>>, AllocError> {
     let (errors, _) = source.root().errors_and_warnings(alloc)?;
     Ok(match errors.first() {

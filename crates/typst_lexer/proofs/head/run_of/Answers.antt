@@ -1,27 +1,25 @@
-use Rattle.std.proofs.Common.{◌≡◌, ℕ, ◌+◌, ◌≤◌, List, length, take, drop, refl, sym, ap, subst, ◌∙◌, arith}
+use Rattle.std.proofs.Common.{◌≡◌, ℕ, ◌+◌, ◌≤◌, List, take, drop, refl, sym, ap, subst, ◌∙◌, arith}
 use Rattle.std.specs.Prelude.{Some, None}
 use Rattle.typst_lexer.specs.declared.head.Run.{Run}
-use Rattle.typst_lexer.specs.declared.state.State.{State}
-use Rattle.typst_lexer.specs.Steps.{stay}
-use Rattle.typst_lexer.specs.Blocks.{count}
-use Rattle.typst_lexer.specs.FirstToken.{accepts, begin_in, run_of}
-use Rattle.typst_lexer.specs.Laws.{stay_counts_more}
-use Rattle.typst_lexer.specs.Runs.{grown, run}
-use Rattle.typst_lexer.proofs.FirstTokens.{begin_accepts, begin_in_counts}
+use Rattle.typst_lexer.specs.FirstToken.{run_of}
+use Rattle.typst_lexer.specs.Machine.{accepts, begin, count, stay}
+use Rattle.typst_lexer.proofs.FirstTokens.{run_within}
+use Rattle.typst_lexer.proofs.MachineLaws.{begin_accepts, begin_counts, stay_counts_more}
+use Rattle.typst_lexer.specs.Runs.{run}
 use Rattle.typst_lexer.proofs.Runs.{Ends, grown_ends, grown_passed, joined_run, run_at_end, run_first, run_goes_on, run_stop}
 use Rattle.typst_lexer.proofs.head.run_of.Goals as goal
 
 pub loop-run-init : goal.loop-run-init
 loop-run-init c =
     let bs : List ℕ = c.args.bytes.now in
-    let first : c.begin_in-state.result ≡ begin_in c.args.mode c.args.behind (take 10 bs) = c.begin_in-state.ensures ∙ ap (begin_in c.args.mode c.args.behind) c.window.ensures in
+    let first : c.begin-state.result ≡ begin c.args.mode c.args.behind (take 10 bs) = c.begin-state.ensures ∙ ap (begin c.args.mode c.args.behind) c.window.ensures in
     record {
       within = omega (arith, c.requires);
-      counted = subst (λ s. count s ≤ 1) (sym first) (begin_in_counts c.args.mode c.args.behind (take 10 bs));
+      counted = subst (λ s. count s ≤ 1) (sym first) (begin_counts c.args.mode c.args.behind (take 10 bs));
       ends = λ _. (refl, refl);
       so_far =
           ap (λ s. joined_run stay accepts (record { passed = 1; len = 1; last = s }) (run stay accepts 10 s (drop 1 bs))) first
-          ∙ run_first stay accepts 10 (begin_in c.args.mode c.args.behind) bs c.requires (begin_accepts c.args.mode c.args.behind (take 10 bs));
+          ∙ run_first stay accepts 10 (begin c.args.mode c.args.behind) bs c.requires (begin_accepts c.args.mode c.args.behind (take 10 bs));
     }
 
 pub loop-run-preserved : goal.loop-run-preserved
@@ -50,3 +48,13 @@ returns-in-None-clause-run c =
 pub returns-clause-run : goal.returns-clause-run
 returns-clause-run c =
     sym (run_at_end stay accepts 10 c.loop-run.run c.loop-run.state c.args.bytes.now c.loop-run-test.false c.loop-run.invariant.ends) ∙ c.loop-run.invariant.so_far
+
+pub returns-in-None-clause-len : goal.returns-in-None-clause-len
+returns-in-None-clause-len c =
+    let same : c.loop-run.run.len ≡ (run_of c.args.mode c.args.behind c.args.bytes.now).len = ap (λ (r : Run). r.len) (returns-in-None-clause-run c) in
+    omega (arith, same, run_within c.args.mode c.args.behind c.args.bytes.now)
+
+pub returns-clause-len : goal.returns-clause-len
+returns-clause-len c =
+    let same : c.loop-run.run.len ≡ (run_of c.args.mode c.args.behind c.args.bytes.now).len = ap (λ (r : Run). r.len) (returns-clause-run c) in
+    omega (arith, same, run_within c.args.mode c.args.behind c.args.bytes.now)

@@ -1,7 +1,6 @@
 use Rattle.std.proofs.Common.{◌≡◌, ◌-◌, ◌≤◌, length, drop}
-use Rattle.typst_lexer.specs.Blocks.{count}
-use Rattle.typst_lexer.specs.Steps.{stay}
-use Rattle.typst_lexer.specs.FirstToken.{accepts, run_of}
+use Rattle.typst_lexer.specs.FirstToken.{run_of}
+use Rattle.typst_lexer.specs.Machine.{accepts, count, stay}
 use Rattle.typst_lexer.specs.Runs.{run}
 use Rattle.typst_lexer.proofs.Runs.{joined_run, Ends}
 use Rattle.typst_lexer.proofs.head.run_of.Given as goal

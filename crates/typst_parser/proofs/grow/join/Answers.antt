@@ -5,8 +5,8 @@ use Rattle.typst_parser.specs.Growth.{proper}
 use Rattle.typst_parser.proofs.Texts.{inside_fits}
 use Rattle.typst_parser.proofs.grow.join.Goals as goal
 
-pub returns-in_err-inner-clause-overflow : goal.returns-in_err-inner-clause-overflow
-returns-in_err-inner-clause-overflow c is fits =
+pub returns-in_err-node_of-clause-overflow : goal.returns-in_err-node_of-clause-overflow
+returns-in_err-node_of-clause-overflow c is fits =
     let ts = c.args.trees.now.items in
     let inside : c.in_ok-children.children.items ≡ last_some c.args.children ts = search rules in
-    c.in_err-inner.ensures.overflow.0 (search (rules, is)) (subst SumsFit (sym inside) (inside_fits (proper c.args.kind) (but_last c.args.children ts) (last_some c.args.children ts) fits))
+    c.in_err-node_of.ensures.overflow (search (rules, is)) (subst SumsFit (sym inside) (inside_fits (proper c.args.kind) (but_last c.args.children ts) (last_some c.args.children ts) fits))

@@ -1,8 +1,8 @@
 use Rattle.std.proofs.Common.{◌≡◌, ◌<◌, ◌≤◌, ◌==◌, false, List, ℕ, [], ◌∷◌, length, sym, subst, ◌∙◌, arith}
-use Rattle.typst_tokens.specs.declared.head.FirstToken.{FirstToken}
-use Rattle.typst_tokens.specs.declared.mode.Mode.TheVariants.{Code}
-use Rattle.typst_tokens.specs.declared.place.Behind.TheVariants.{At}
-use Rattle.typst_tokens.proofs.FirstTokens.{first_within}
+use Rattle.typst_lexer.specs.declared.head.FirstToken.{FirstToken}
+use Rattle.typst_lexer.specs.declared.mode.Mode.TheVariants.{Code}
+use Rattle.typst_lexer.specs.declared.place.Behind.TheVariants.{At}
+use Rattle.typst_lexer.proofs.FirstTokens.{first_within}
 use Rattle.typst_parser.proofs.raw.lang_len.Goals as goal
 
 has_byte : (text : List ℕ) → (length text == 0) ≡ false → 0 < length text

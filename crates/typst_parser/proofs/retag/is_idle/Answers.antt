@@ -2,7 +2,7 @@ use Rattle.std.proofs.Common.{rules, ◌≡◌, ◌-◌, ◌∙◌, [], Some, ap
 use Rattle.std.specs.List.{slice_get}
 use Rattle.typst_parser.specs.Events.{kind_of}
 use Rattle.typst_parser.proofs.Walking.{idle_at, nothing}
-use Rattle.typst_rows.specs.Maps.{changes}
+use Rattle.typst_grammar.specs.Maps.{changes}
 use Rattle.typst_parser.proofs.retag.is_idle.Goals as goal
 
 pub returns-in-Some : goal.returns-in-Some

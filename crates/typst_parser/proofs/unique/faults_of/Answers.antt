@@ -1,14 +1,20 @@
-use Rattle.std.proofs.Common.{rules, ◌≡◌, ◌+◌, ◌-◌, ◌++◌, ◌∷◌, [], drop, length, take}
-use Rattle.std.proofs.lemmas.List.{take_rest}
-use Rattle.std.specs.Option.{option_map}
-use Rattle.typst_parser.specs.FoundViews.{found_of}
-use Rattle.typst_parser.proofs.Finding.{faults_next}
+use Rattle.std.proofs.Common.{rules, ◌≡◌, ℕ, suc, ◌-◌, ◌<◌, ◌++◌, ◌∷◌, [], ap, drop, length, reverse, subst, sym, ◌∙◌, arith}
+use Rattle.typst_parser.specs.Unique.{faults_of}
+use Rattle.typst_parser.proofs.Seen.{Saw, more_faults, saw_next, views}
 use Rattle.typst_parser.proofs.unique.faults_of.Goals as goal
 
-pub loop-i-preserved : goal.loop-i-preserved
-loop-i-preserved c =
-    let found = c.args.found.now in
-    let i = c.loop-i.i in
-    let new : c.push.new.self.items ≡ c.loop-i.faults.items ++ c.fault_among.result ∷ [] = search rules in
-    faults_next (option_map found_of) found (take (length found - (i + 1)) (drop (i + 1) found)) i _ c.fault_among.result c.loop-i.faults.items c.push.new.self.items _ c.loop-i-test.true
-    c.fault_among.ensures (take_rest found (i + 1)) new c.loop-i.invariant
+pub loop-left-preserved : goal.loop-left-preserved
+loop-left-preserved c =
+    let all = c.args.found.now in
+    let left = c.loop-left.left in
+    let seen = c.loop-left.seen in
+    let faults = c.loop-left.faults.items in
+    let before : suc (left - 1) ≡ left = omega (arith, c.loop-left-test.true) in
+    let within : left - 1 < length all = omega (arith, c.loop-left-test.true, c.loop-left.invariant.within) in
+    let saw : Saw seen (drop (suc (left - 1)) all) = subst (λ n. Saw seen (drop n all)) (sym before) c.loop-left.invariant.saw in
+    let so_far : reverse faults ≡ faults_of (views (drop (suc (left - 1)) all)) = subst (λ n. reverse faults ≡ faults_of (views (drop n all))) (sym before) c.loop-left.invariant.so_far in
+    record {
+      within = omega (arith, within);
+      saw = saw_next seen c.see_any.new.seen all (left - 1) _ within saw c.in_ok-see_any.ensures.seen;
+      so_far = ap reverse c.in_ok-push.ensures.items ∙ more_faults seen all (left - 1) _ faults c.in_ok-see_any.field-0 within saw so_far c.in_ok-see_any.ensures.fault;
+    }

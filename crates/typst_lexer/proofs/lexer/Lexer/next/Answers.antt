@@ -1,23 +1,42 @@
-use Rattle.std.proofs.Common.{◌≡◌, ℕ, ◌<◌, false, List, [], ◌∷◌, length, take, drop, sym, ap, ◌∙◌, arith}
+use Rattle.std.proofs.Common.{◌≡◌, ℕ, ◌<◌, ◌++◌, false, List, [], ◌∷◌, length, take, drop, sym, ap, ◌∙◌, arith}
 use Rattle.std.specs.Prelude.{◌==◌}
-use Rattle.typst_lexer.specs.Steps.{kind_of}
-use Rattle.typst_lexer.specs.First.{first_len, first_last}
-use Rattle.typst_lexer.specs.Tokens.{tokens_behind}
-use Rattle.typst_lexer.proofs.Tokens.{tokens_step}
+use Rattle.typst_lexer.specs.declared.head.FirstToken.{FirstToken}
+use Rattle.typst_lexer.specs.FirstToken.{first}
+use Rattle.typst_lexer.specs.Left.{Rest}
+use Rattle.typst_lexer.specs.Tokens.{found_in, tokens}
+use Rattle.typst_lexer.proofs.Tokens.{front_and_back, tokens_step}
 use Rattle.typst_lexer.proofs.lexer.Lexer.next.Goals as goal
 
 has_byte : (text : List ℕ) → (length text == 0) ≡ false → 0 < length text
 has_byte [] e = cc
 has_byte (b ∷ bs) e = omega arith
 
-pub returns : goal.returns
-returns c =
+pub returns-clause-tokens : goal.returns-clause-tokens
+returns-clause-tokens c =
+    let how = c.args.self.now.mode in
     let k = c.args.self.now.behind in
     let t = c.args.self.now.text.now in
     let some : 0 < length t = has_byte t (sym c.is_empty.ensures ∙ c.if-is_empty.false) in
-    let len : first_len k t ≡ c.first_token-first.result.len = sym c.first_token-first.ensures.len in
-    let last : first_last k t ≡ c.first_token-first.result.last = sym c.first_token-first.ensures.last in
-    let kind : kind_of (first_last k t).inside ≡ c.kind_of.result = ap (λ s. kind_of s.inside) last ∙ sym c.kind_of.ensures in
-    let front : take (first_len k t) t ≡ c.split_at.result.0.now = ap (λ n. take n t) len ∙ sym c.split_at.ensures.front in
-    let back : drop (first_len k t) t ≡ c.split_at.result.1.now = ap (λ n. drop n t) len ∙ sym c.split_at.ensures.back in
-    tokens_step k t some ∙ (λ i. record { kind = kind i; bytes = front i } ∷ tokens_behind (last i).behind (back i))
+    let found = c.first_token-first.result in
+    let same : first how k t ≡ found = sym c.first_token-first.ensures.token in
+    let front : take found.len t ≡ c.split_at.result.0.now = sym c.split_at.ensures.front in
+    let back : drop found.len t ≡ c.split_at.result.1.now = sym c.split_at.ensures.back in
+    tokens_step how k t some
+    ∙ ap (λ (f : FirstToken). found_in t f ∷ tokens how f.behind (drop f.len t)) same
+    ∙ (λ i. record { kind = found.kind; bytes = front i } ∷ tokens how found.behind (back i))
+
+pub returns-clause-text : goal.returns-clause-text
+returns-clause-text c =
+    let t = c.args.self.now.text.now in
+    let len = c.first_token-first.result.len in
+    let front : take len t ≡ c.split_at.result.0.now = sym c.split_at.ensures.front in
+    let back : drop len t ≡ c.split_at.result.1.now = sym c.split_at.ensures.back in
+    sym (front_and_back len t) ∙ (λ i. front i ++ back i)
+
+pub returns-clause-left : goal.returns-clause-left
+returns-clause-left c =
+    let how = c.args.self.now.mode in
+    let t = c.args.self.now.text.now in
+    let found = c.first_token-first.result in
+    ap (λ (rest : List ℕ). (let r : Rest = record { mode = how; before = found.behind; text = rest } in r)) c.split_at.ensures.back
+    ∙ ap (λ (f : FirstToken). (let r : Rest = record { mode = how; before = f.behind; text = drop f.len t } in r)) c.first_token-first.ensures.token

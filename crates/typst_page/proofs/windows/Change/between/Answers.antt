@@ -9,8 +9,8 @@ pub returns : goal.returns
 returns c =
     let olds = trees c.args.old.now.children in
     let news = trees c.args.new.now.children in
-    let from = c.ending_by-from.result in
-    let to = c.beginning_before-to.result in
+    let from = c.beginning_before-from.result in
+    let to = c.ending_by-to.result in
     let old_to = old_end olds news to in
     let old_all = ap length c.child_slice-old_children.ensures.children in
     let new_all = ap length c.child_slice-new_children.ensures.children in
@@ -25,7 +25,7 @@ returns c =
     record {
       from = from;
       to = to;
-      first = c.ending_by-from.ensures;
-      last = c.beginning_before-to.ensures;
+      first = c.beginning_before-from.ensures;
+      last = c.ending_by-to.ensures;
       among = record { before = omega (arith, first); changed = omega (arith, first, last, rest); behind = omega (arith, last, new_all) };
     }

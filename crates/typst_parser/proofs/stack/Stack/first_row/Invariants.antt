@@ -1,5 +1,5 @@
 use Rattle.std.proofs.Common.{◌≡◌, drop}
-use Rattle.typst_rows.specs.Row.{rows_of}
+use Rattle.typst_grammar.specs.Row.{rows_of}
 use Rattle.typst_parser.specs.Rows.{first_row}
 use Rattle.typst_parser.specs.View.{stack_of}
 use Rattle.typst_parser.proofs.stack.Stack.first_row.Given as goal

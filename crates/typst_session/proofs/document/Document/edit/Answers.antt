@@ -1,20 +1,9 @@
 use Rattle.std.proofs.Common.{ap, subst}
-use Rattle.typst_markup.specs.Block.{first}
+use Rattle.typst_language.specs.Block.{first}
 use Rattle.typst_source.specs.Edited.{IsEdited}
 use Rattle.typst_session.specs.LinedText.{LinedText}
 use Rattle.typst_session.proofs.document.Document.edit.Goals as goal
 
 pub returns-in-Ok-clause-edited : goal.returns-in-Ok-clause-edited
 returns-in-Ok-clause-edited c =
-    let e = c.in-Ok.ensures in
-    subst (λ t. IsEdited first t c.args.range c.args.with.now c.in-Ok.done c.edit-2.new.self) (ap (λ (d : LinedText). d.tree) c.self.view_is) record {
-      edited = e.edited;
-      fresh = e.fresh;
-      numbered = e.numbered;
-      reparsed = e.reparsed;
-      replaced = e.replaced;
-      outside = e.outside;
-      all = e.all;
-      spans = e.spans;
-      still = e.still;
-    }
+    subst (λ t. IsEdited first t c.args.range c.args.with.now c.in-Ok.done c.edit-2.new.self) (ap (λ (d : LinedText). d.tree) c.self.view_is) c.in-Ok.ensures.edited

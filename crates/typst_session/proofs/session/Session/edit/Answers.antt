@@ -1,5 +1,5 @@
 use Rattle.std.proofs.Common.{◌∙◌, ap, length, refl, subst}
-use Rattle.typst_markup.specs.Block.{first}
+use Rattle.typst_language.specs.Block.{first}
 use Rattle.typst_source.specs.Edited.{IsEdited}
 use Rattle.typst_session.proofs.session.Session.edit.Goals as goal
 

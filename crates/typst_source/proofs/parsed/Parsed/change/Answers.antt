@@ -100,7 +100,7 @@ parse_until-requires-clause-old g c =
 
 pub overflow_add-result : goal.overflow_add-result
 overflow_add-result g c =
-    omega (arith, c.in_ok-window.ensures.window.passed_are.within, ap length c.behind.ensures, length-drop c.untouched-kept.result.sums.blocks c.args.self.now.extents.items, c.untouched-kept.ensures.untouched.sums_are.within, c.untouched-kept.ensures.countable)
+    omega (arith, c.in_ok-new_blocks.ensures.blocks.passed_are.within, ap length c.behind.ensures, length-drop c.untouched-kept.result.sums.blocks c.args.self.now.extents.items, c.untouched-kept.ensures.untouched.sums_are.within, c.untouched-kept.ensures.countable)
 
 pub overflow_add-result-2 : goal.overflow_add-result-2
 overflow_add-result-2 g c =
@@ -113,7 +113,7 @@ overflow_add-result-2 g c =
     omega (
       arith,
       nodes_fit f (laws g) (text t) c.args.new.now c.args.cut.now c.requires.cut es k c.requires.parsed.extents_are c.untouched-kept.ensures.untouched
-          c.behind.result.now c.split_at.result.1.now (length c.args.new.now - c.args.cut.now.new_end) c.in_ok-window.window behind c.split_at.ensures.back tail c.in_ok-window.ensures.window t c.requires.parsed.fresh,
+          c.behind.result.now c.split_at.result.1.now (length c.args.new.now - c.args.cut.now.new_end) c.in_ok-new_blocks.new_blocks behind c.split_at.ensures.back tail c.in_ok-new_blocks.ensures.blocks t c.requires.parsed.fresh,
       ap length c.child_slice-count.ensures.children,
       c.child_slice-count.type_inv.0,
     )
@@ -128,29 +128,29 @@ returns-clause-change g c =
     let are = c.requires.parsed.extents_are in
     let fresh = c.requires.parsed.fresh in
     let k = c.untouched-kept.result.sums in
-    let w = c.in_ok-window.window in
+    let w = c.in_ok-new_blocks.new_blocks in
     let olds = c.behind.result.now in
     let rest = c.split_at.result.1.now in
     let behind : olds ≡ drop k.blocks es = c.behind.ensures in
     let tail : length new - cut.new_end ≡ length (text t) - cut.old_end = sym (same_tail f (laws g) (text t) new cut c.requires.cut) in
     record {
       inner = source_inner f (text t) t fresh;
-      fits = λ _. (omega arith, nodes_fit f (laws g) (text t) new cut c.requires.cut es k are c.untouched-kept.ensures.untouched olds rest (length new - cut.new_end) w behind c.split_at.ensures.back tail c.in_ok-window.ensures.window t fresh);
-      fresh = new_tree f (laws g) (text t) new cut c.requires.cut es k are c.untouched-kept.ensures.untouched olds rest (length new - cut.new_end) w behind c.split_at.ensures.back tail c.in_ok-window.ensures.window t fresh;
+      fits = λ _. (omega arith, nodes_fit f (laws g) (text t) new cut c.requires.cut es k are c.untouched-kept.ensures.untouched olds rest (length new - cut.new_end) w behind c.split_at.ensures.back tail c.in_ok-new_blocks.ensures.blocks t fresh);
+      fresh = new_tree f (laws g) (text t) new cut c.requires.cut es k are c.untouched-kept.ensures.untouched olds rest (length new - cut.new_end) w behind c.split_at.ensures.back tail c.in_ok-new_blocks.ensures.blocks t fresh;
       beginning = c.untouched-kept.ensures.beginning;
       ordered = omega arith;
-      inside = extents_fit f (laws g) (text t) new cut c.requires.cut es k are c.untouched-kept.ensures.untouched olds rest (length new - cut.new_end) w behind c.split_at.ensures.back tail c.in_ok-window.ensures.window;
-      extents_are = new_extents f (laws g) (text t) new cut c.requires.cut es k are c.untouched-kept.ensures.untouched olds rest (length new - cut.new_end) w behind c.split_at.ensures.back tail c.in_ok-window.ensures.window;
-      reparsed = reparsed f (laws g) (text t) new cut c.requires.cut es k are c.untouched-kept.ensures.untouched olds rest (length new - cut.new_end) w behind c.split_at.ensures.back tail c.in_ok-window.ensures.window (length new - w.left) refl;
-      seams = seams f (laws g) (text t) new cut c.requires.cut es k are c.untouched-kept.ensures.untouched olds rest (length new - cut.new_end) w behind c.split_at.ensures.back tail c.in_ok-window.ensures.window (length new - w.left) refl;
+      inside = extents_fit f (laws g) (text t) new cut c.requires.cut es k are c.untouched-kept.ensures.untouched olds rest (length new - cut.new_end) w behind c.split_at.ensures.back tail c.in_ok-new_blocks.ensures.blocks;
+      extents_are = new_extents f (laws g) (text t) new cut c.requires.cut es k are c.untouched-kept.ensures.untouched olds rest (length new - cut.new_end) w behind c.split_at.ensures.back tail c.in_ok-new_blocks.ensures.blocks;
+      reparsed = reparsed f (laws g) (text t) new cut c.requires.cut es k are c.untouched-kept.ensures.untouched olds rest (length new - cut.new_end) w behind c.split_at.ensures.back tail c.in_ok-new_blocks.ensures.blocks (length new - w.left) refl;
+      seams = seams f (laws g) (text t) new cut c.requires.cut es k are c.untouched-kept.ensures.untouched olds rest (length new - cut.new_end) w behind c.split_at.ensures.back tail c.in_ok-new_blocks.ensures.blocks (length new - w.left) refl;
     }
 
-pub returns-in_err-window-clause-overflow : goal.returns-in_err-window-clause-overflow
-returns-in_err-window-clause-overflow g c = λ is.
+pub returns-in_err-new_blocks-clause-overflow : goal.returns-in_err-new_blocks-clause-overflow
+returns-in_err-new_blocks-clause-overflow g c = λ is.
     let f = g.P.BlockParser.first in
     let t = c.args.self.now.root in
     let k = c.untouched-kept.result.sums in
-    let e = c.in_err-window.field-0.0 in
+    let e = c.in_err-new_blocks.field-0.0 in
     let was : e ≡ inner.Overflow = inner_overflow c.from_residual.result e c.from_residual.ensures.1 is in
     new_too_large f (laws g) (text t) c.args.new.now c.args.cut.now c.requires.cut c.args.self.now.extents.items k c.requires.parsed.extents_are c.untouched-kept.ensures.untouched
-    (subst (IsTooLarge f) c.split_at.ensures.back (c.in_err-window.ensures.overflow (ap (λ x. Err x) was)))
+    (subst (IsTooLarge f) c.split_at.ensures.back (c.in_err-new_blocks.ensures.overflow (ap (λ x. Err x) was)))

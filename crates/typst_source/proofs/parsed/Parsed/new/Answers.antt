@@ -26,34 +26,34 @@ pub returns-then-descendants-ge-TOO_MANY_NODES-clause-unnumberable : goal.return
 returns-then-descendants-ge-TOO_MANY_NODES-clause-unnumberable g c = λ _.
     let f = g.P.BlockParser.first in
     let all = c.in_ok-all.all in
-    let are : map plain all.nodes.items ≡ trees_of (blocks f c.args.source.now) = c.in_ok-all.ensures.window.nodes_are ∙ ap trees_of (whole_blocks f (laws g) c.args.source.now _ all c.in_ok-all.ensures.window) in
+    let are : map plain all.nodes.items ≡ trees_of (blocks f c.args.source.now) = c.in_ok-all.ensures.blocks.nodes_are ∙ ap trees_of (whole_blocks f (laws g) c.args.source.now _ all c.in_ok-all.ensures.blocks) in
     omega (arith, c.if-descendants-ge-TOO_MANY_NODES.true, c.descendants.ensures, root_count f (laws g) c.args.source.now all.nodes.items c.in_ok-root.root are c.in_ok-root.ensures.ok)
 
 pub returns-clause-source_text : goal.returns-clause-source_text
 returns-clause-source_text g c =
     let f = g.P.BlockParser.first in
     let all = c.in_ok-all.all in
-    let are : map plain all.nodes.items ≡ trees_of (blocks f c.args.source.now) = c.in_ok-all.ensures.window.nodes_are ∙ ap trees_of (whole_blocks f (laws g) c.args.source.now _ all c.in_ok-all.ensures.window) in
+    let are : map plain all.nodes.items ≡ trees_of (blocks f c.args.source.now) = c.in_ok-all.ensures.blocks.nodes_are ∙ ap trees_of (whole_blocks f (laws g) c.args.source.now _ all c.in_ok-all.ensures.blocks) in
     numbered_text f (laws g) c.args.source.now all.nodes.items c.in_ok-root.root are c.in_ok-root.ensures.ok c.numberize.new.self c.in_ok-numberize.ensures.numbering.plain
 
 pub returns-clause-parsed : goal.returns-clause-parsed
 returns-clause-parsed g c =
     let f = g.P.BlockParser.first in
     let all = c.in_ok-all.all in
-    let whole = whole_blocks f (laws g) c.args.source.now _ all c.in_ok-all.ensures.window in
-    let are : map plain all.nodes.items ≡ trees_of (blocks f c.args.source.now) = c.in_ok-all.ensures.window.nodes_are ∙ ap trees_of whole in
+    let whole = whole_blocks f (laws g) c.args.source.now _ all c.in_ok-all.ensures.blocks in
+    let are : map plain all.nodes.items ≡ trees_of (blocks f c.args.source.now) = c.in_ok-all.ensures.blocks.nodes_are ∙ ap trees_of whole in
     let inner = root_inner f (laws g) c.args.source.now all.nodes.items c.in_ok-root.root are c.in_ok-root.ensures.ok in
     let half = c.in_ok-numberize.ensures.numbering.first_half inner (omega (arith, c.if-descendants-ge-TOO_MANY_NODES.false, c.descendants.ensures)) in
     let roomy : IsRoomy c.numberize.new.self = omega (arith, half.0.1, c.in_ok-numberize.ensures.numbering.bound inner) in
     is_parsed f (laws g) c.args.source.now c.numberize.new.self c.new.result.items
     (numbered_fresh f (laws g) c.args.source.now all.nodes.items c.in_ok-root.root are c.in_ok-root.ensures.ok c.numberize.new.self c.in_ok-numberize.ensures.numbering.plain)
-    (c.args.id, omega arith, c.in_ok-numberize.ensures.numbering.numbered) roomy (c.new.ensures ∙ c.in_ok-all.ensures.window.extents_are ∙ ap extents_of whole)
+    (c.args.id, omega arith, c.in_ok-numberize.ensures.numbering.numbered) roomy (c.new.ensures ∙ c.in_ok-all.ensures.blocks.extents_are ∙ ap extents_of whole)
 
 pub returns-in_err-root-clause-overflow : goal.returns-in_err-root-clause-overflow
 returns-in_err-root-clause-overflow g c = λ is.
     let f = g.P.BlockParser.first in
     let all = c.in_ok-all.all in
-    let are : map plain all.nodes.items ≡ trees_of (blocks f c.args.source.now) = c.in_ok-all.ensures.window.nodes_are ∙ ap trees_of (whole_blocks f (laws g) c.args.source.now _ all c.in_ok-all.ensures.window) in
+    let are : map plain all.nodes.items ≡ trees_of (blocks f c.args.source.now) = c.in_ok-all.ensures.blocks.nodes_are ∙ ap trees_of (whole_blocks f (laws g) c.args.source.now _ all c.in_ok-all.ensures.blocks) in
     let e = c.in_err-root.field-0.0 in
     let was : e ≡ inner.Overflow = inner_overflow c.from_residual-in_err-root.result e c.from_residual-in_err-root.ensures.1 is in
     unfit f (laws g) c.args.source.now all.nodes.items are (c.in_err-root.ensures.overflow.0 (ap (λ x. Err x) was))

@@ -3,9 +3,6 @@ use Rattle.std.proofs.lemmas.Str.{IsUtf8-string_bytes}
 use Rattle.std.specs.List.{replace_range}
 use Rattle.std.specs.Prelude.{string_bytes, slice_range}
 use Rattle.std.specs.Str.{IsCharBoundary}
-use Rattle.typst_node.specs.Following.{AllGoOnOrGo, SpansFollow}
-use Rattle.typst_node.specs.Outside.{KeepsBeside}
-use Rattle.typst_node.specs.Reconciled.{LeafKeepsNumbers, touched_children}
 use Rattle.typst_node.specs.Text.{text}
 use Rattle.typst_source.specs.Source.{IsParsed}
 use Rattle.typst_source.proofs.Edits.{fits_of, new_start, restored}
@@ -27,17 +24,3 @@ invariant_of-self-in-Err g c =
       subst (λ es. IsParsed g.P.BlockParser.first es c.reparse.new.self.root) (sym c.in-Err.ensures.err_extents)
           (subst (λ t. IsParsed g.P.BlockParser.first c.self.inside.parsed.extents.items t) (sym c.in-Err.ensures.err_root) c.self.invariant.1),
     )
-
-pub returns-in-Ok-clause-outside : goal.returns-in-Ok-clause-outside
-returns-in-Ok-clause-outside g c =
-    subst (λ t. KeepsBeside c.in-Ok.done.path.items (touched_children c.in-Ok.done.touched) t c.reparse.new.self.root) c.self.view_is c.in-Ok.ensures.outside
-
-pub returns-in-Ok-clause-all : goal.returns-in-Ok-clause-all
-returns-in-Ok-clause-all g c = subst (λ t. AllGoOnOrGo c.in-Ok.done.moves t c.reparse.new.self.root) c.self.view_is c.in-Ok.ensures.all
-
-pub returns-in-Ok-clause-spans : goal.returns-in-Ok-clause-spans
-returns-in-Ok-clause-spans g c = subst (SpansFollow c.in-Ok.done.moves) c.self.view_is c.in-Ok.ensures.spans
-
-pub returns-in-Ok-clause-still : goal.returns-in-Ok-clause-still
-returns-in-Ok-clause-still g c =
-    subst (λ t. LeafKeepsNumbers c.in-Ok.done.touched c.in-Ok.done.moves t c.reparse.new.self.root) c.self.view_is c.in-Ok.ensures.still

@@ -1,0 +1,201 @@
+-- Written by bench/grammar_crate.py from crates/grammar.table: change that and run it.
+-- The rows of names and blocks of code.
+use Rattle.std.specs.Prelude.{List, [], ◌∷◌, true, false, Some, None}
+use Rattle.typst_base.specs.declared.kind.SyntaxKind.TheVariants as kinds
+use Rattle.typst_grammar.specs.declared.expectation.Expectation.TheVariants as expectations
+use Rattle.typst_grammar.specs.declared.row.Action.TheVariants as actions
+use Rattle.typst_grammar.specs.declared.row.Condition.TheVariants as conditions
+use Rattle.typst_grammar.specs.declared.row.Newline.TheVariants as newlines
+use Rattle.typst_grammar.specs.declared.row.Take.TheVariants as takes
+use Rattle.typst_grammar.specs.declared.rows.Class.TheVariants as classes
+use Rattle.typst_grammar.specs.declared.rows.State.TheVariants as states
+use Rattle.typst_grammar.specs.declared.rows.Class.{Class}
+use Rattle.typst_grammar.specs.Row.{Row}
+
+abbrev pub row_0 : Row
+row_0 = record {
+  condition = conditions.Always;
+  before = actions.Expected expectations.Identifier ∷ actions.Return ∷ [];
+  take = takes.Nothing;
+  after = [];
+  call = None;
+}
+
+abbrev pub row_1 : Row
+row_1 = record {
+  condition = conditions.Always;
+  before = [];
+  take = takes.Eat;
+  after = actions.Return ∷ [];
+  call = None;
+}
+
+abbrev pub row_2 : Row
+row_2 = record {
+  condition = conditions.Always;
+  before = [];
+  take = takes.Mistake expectations.Identifier;
+  after = actions.Return ∷ [];
+  call = None;
+}
+
+abbrev pub row_3 : Row
+row_3 = record {
+  condition = conditions.Always;
+  before = [];
+  take = takes.Eat;
+  after = actions.Goto states.BracesClose ∷ [];
+  call = Some (record { state = states.Code; number = 0; enters = true; is_deep = false; newline = None });
+}
+
+abbrev pub row_4 : Row
+row_4 = record {
+  condition = conditions.Always;
+  before = actions.Unclosed ∷ actions.Wrap kinds.CodeBlock ∷ actions.Return ∷ [];
+  take = takes.Nothing;
+  after = [];
+  call = None;
+}
+
+abbrev pub row_5 : Row
+row_5 = record {
+  condition = conditions.Always;
+  before = [];
+  take = takes.Eat;
+  after = actions.Wrap kinds.CodeBlock ∷ actions.Return ∷ [];
+  call = None;
+}
+
+abbrev pub row_6 : Row
+row_6 = record {
+  condition = conditions.Always;
+  before = actions.Flush ∷ actions.Wrap kinds.Code ∷ actions.Return ∷ [];
+  take = takes.Nothing;
+  after = [];
+  call = None;
+}
+
+abbrev pub row_7 : Row
+row_7 = record {
+  condition = conditions.Always;
+  before = [];
+  take = takes.Unexpected;
+  after = [];
+  call = None;
+}
+
+abbrev pub row_8 : Row
+row_8 = record {
+  condition = conditions.Always;
+  before = [];
+  take = takes.Nothing;
+  after = [];
+  call = Some (record { state = states.Statement; number = 0; enters = false; is_deep = false; newline = Some newlines.Context });
+}
+
+abbrev pub row_9 : Row
+row_9 = record {
+  condition = conditions.Always;
+  before = actions.Goto states.StatementEnd ∷ [];
+  take = takes.Nothing;
+  after = [];
+  call = Some (record { state = states.Expr; number = 1; enters = false; is_deep = false; newline = None });
+}
+
+abbrev pub row_10 : Row
+row_10 = record {
+  condition = conditions.Always;
+  before = actions.Return ∷ [];
+  take = takes.Nothing;
+  after = [];
+  call = None;
+}
+
+abbrev pub row_11 : Row
+row_11 = record {
+  condition = conditions.Always;
+  before = actions.Expected expectations.SemicolonOrLineBreak ∷ actions.Return ∷ [];
+  take = takes.Nothing;
+  after = [];
+  call = None;
+}
+
+-- a name
+abbrev pub name : Class → List Row
+name classes.Ident = row_1 ∷ []
+name classes.Constant = row_2 ∷ []
+name classes.Not = row_2 ∷ []
+name classes.And = row_2 ∷ []
+name classes.Or = row_2 ∷ []
+name classes.Let = row_2 ∷ []
+name classes.Set = row_2 ∷ []
+name classes.Show = row_2 ∷ []
+name classes.Context = row_2 ∷ []
+name classes.If = row_2 ∷ []
+name classes.Else = row_2 ∷ []
+name classes.For = row_2 ∷ []
+name classes.In = row_2 ∷ []
+name classes.While = row_2 ∷ []
+name classes.Break = row_2 ∷ []
+name classes.Continue = row_2 ∷ []
+name classes.Return = row_2 ∷ []
+name classes.Import = row_2 ∷ []
+name classes.Include = row_2 ∷ []
+name classes.As = row_2 ∷ []
+name _ = row_0 ∷ []
+
+-- a block of code
+abbrev pub braces : Class → List Row
+braces classes.LeftBrace = row_3 ∷ []
+braces _ = []
+
+-- the end of a block of code
+abbrev pub braces_close : Class → List Row
+braces_close classes.RightBrace = row_5 ∷ []
+braces_close _ = row_4 ∷ []
+
+-- the expressions of a block of code
+abbrev pub code : Class → List Row
+code classes.End = row_6 ∷ []
+code classes.Label = row_8 ∷ []
+code classes.Raw = row_8 ∷ []
+code classes.Dollar = row_8 ∷ []
+code classes.LeftBrace = row_8 ∷ []
+code classes.RightBrace = row_6 ∷ []
+code classes.LeftBracket = row_8 ∷ []
+code classes.RightBracket = row_6 ∷ []
+code classes.LeftParen = row_8 ∷ []
+code classes.RightParen = row_6 ∷ []
+code classes.Underscore = row_8 ∷ []
+code classes.Sign = row_8 ∷ []
+code classes.Ident = row_8 ∷ []
+code classes.Str = row_8 ∷ []
+code classes.Literal = row_8 ∷ []
+code classes.Constant = row_8 ∷ []
+code classes.Not = row_8 ∷ []
+code classes.Let = row_8 ∷ []
+code classes.Set = row_8 ∷ []
+code classes.Show = row_8 ∷ []
+code classes.Context = row_8 ∷ []
+code classes.If = row_8 ∷ []
+code classes.For = row_8 ∷ []
+code classes.While = row_8 ∷ []
+code classes.Break = row_8 ∷ []
+code classes.Continue = row_8 ∷ []
+code classes.Return = row_8 ∷ []
+code classes.Import = row_8 ∷ []
+code classes.Include = row_8 ∷ []
+code _ = row_7 ∷ []
+
+-- an expression of a block of code
+abbrev pub statement : Class → List Row
+statement _ = row_9 ∷ []
+
+-- the end of an expression of a block of code
+abbrev pub statement_end : Class → List Row
+statement_end classes.End = row_10 ∷ []
+statement_end classes.RightBrace = row_10 ∷ []
+statement_end classes.RightBracket = row_10 ∷ []
+statement_end classes.RightParen = row_10 ∷ []
+statement_end classes.Semicolon = row_1 ∷ []
+statement_end _ = row_11 ∷ []

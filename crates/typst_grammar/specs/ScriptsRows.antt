@@ -1,0 +1,236 @@
+-- Written by bench/grammar_crate.py from crates/grammar.table: change that and run it.
+-- The rows of what may follow an expression in math.
+use Rattle.std.specs.Prelude.{List, [], ◌∷◌, false, Some, None}
+use Rattle.typst_base.specs.declared.kind.SyntaxKind.TheVariants as kinds
+use Rattle.typst_grammar.specs.declared.maps.Map.TheVariants as maps
+use Rattle.typst_grammar.specs.declared.row.Action.TheVariants as actions
+use Rattle.typst_grammar.specs.declared.row.Condition.TheVariants as conditions
+use Rattle.typst_grammar.specs.declared.row.Take.TheVariants as takes
+use Rattle.typst_grammar.specs.declared.rows.Class.TheVariants as classes
+use Rattle.typst_grammar.specs.declared.rows.State.TheVariants as states
+use Rattle.typst_grammar.specs.declared.rows.Class.{Class}
+use Rattle.typst_grammar.specs.Row.{Row}
+
+abbrev pub row_0 : Row
+row_0 = record {
+  condition = conditions.Always;
+  before = actions.Return ∷ [];
+  take = takes.Nothing;
+  after = [];
+  call = None;
+}
+
+abbrev pub row_1 : Row
+row_1 = record {
+  condition = conditions.Is 0;
+  before = actions.Retag maps.Unparen ∷ [];
+  take = takes.Eat;
+  after = actions.Goto states.MathAfterRest3 ∷ [];
+  call = Some (record { state = states.MathExpr; number = 1; enters = false; is_deep = false; newline = None });
+}
+
+abbrev pub row_2 : Row
+row_2 = record {
+  condition = conditions.Is 3;
+  before = actions.Return ∷ [];
+  take = takes.Nothing;
+  after = [];
+  call = None;
+}
+
+abbrev pub row_3 : Row
+row_3 = record {
+  condition = conditions.Always;
+  before = [];
+  take = takes.Eat;
+  after = actions.Goto states.MathAfterRest1 ∷ [];
+  call = Some (record { state = states.MathExpr; number = 2; enters = false; is_deep = false; newline = None });
+}
+
+abbrev pub row_4 : Row
+row_4 = record {
+  condition = conditions.Direct;
+  before = [];
+  take = takes.Eat;
+  after = actions.Goto states.MathPrimed ∷ [];
+  call = None;
+}
+
+abbrev pub row_5 : Row
+row_5 = record {
+  condition = conditions.Is 2;
+  before = actions.Return ∷ [];
+  take = takes.Nothing;
+  after = [];
+  call = None;
+}
+
+abbrev pub row_6 : Row
+row_6 = record {
+  condition = conditions.Always;
+  before = [];
+  take = takes.Eat;
+  after = actions.Goto states.MathAfterRest2 ∷ [];
+  call = Some (record { state = states.MathExpr; number = 3; enters = false; is_deep = false; newline = None });
+}
+
+abbrev pub row_7 : Row
+row_7 = record {
+  condition = conditions.Direct;
+  before = [];
+  take = takes.EatAs kinds.MathText;
+  after = actions.Wrap kinds.Math ∷ actions.Goto states.MathAfter ∷ [];
+  call = None;
+}
+
+abbrev pub row_8 : Row
+row_8 = record {
+  condition = conditions.Always;
+  before = actions.Wrap kinds.MathAttach ∷ actions.Goto states.MathAfter ∷ [];
+  take = takes.Nothing;
+  after = [];
+  call = None;
+}
+
+abbrev pub row_9 : Row
+row_9 = record {
+  condition = conditions.Is 3;
+  before = actions.Wrap kinds.MathAttach ∷ actions.Return ∷ [];
+  take = takes.Nothing;
+  after = [];
+  call = None;
+}
+
+abbrev pub row_10 : Row
+row_10 = record {
+  condition = conditions.Always;
+  before = [];
+  take = takes.Eat;
+  after = actions.Goto states.MathPrimedRest1 ∷ [];
+  call = Some (record { state = states.MathExpr; number = 2; enters = false; is_deep = false; newline = None });
+}
+
+abbrev pub row_11 : Row
+row_11 = record {
+  condition = conditions.Is 2;
+  before = actions.Wrap kinds.MathAttach ∷ actions.Return ∷ [];
+  take = takes.Nothing;
+  after = [];
+  call = None;
+}
+
+abbrev pub row_12 : Row
+row_12 = record {
+  condition = conditions.Always;
+  before = [];
+  take = takes.Eat;
+  after = actions.Goto states.MathPrimedRest2 ∷ [];
+  call = Some (record { state = states.MathExpr; number = 3; enters = false; is_deep = false; newline = None });
+}
+
+abbrev pub row_13 : Row
+row_13 = record {
+  condition = conditions.Always;
+  before = [];
+  take = takes.Eat;
+  after = actions.Goto states.MathBelowRest ∷ [];
+  call = Some (record { state = states.MathExpr; number = 1; enters = false; is_deep = false; newline = None });
+}
+
+abbrev pub row_14 : Row
+row_14 = record {
+  condition = conditions.Always;
+  before = [];
+  take = takes.Eat;
+  after = actions.Goto states.MathAboveRest ∷ [];
+  call = Some (record { state = states.MathExpr; number = 1; enters = false; is_deep = false; newline = None });
+}
+
+abbrev pub row_15 : Row
+row_15 = record {
+  condition = conditions.Always;
+  before = actions.Retag maps.Unparen ∷ actions.Goto states.MathBelow ∷ [];
+  take = takes.Nothing;
+  after = [];
+  call = None;
+}
+
+abbrev pub row_16 : Row
+row_16 = record {
+  condition = conditions.Always;
+  before = actions.Retag maps.Unparen ∷ actions.Goto states.MathAbove ∷ [];
+  take = takes.Nothing;
+  after = [];
+  call = None;
+}
+
+abbrev pub row_17 : Row
+row_17 = record {
+  condition = conditions.Always;
+  before = actions.Retag maps.Unparen ∷ actions.Wrap kinds.MathFrac ∷ actions.Goto states.MathAfter ∷ [];
+  take = takes.Nothing;
+  after = [];
+  call = None;
+}
+
+abbrev pub row_18 : Row
+row_18 = record {
+  condition = conditions.Always;
+  before = actions.Retag maps.Unparen ∷ actions.Wrap kinds.MathAttach ∷ actions.Goto states.MathAfter ∷ [];
+  take = takes.Nothing;
+  after = [];
+  call = None;
+}
+
+-- what may follow an expression in math
+abbrev pub math_after : Class → List Row
+math_after classes.Slash = row_1 ∷ row_0 ∷ []
+math_after classes.Underscore = row_2 ∷ row_3 ∷ []
+math_after classes.MathPrimes = row_4 ∷ row_0 ∷ []
+math_after classes.Hat = row_5 ∷ row_6 ∷ []
+math_after classes.Bang = row_7 ∷ row_0 ∷ []
+math_after _ = row_0 ∷ []
+
+-- what may follow primes
+abbrev pub math_primed : Class → List Row
+math_primed classes.Underscore = row_9 ∷ row_10 ∷ []
+math_primed classes.Hat = row_11 ∷ row_12 ∷ []
+math_primed _ = row_8 ∷ []
+
+-- whether a script above follows the one below
+abbrev pub math_below : Class → List Row
+math_below classes.Hat = row_13 ∷ []
+math_below _ = row_8 ∷ []
+
+-- whether a script below follows the one above
+abbrev pub math_above : Class → List Row
+math_above classes.Underscore = row_14 ∷ []
+math_above _ = row_8 ∷ []
+
+-- the rest of a row of `math.after`, once the frame that it opened has returned
+abbrev pub math_after_rest1 : Class → List Row
+math_after_rest1 _ = row_15 ∷ []
+
+-- the rest of a row of `math.after`, once the frame that it opened has returned
+abbrev pub math_after_rest2 : Class → List Row
+math_after_rest2 _ = row_16 ∷ []
+
+-- the rest of a row of `math.after`, once the frame that it opened has returned
+abbrev pub math_after_rest3 : Class → List Row
+math_after_rest3 _ = row_17 ∷ []
+
+-- the rest of a row of `math.primed`, once the frame that it opened has returned
+abbrev pub math_primed_rest1 : Class → List Row
+math_primed_rest1 _ = row_15 ∷ []
+
+-- the rest of a row of `math.primed`, once the frame that it opened has returned
+abbrev pub math_primed_rest2 : Class → List Row
+math_primed_rest2 _ = row_16 ∷ []
+
+-- the rest of a row of `math.below`, once the frame that it opened has returned
+abbrev pub math_below_rest : Class → List Row
+math_below_rest _ = row_18 ∷ []
+
+-- the rest of a row of `math.above`, once the frame that it opened has returned
+abbrev pub math_above_rest : Class → List Row
+math_above_rest _ = row_18 ∷ []

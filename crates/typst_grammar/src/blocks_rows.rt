@@ -1,0 +1,249 @@
+// Written by bench/grammar_crate.py from crates/grammar.table: change that and run it.
+//! The rows of names and blocks of code.
+ghost use Rattle.std.specs.Prelude.{◌≡◌};
+ghost use Rattle.typst_grammar.specs.Row.{rows_of};
+ghost use Rattle.typst_grammar.specs.BlocksRows.{braces, braces_close, code, name, statement, statement_end};
+
+use crate::expectation::Expectation;
+use crate::row::{Action, Call, Condition, Newline, Row, Take};
+use crate::rows::{Class, State};
+use typst_base::SyntaxKind;
+
+/// `| expected identifier; return`
+const ROW_0: Row = Row {
+    condition: Condition::Always,
+    before: &[Action::Expected(Expectation::Identifier), Action::Return],
+    take: Take::Nothing,
+    after: &[],
+    call: None,
+};
+
+/// `| eat; return`
+const ROW_1: Row = Row {
+    condition: Condition::Always,
+    before: &[],
+    take: Take::Eat,
+    after: &[Action::Return],
+    call: None,
+};
+
+/// `| mistake identifier; return`
+const ROW_2: Row = Row {
+    condition: Condition::Always,
+    before: &[],
+    take: Take::Mistake(Expectation::Identifier),
+    after: &[Action::Return],
+    call: None,
+};
+
+/// `| eat; -> braces.close; enter code`
+const ROW_3: Row = Row {
+    condition: Condition::Always,
+    before: &[],
+    take: Take::Eat,
+    after: &[Action::Goto(State::BracesClose)],
+    call: Some(Call {
+        state: State::Code,
+        number: 0,
+        enters: true,
+        is_deep: false,
+        newline: None,
+    }),
+};
+
+/// `| unclosed; wrap CodeBlock; return`
+const ROW_4: Row = Row {
+    condition: Condition::Always,
+    before: &[
+        Action::Unclosed,
+        Action::Wrap(SyntaxKind::CodeBlock),
+        Action::Return,
+    ],
+    take: Take::Nothing,
+    after: &[],
+    call: None,
+};
+
+/// `| eat; wrap CodeBlock; return`
+const ROW_5: Row = Row {
+    condition: Condition::Always,
+    before: &[],
+    take: Take::Eat,
+    after: &[Action::Wrap(SyntaxKind::CodeBlock), Action::Return],
+    call: None,
+};
+
+/// `| flush; wrap Code; return`
+const ROW_6: Row = Row {
+    condition: Condition::Always,
+    before: &[
+        Action::Flush,
+        Action::Wrap(SyntaxKind::Code),
+        Action::Return,
+    ],
+    take: Take::Nothing,
+    after: &[],
+    call: None,
+};
+
+/// `| unexpected`
+const ROW_7: Row = Row {
+    condition: Condition::Always,
+    before: &[],
+    take: Take::Unexpected,
+    after: &[],
+    call: None,
+};
+
+/// `| statement`
+const ROW_8: Row = Row {
+    condition: Condition::Always,
+    before: &[],
+    take: Take::Nothing,
+    after: &[],
+    call: Some(Call {
+        state: State::Statement,
+        number: 0,
+        enters: false,
+        is_deep: false,
+        newline: Some(Newline::Context),
+    }),
+};
+
+/// `| -> statement.end; expr 1`
+const ROW_9: Row = Row {
+    condition: Condition::Always,
+    before: &[Action::Goto(State::StatementEnd)],
+    take: Take::Nothing,
+    after: &[],
+    call: Some(Call {
+        state: State::Expr,
+        number: 1,
+        enters: false,
+        is_deep: false,
+        newline: None,
+    }),
+};
+
+/// `| return`
+const ROW_10: Row = Row {
+    condition: Condition::Always,
+    before: &[Action::Return],
+    take: Take::Nothing,
+    after: &[],
+    call: None,
+};
+
+/// `| expected semicolon or line break; return`
+const ROW_11: Row = Row {
+    condition: Condition::Always,
+    before: &[
+        Action::Expected(Expectation::SemicolonOrLineBreak),
+        Action::Return,
+    ],
+    take: Take::Nothing,
+    after: &[],
+    call: None,
+};
+
+/// A name.
+pub(crate) fn name(class: Class) -> &'static [Row]
+    ensures { rows_of result.now ≡ name class }
+{
+    match class {
+        Class::Ident => &[ROW_1],
+        Class::Constant
+        | Class::Not
+        | Class::And
+        | Class::Or
+        | Class::Let
+        | Class::Set
+        | Class::Show
+        | Class::Context
+        | Class::If
+        | Class::Else
+        | Class::For
+        | Class::In
+        | Class::While
+        | Class::Break
+        | Class::Continue
+        | Class::Return
+        | Class::Import
+        | Class::Include
+        | Class::As => &[ROW_2],
+        _ => &[ROW_0],
+    }
+}
+
+/// A block of code.
+pub(crate) fn braces(class: Class) -> &'static [Row]
+    ensures { rows_of result.now ≡ braces class }
+{
+    match class {
+        Class::LeftBrace => &[ROW_3],
+        _ => &[],
+    }
+}
+
+/// The end of a block of code.
+pub(crate) fn braces_close(class: Class) -> &'static [Row]
+    ensures { rows_of result.now ≡ braces_close class }
+{
+    match class {
+        Class::RightBrace => &[ROW_5],
+        _ => &[ROW_4],
+    }
+}
+
+/// The expressions of a block of code.
+pub(crate) fn code(class: Class) -> &'static [Row]
+    ensures { rows_of result.now ≡ code class }
+{
+    match class {
+        Class::End | Class::RightBrace | Class::RightBracket | Class::RightParen => &[ROW_6],
+        Class::Label
+        | Class::Raw
+        | Class::Dollar
+        | Class::LeftBrace
+        | Class::LeftBracket
+        | Class::LeftParen
+        | Class::Underscore
+        | Class::Sign
+        | Class::Ident
+        | Class::Str
+        | Class::Literal
+        | Class::Constant
+        | Class::Not
+        | Class::Let
+        | Class::Set
+        | Class::Show
+        | Class::Context
+        | Class::If
+        | Class::For
+        | Class::While
+        | Class::Break
+        | Class::Continue
+        | Class::Return
+        | Class::Import
+        | Class::Include => &[ROW_8],
+        _ => &[ROW_7],
+    }
+}
+
+/// An expression of a block of code.
+pub(crate) fn statement(_class: Class) -> &'static [Row]
+    ensures { rows_of result.now ≡ statement _class }
+{
+    &[ROW_9]
+}
+
+/// The end of an expression of a block of code.
+pub(crate) fn statement_end(class: Class) -> &'static [Row]
+    ensures { rows_of result.now ≡ statement_end class }
+{
+    match class {
+        Class::End | Class::RightBrace | Class::RightBracket | Class::RightParen => &[ROW_10],
+        Class::Semicolon => &[ROW_1],
+        _ => &[ROW_11],
+    }
+}

@@ -1,0 +1,512 @@
+// Written by bench/grammar_crate.py from crates/grammar.table: change that and run it.
+//! The rows of delimiters and arguments in math.
+ghost use Rattle.std.specs.Prelude.{◌≡◌};
+ghost use Rattle.typst_grammar.specs.Row.{rows_of};
+ghost use Rattle.typst_grammar.specs.DelimitersRows.{delimited, delimited_body, delimited_close, math_arg, math_arg_colon, math_arg_colon_rest, math_arg_rest1, math_arg_rest2, math_args, math_args_close, math_args_comma, math_args_item, math_named, math_value, math_value_more, math_value_one};
+
+use crate::expectation::Expectation;
+use crate::row::{Action, Call, Condition, Row, Take, Unique};
+use crate::rows::{Class, State};
+use typst_base::SyntaxKind;
+
+/// `| eat MathText; -> delimited.close; delimited.body`
+const ROW_0: Row = Row {
+    condition: Condition::Always,
+    before: &[],
+    take: Take::EatAs(SyntaxKind::MathText),
+    after: &[Action::Goto(State::DelimitedClose)],
+    call: Some(Call {
+        state: State::DelimitedBody,
+        number: 0,
+        enters: false,
+        is_deep: false,
+        newline: None,
+    }),
+};
+
+/// `| eat; -> delimited.close; delimited.body`
+const ROW_1: Row = Row {
+    condition: Condition::Always,
+    before: &[],
+    take: Take::Eat,
+    after: &[Action::Goto(State::DelimitedClose)],
+    call: Some(Call {
+        state: State::DelimitedBody,
+        number: 0,
+        enters: false,
+        is_deep: false,
+        newline: None,
+    }),
+};
+
+/// `| return`
+const ROW_2: Row = Row {
+    condition: Condition::Always,
+    before: &[Action::Return],
+    take: Take::Nothing,
+    after: &[],
+    call: None,
+};
+
+/// `| unexpected`
+const ROW_3: Row = Row {
+    condition: Condition::Always,
+    before: &[],
+    take: Take::Unexpected,
+    after: &[],
+    call: None,
+};
+
+/// `| math.expr`
+const ROW_4: Row = Row {
+    condition: Condition::Always,
+    before: &[],
+    take: Take::Nothing,
+    after: &[],
+    call: Some(Call {
+        state: State::MathExpr,
+        number: 0,
+        enters: false,
+        is_deep: false,
+        newline: None,
+    }),
+};
+
+/// `| wrap Math; return`
+const ROW_5: Row = Row {
+    condition: Condition::Always,
+    before: &[Action::Wrap(SyntaxKind::Math), Action::Return],
+    take: Take::Nothing,
+    after: &[],
+    call: None,
+};
+
+/// `| eat MathText; wrap MathDelimited; return`
+const ROW_6: Row = Row {
+    condition: Condition::Always,
+    before: &[],
+    take: Take::EatAs(SyntaxKind::MathText),
+    after: &[Action::Wrap(SyntaxKind::MathDelimited), Action::Return],
+    call: None,
+};
+
+/// `| eat; wrap MathDelimited; return`
+const ROW_7: Row = Row {
+    condition: Condition::Always,
+    before: &[],
+    take: Take::Eat,
+    after: &[Action::Wrap(SyntaxKind::MathDelimited), Action::Return],
+    call: None,
+};
+
+/// `| eat; -> math.args.item`
+const ROW_8: Row = Row {
+    condition: Condition::Always,
+    before: &[],
+    take: Take::Eat,
+    after: &[Action::Goto(State::MathArgsItem)],
+    call: None,
+};
+
+/// `| -> math.args.close`
+const ROW_9: Row = Row {
+    condition: Condition::Always,
+    before: &[Action::Goto(State::MathArgsClose)],
+    take: Take::Nothing,
+    after: &[],
+    call: None,
+};
+
+/// `| -> math.args.comma; math.arg`
+const ROW_10: Row = Row {
+    condition: Condition::Always,
+    before: &[Action::Goto(State::MathArgsComma)],
+    take: Take::Nothing,
+    after: &[],
+    call: Some(Call {
+        state: State::MathArg,
+        number: 0,
+        enters: false,
+        is_deep: false,
+        newline: None,
+    }),
+};
+
+/// `| unclosed; wrap MathArgs; unique argument; return`
+const ROW_11: Row = Row {
+    condition: Condition::Always,
+    before: &[
+        Action::Unclosed,
+        Action::Wrap(SyntaxKind::MathArgs),
+        Action::Unique(Unique::Argument),
+        Action::Return,
+    ],
+    take: Take::Nothing,
+    after: &[],
+    call: None,
+};
+
+/// `| eat; wrap MathArgs; unique argument; return`
+const ROW_12: Row = Row {
+    condition: Condition::Always,
+    before: &[],
+    take: Take::Eat,
+    after: &[
+        Action::Wrap(SyntaxKind::MathArgs),
+        Action::Unique(Unique::Argument),
+        Action::Return,
+    ],
+    call: None,
+};
+
+/// `| -> math.arg.rest2; math.value`
+const ROW_13: Row = Row {
+    condition: Condition::Always,
+    before: &[Action::Goto(State::MathArgRest2)],
+    take: Take::Nothing,
+    after: &[],
+    call: Some(Call {
+        state: State::MathValue,
+        number: 0,
+        enters: false,
+        is_deep: false,
+        newline: None,
+    }),
+};
+
+/// `| eat; -> math.arg.rest1; math.value`
+const ROW_14: Row = Row {
+    condition: Condition::Always,
+    before: &[],
+    take: Take::Eat,
+    after: &[Action::Goto(State::MathArgRest1)],
+    call: Some(Call {
+        state: State::MathValue,
+        number: 0,
+        enters: false,
+        is_deep: false,
+        newline: None,
+    }),
+};
+
+/// `| eat; -> math.arg.colon`
+const ROW_15: Row = Row {
+    condition: Condition::Always,
+    before: &[],
+    take: Take::Eat,
+    after: &[Action::Goto(State::MathArgColon)],
+    call: None,
+};
+
+/// `| mistake identifier; -> math.arg.colon`
+const ROW_16: Row = Row {
+    condition: Condition::Always,
+    before: &[],
+    take: Take::Mistake(Expectation::Identifier),
+    after: &[Action::Goto(State::MathArgColon)],
+    call: None,
+};
+
+/// `| eat Colon; -> math.arg.colon.rest; math.named`
+const ROW_17: Row = Row {
+    condition: Condition::Always,
+    before: &[],
+    take: Take::EatAs(SyntaxKind::Colon),
+    after: &[Action::Goto(State::MathArgColonRest)],
+    call: Some(Call {
+        state: State::MathNamed,
+        number: 0,
+        enters: false,
+        is_deep: false,
+        newline: None,
+    }),
+};
+
+/// `| expected expression; return`
+const ROW_18: Row = Row {
+    condition: Condition::Always,
+    before: &[Action::Expected(Expectation::Expression), Action::Return],
+    take: Take::Nothing,
+    after: &[],
+    call: None,
+};
+
+/// `| -> math.value`
+const ROW_19: Row = Row {
+    condition: Condition::Always,
+    before: &[Action::Goto(State::MathValue)],
+    take: Take::Nothing,
+    after: &[],
+    call: None,
+};
+
+/// `| flush; wrap Math; return`
+const ROW_20: Row = Row {
+    condition: Condition::Always,
+    before: &[
+        Action::Flush,
+        Action::Wrap(SyntaxKind::Math),
+        Action::Return,
+    ],
+    take: Take::Nothing,
+    after: &[],
+    call: None,
+};
+
+/// `| -> math.value.one; math.expr`
+const ROW_21: Row = Row {
+    condition: Condition::Always,
+    before: &[Action::Goto(State::MathValueOne)],
+    take: Take::Nothing,
+    after: &[],
+    call: Some(Call {
+        state: State::MathExpr,
+        number: 0,
+        enters: false,
+        is_deep: false,
+        newline: None,
+    }),
+};
+
+/// `| -> math.value.more`
+const ROW_22: Row = Row {
+    condition: Condition::Always,
+    before: &[Action::Goto(State::MathValueMore)],
+    take: Take::Nothing,
+    after: &[],
+    call: None,
+};
+
+/// `| wrap Spread; return`
+const ROW_23: Row = Row {
+    condition: Condition::Always,
+    before: &[Action::Wrap(SyntaxKind::Spread), Action::Return],
+    take: Take::Nothing,
+    after: &[],
+    call: None,
+};
+
+/// `| wrap Named; return`
+const ROW_24: Row = Row {
+    condition: Condition::Always,
+    before: &[Action::Wrap(SyntaxKind::Named), Action::Return],
+    take: Take::Nothing,
+    after: &[],
+    call: None,
+};
+
+/// Delimiters in math with what is between them.
+pub(crate) fn delimited(class: Class) -> &'static [Row]
+    ensures { rows_of result.now ≡ delimited class }
+{
+    match class {
+        Class::LeftBrace | Class::LeftParen => &[ROW_0],
+        Class::Opening => &[ROW_1],
+        _ => &[],
+    }
+}
+
+/// What is between delimiters.
+pub(crate) fn delimited_body(class: Class) -> &'static [Row]
+    ensures { rows_of result.now ≡ delimited_body class }
+{
+    match class {
+        Class::End | Class::Dollar => &[ROW_2],
+        Class::Linebreak
+        | Class::Escape
+        | Class::Hash
+        | Class::LeftBrace
+        | Class::LeftParen
+        | Class::Comma
+        | Class::Semicolon
+        | Class::Dot
+        | Class::Field
+        | Class::Str
+        | Class::MathIdent
+        | Class::MathLetter
+        | Class::MathText
+        | Class::MathPrimes
+        | Class::Opening
+        | Class::Bang
+        | Class::Root => &[ROW_4],
+        Class::RightBrace | Class::RightParen | Class::Closing => &[ROW_5],
+        _ => &[ROW_3],
+    }
+}
+
+/// The closing delimiter.
+pub(crate) fn delimited_close(class: Class) -> &'static [Row]
+    ensures { rows_of result.now ≡ delimited_close class }
+{
+    match class {
+        Class::RightBrace | Class::RightParen => &[ROW_6],
+        Class::Closing => &[ROW_7],
+        _ => &[ROW_5],
+    }
+}
+
+/// The arguments of a call in math.
+pub(crate) fn math_args(class: Class) -> &'static [Row]
+    ensures { rows_of result.now ≡ math_args class }
+{
+    match class {
+        Class::LeftParen => &[ROW_8],
+        _ => &[],
+    }
+}
+
+/// An argument, if another one comes.
+pub(crate) fn math_args_item(class: Class) -> &'static [Row]
+    ensures { rows_of result.now ≡ math_args_item class }
+{
+    match class {
+        Class::End | Class::Dollar | Class::RightParen => &[ROW_9],
+        _ => &[ROW_10],
+    }
+}
+
+/// The comma or semicolon behind an argument.
+pub(crate) fn math_args_comma(class: Class) -> &'static [Row]
+    ensures { rows_of result.now ≡ math_args_comma class }
+{
+    match class {
+        Class::End | Class::Dollar | Class::RightParen => &[ROW_9],
+        Class::Comma | Class::Semicolon => &[ROW_8],
+        _ => &[],
+    }
+}
+
+/// The end of the arguments.
+pub(crate) fn math_args_close(class: Class) -> &'static [Row]
+    ensures { rows_of result.now ≡ math_args_close class }
+{
+    match class {
+        Class::RightParen => &[ROW_12],
+        _ => &[ROW_11],
+    }
+}
+
+/// An argument: a value, a name with its value, or values that are spread.
+pub(crate) fn math_arg(class: Class) -> &'static [Row]
+    ensures { rows_of result.now ≡ math_arg class }
+{
+    match class {
+        Class::Dots => &[ROW_14],
+        Class::ArgumentName => &[ROW_15],
+        Class::ArgumentBlank => &[ROW_16],
+        _ => &[ROW_13],
+    }
+}
+
+/// The colon behind the name of an argument.
+pub(crate) fn math_arg_colon(class: Class) -> &'static [Row]
+    ensures { rows_of result.now ≡ math_arg_colon class }
+{
+    match class {
+        Class::MathText => &[ROW_17],
+        _ => &[],
+    }
+}
+
+/// The value of an argument with a name.
+pub(crate) fn math_named(class: Class) -> &'static [Row]
+    ensures { rows_of result.now ≡ math_named class }
+{
+    match class {
+        Class::End | Class::Dollar | Class::RightParen | Class::Comma | Class::Semicolon => &[
+            ROW_18,
+        ],
+        _ => &[ROW_19],
+    }
+}
+
+/// The value of an argument.
+pub(crate) fn math_value(class: Class) -> &'static [Row]
+    ensures { rows_of result.now ≡ math_value class }
+{
+    match class {
+        Class::End | Class::Dollar | Class::RightParen | Class::Comma | Class::Semicolon => &[
+            ROW_20,
+        ],
+        Class::Linebreak
+        | Class::Escape
+        | Class::Hash
+        | Class::LeftBrace
+        | Class::RightBrace
+        | Class::LeftParen
+        | Class::Dot
+        | Class::Field
+        | Class::Str
+        | Class::MathIdent
+        | Class::MathLetter
+        | Class::MathText
+        | Class::MathPrimes
+        | Class::Opening
+        | Class::Closing
+        | Class::Bang
+        | Class::Root => &[ROW_21],
+        _ => &[ROW_3],
+    }
+}
+
+/// Whether one expression is the value.
+pub(crate) fn math_value_one(class: Class) -> &'static [Row]
+    ensures { rows_of result.now ≡ math_value_one class }
+{
+    match class {
+        Class::End | Class::Dollar | Class::RightParen | Class::Comma | Class::Semicolon => &[
+            ROW_2,
+        ],
+        _ => &[ROW_22],
+    }
+}
+
+/// The value of an argument from the second expression on.
+pub(crate) fn math_value_more(class: Class) -> &'static [Row]
+    ensures { rows_of result.now ≡ math_value_more class }
+{
+    match class {
+        Class::End | Class::Dollar | Class::RightParen | Class::Comma | Class::Semicolon => &[
+            ROW_5,
+        ],
+        Class::Linebreak
+        | Class::Escape
+        | Class::Hash
+        | Class::LeftBrace
+        | Class::RightBrace
+        | Class::LeftParen
+        | Class::Dot
+        | Class::Field
+        | Class::Str
+        | Class::MathIdent
+        | Class::MathLetter
+        | Class::MathText
+        | Class::MathPrimes
+        | Class::Opening
+        | Class::Closing
+        | Class::Bang
+        | Class::Root => &[ROW_4],
+        _ => &[ROW_3],
+    }
+}
+
+/// The rest of a row of `math.arg`, once the frame that it opened has returned.
+pub(crate) fn math_arg_rest1(_class: Class) -> &'static [Row]
+    ensures { rows_of result.now ≡ math_arg_rest1 _class }
+{
+    &[ROW_23]
+}
+
+/// The rest of a row of `math.arg`, once the frame that it opened has returned.
+pub(crate) fn math_arg_rest2(_class: Class) -> &'static [Row]
+    ensures { rows_of result.now ≡ math_arg_rest2 _class }
+{
+    &[ROW_2]
+}
+
+/// The rest of a row of `math.arg.colon`, once the frame that it opened has returned.
+pub(crate) fn math_arg_colon_rest(_class: Class) -> &'static [Row]
+    ensures { rows_of result.now ≡ math_arg_colon_rest _class }
+{
+    &[ROW_24]
+}

@@ -1,0 +1,331 @@
+// Written by bench/grammar_crate.py from crates/grammar.table: change that and run it.
+//! The rows of what may follow an expression in math.
+ghost use Rattle.std.specs.Prelude.{◌≡◌};
+ghost use Rattle.typst_grammar.specs.Row.{rows_of};
+ghost use Rattle.typst_grammar.specs.ScriptsRows.{math_above, math_above_rest, math_after, math_after_rest1, math_after_rest2, math_after_rest3, math_below, math_below_rest, math_primed, math_primed_rest1, math_primed_rest2};
+
+use crate::maps::Map;
+use crate::row::{Action, Call, Condition, Row, Take};
+use crate::rows::{Class, State};
+use typst_base::SyntaxKind;
+
+/// `| return`
+const ROW_0: Row = Row {
+    condition: Condition::Always,
+    before: &[Action::Return],
+    take: Take::Nothing,
+    after: &[],
+    call: None,
+};
+
+/// `if is 0 | retag unparen; eat; -> math.after.rest3; math.expr 1`
+const ROW_1: Row = Row {
+    condition: Condition::Is(0),
+    before: &[Action::Retag(Map::Unparen)],
+    take: Take::Eat,
+    after: &[Action::Goto(State::MathAfterRest3)],
+    call: Some(Call {
+        state: State::MathExpr,
+        number: 1,
+        enters: false,
+        is_deep: false,
+        newline: None,
+    }),
+};
+
+/// `if is 3 | return`
+const ROW_2: Row = Row {
+    condition: Condition::Is(3),
+    before: &[Action::Return],
+    take: Take::Nothing,
+    after: &[],
+    call: None,
+};
+
+/// `| eat; -> math.after.rest1; math.expr 2`
+const ROW_3: Row = Row {
+    condition: Condition::Always,
+    before: &[],
+    take: Take::Eat,
+    after: &[Action::Goto(State::MathAfterRest1)],
+    call: Some(Call {
+        state: State::MathExpr,
+        number: 2,
+        enters: false,
+        is_deep: false,
+        newline: None,
+    }),
+};
+
+/// `if direct | eat; -> math.primed`
+const ROW_4: Row = Row {
+    condition: Condition::Direct,
+    before: &[],
+    take: Take::Eat,
+    after: &[Action::Goto(State::MathPrimed)],
+    call: None,
+};
+
+/// `if is 2 | return`
+const ROW_5: Row = Row {
+    condition: Condition::Is(2),
+    before: &[Action::Return],
+    take: Take::Nothing,
+    after: &[],
+    call: None,
+};
+
+/// `| eat; -> math.after.rest2; math.expr 3`
+const ROW_6: Row = Row {
+    condition: Condition::Always,
+    before: &[],
+    take: Take::Eat,
+    after: &[Action::Goto(State::MathAfterRest2)],
+    call: Some(Call {
+        state: State::MathExpr,
+        number: 3,
+        enters: false,
+        is_deep: false,
+        newline: None,
+    }),
+};
+
+/// `if direct | eat MathText; wrap Math; -> math.after`
+const ROW_7: Row = Row {
+    condition: Condition::Direct,
+    before: &[],
+    take: Take::EatAs(SyntaxKind::MathText),
+    after: &[
+        Action::Wrap(SyntaxKind::Math),
+        Action::Goto(State::MathAfter),
+    ],
+    call: None,
+};
+
+/// `| wrap MathAttach; -> math.after`
+const ROW_8: Row = Row {
+    condition: Condition::Always,
+    before: &[
+        Action::Wrap(SyntaxKind::MathAttach),
+        Action::Goto(State::MathAfter),
+    ],
+    take: Take::Nothing,
+    after: &[],
+    call: None,
+};
+
+/// `if is 3 | wrap MathAttach; return`
+const ROW_9: Row = Row {
+    condition: Condition::Is(3),
+    before: &[Action::Wrap(SyntaxKind::MathAttach), Action::Return],
+    take: Take::Nothing,
+    after: &[],
+    call: None,
+};
+
+/// `| eat; -> math.primed.rest1; math.expr 2`
+const ROW_10: Row = Row {
+    condition: Condition::Always,
+    before: &[],
+    take: Take::Eat,
+    after: &[Action::Goto(State::MathPrimedRest1)],
+    call: Some(Call {
+        state: State::MathExpr,
+        number: 2,
+        enters: false,
+        is_deep: false,
+        newline: None,
+    }),
+};
+
+/// `if is 2 | wrap MathAttach; return`
+const ROW_11: Row = Row {
+    condition: Condition::Is(2),
+    before: &[Action::Wrap(SyntaxKind::MathAttach), Action::Return],
+    take: Take::Nothing,
+    after: &[],
+    call: None,
+};
+
+/// `| eat; -> math.primed.rest2; math.expr 3`
+const ROW_12: Row = Row {
+    condition: Condition::Always,
+    before: &[],
+    take: Take::Eat,
+    after: &[Action::Goto(State::MathPrimedRest2)],
+    call: Some(Call {
+        state: State::MathExpr,
+        number: 3,
+        enters: false,
+        is_deep: false,
+        newline: None,
+    }),
+};
+
+/// `| eat; -> math.below.rest; math.expr 1`
+const ROW_13: Row = Row {
+    condition: Condition::Always,
+    before: &[],
+    take: Take::Eat,
+    after: &[Action::Goto(State::MathBelowRest)],
+    call: Some(Call {
+        state: State::MathExpr,
+        number: 1,
+        enters: false,
+        is_deep: false,
+        newline: None,
+    }),
+};
+
+/// `| eat; -> math.above.rest; math.expr 1`
+const ROW_14: Row = Row {
+    condition: Condition::Always,
+    before: &[],
+    take: Take::Eat,
+    after: &[Action::Goto(State::MathAboveRest)],
+    call: Some(Call {
+        state: State::MathExpr,
+        number: 1,
+        enters: false,
+        is_deep: false,
+        newline: None,
+    }),
+};
+
+/// `| retag unparen; -> math.below`
+const ROW_15: Row = Row {
+    condition: Condition::Always,
+    before: &[Action::Retag(Map::Unparen), Action::Goto(State::MathBelow)],
+    take: Take::Nothing,
+    after: &[],
+    call: None,
+};
+
+/// `| retag unparen; -> math.above`
+const ROW_16: Row = Row {
+    condition: Condition::Always,
+    before: &[Action::Retag(Map::Unparen), Action::Goto(State::MathAbove)],
+    take: Take::Nothing,
+    after: &[],
+    call: None,
+};
+
+/// `| retag unparen; wrap MathFrac; -> math.after`
+const ROW_17: Row = Row {
+    condition: Condition::Always,
+    before: &[
+        Action::Retag(Map::Unparen),
+        Action::Wrap(SyntaxKind::MathFrac),
+        Action::Goto(State::MathAfter),
+    ],
+    take: Take::Nothing,
+    after: &[],
+    call: None,
+};
+
+/// `| retag unparen; wrap MathAttach; -> math.after`
+const ROW_18: Row = Row {
+    condition: Condition::Always,
+    before: &[
+        Action::Retag(Map::Unparen),
+        Action::Wrap(SyntaxKind::MathAttach),
+        Action::Goto(State::MathAfter),
+    ],
+    take: Take::Nothing,
+    after: &[],
+    call: None,
+};
+
+/// What may follow an expression in math.
+pub(crate) fn math_after(class: Class) -> &'static [Row]
+    ensures { rows_of result.now ≡ math_after class }
+{
+    match class {
+        Class::Slash => &[ROW_1, ROW_0],
+        Class::Underscore => &[ROW_2, ROW_3],
+        Class::MathPrimes => &[ROW_4, ROW_0],
+        Class::Hat => &[ROW_5, ROW_6],
+        Class::Bang => &[ROW_7, ROW_0],
+        _ => &[ROW_0],
+    }
+}
+
+/// What may follow primes.
+pub(crate) fn math_primed(class: Class) -> &'static [Row]
+    ensures { rows_of result.now ≡ math_primed class }
+{
+    match class {
+        Class::Underscore => &[ROW_9, ROW_10],
+        Class::Hat => &[ROW_11, ROW_12],
+        _ => &[ROW_8],
+    }
+}
+
+/// Whether a script above follows the one below.
+pub(crate) fn math_below(class: Class) -> &'static [Row]
+    ensures { rows_of result.now ≡ math_below class }
+{
+    match class {
+        Class::Hat => &[ROW_13],
+        _ => &[ROW_8],
+    }
+}
+
+/// Whether a script below follows the one above.
+pub(crate) fn math_above(class: Class) -> &'static [Row]
+    ensures { rows_of result.now ≡ math_above class }
+{
+    match class {
+        Class::Underscore => &[ROW_14],
+        _ => &[ROW_8],
+    }
+}
+
+/// The rest of a row of `math.after`, once the frame that it opened has returned.
+pub(crate) fn math_after_rest1(_class: Class) -> &'static [Row]
+    ensures { rows_of result.now ≡ math_after_rest1 _class }
+{
+    &[ROW_15]
+}
+
+/// The rest of a row of `math.after`, once the frame that it opened has returned.
+pub(crate) fn math_after_rest2(_class: Class) -> &'static [Row]
+    ensures { rows_of result.now ≡ math_after_rest2 _class }
+{
+    &[ROW_16]
+}
+
+/// The rest of a row of `math.after`, once the frame that it opened has returned.
+pub(crate) fn math_after_rest3(_class: Class) -> &'static [Row]
+    ensures { rows_of result.now ≡ math_after_rest3 _class }
+{
+    &[ROW_17]
+}
+
+/// The rest of a row of `math.primed`, once the frame that it opened has returned.
+pub(crate) fn math_primed_rest1(_class: Class) -> &'static [Row]
+    ensures { rows_of result.now ≡ math_primed_rest1 _class }
+{
+    &[ROW_15]
+}
+
+/// The rest of a row of `math.primed`, once the frame that it opened has returned.
+pub(crate) fn math_primed_rest2(_class: Class) -> &'static [Row]
+    ensures { rows_of result.now ≡ math_primed_rest2 _class }
+{
+    &[ROW_16]
+}
+
+/// The rest of a row of `math.below`, once the frame that it opened has returned.
+pub(crate) fn math_below_rest(_class: Class) -> &'static [Row]
+    ensures { rows_of result.now ≡ math_below_rest _class }
+{
+    &[ROW_18]
+}
+
+/// The rest of a row of `math.above`, once the frame that it opened has returned.
+pub(crate) fn math_above_rest(_class: Class) -> &'static [Row]
+    ensures { rows_of result.now ≡ math_above_rest _class }
+{
+    &[ROW_18]
+}

@@ -1,8 +1,0 @@
-use Rattle.std.proofs.Common.{◌≡◌, drop}
-use Rattle.typst_grammar.specs.Row.{rows_of}
-use Rattle.typst_machine.specs.Rows.{first_row}
-use Rattle.typst_machine.specs.View.{stack_of}
-use Rattle.typst_machine.proofs.stack.Stack.first_row.Given as goal
-
-abbrev pub invariant-loop-row : goal.invariant-loop-row
-invariant-loop-row l = first_row (rows_of (drop l.row-index l.rows)) (stack_of l.self) ≡ first_row (rows_of l.rows) (stack_of l.self)

@@ -1,0 +1,4 @@
+use Rattle.typst_parser.proofs.unique.see.Goals as goal
+
+pub returns-then-branch-clause-seen : goal.returns-then-branch-clause-seen
+returns-then-branch-clause-seen c = λ q. c.in_ok-insert.ensures.updates.0 (q.list, q.name)

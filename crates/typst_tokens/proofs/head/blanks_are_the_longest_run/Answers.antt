@@ -1,5 +1,0 @@
-use Rattle.typst_tokens.proofs.WhiteRuns.{blanks_are_longest}
-use Rattle.typst_tokens.proofs.head.blanks_are_the_longest_run.Goals as goal
-
-pub returns : goal.returns
-returns c = blanks_are_longest
