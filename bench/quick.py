@@ -7,8 +7,8 @@ It works in a clean clone, four parts at a time, the longest first:
 
 - the checks of bench/seconds;
 - the tests of each crate that has some, by `rt try --test`;
-- the programs of examples/README.md, by `rt try`, and the trees of texts in typst_language_tests, which takes some 130,000 edits, by a build
-  of which nothing is tested: each must print its `stdout`;
+- the programs of examples/README.md, by `rt try`, and the trees of texts in typst_language_tests, which takes some 130,000 edits: each must
+  print its `stdout`. One that reads files is a build of which nothing is tested;
 - the scripts and the looks in examples/ by ./run and ./look, and the text with a mistake and its edit by ./show: each must print its
   `NAME.stdout`.
 
@@ -75,24 +75,21 @@ def tests(name):
 
 
 def program(name):
-    """A program that must print its `stdout` and end with its `status`."""
+    """A program that gets the words of its `args`, and must print its `stdout` and end with its `status`. If it reads files, it runs in
+    the folder `data`. `rt try` runs none there, so of such a program nothing is tested."""
     folder = CRATES / name
     stdin = folder / "stdin" if (folder / "stdin").exists() else None
-    done = ran(TRY, folder, stdin)
+    words = (folder / "args").read_text().split() if (folder / "args").exists() else []
     status = int((folder / "status").read_text()) if (folder / "status").exists() else 0
-    return compared(done, folder / "stdout", status)
-
-
-def agreement():
-    """The trees of texts, which must print its `stdout`."""
-    folder = CRATES / AGREEMENT
+    if not (folder / "data").is_dir():
+        return compared(ran([*TRY, "--", *words], folder, stdin), folder / "stdout", status)
     with tempfile.TemporaryDirectory() as room:
-        made = Path(room, AGREEMENT)
+        made = Path(room, name)
         try:
             unproved.build(folder, made)
         except unproved.Unbuilt as error:
             return 0, 1, str(error)
-        return compared(ran([made, *(folder / "args").read_text().split()], folder / "data"), folder / "stdout")
+        return compared(ran([made, *words], folder / "data", stdin), folder / "stdout", status)
 
 
 def compared(done, wanted, status=0):
@@ -119,7 +116,7 @@ def mistake():
 
 def parts():
     """What is run, the longest first: a name, a call, and its arguments."""
-    yield AGREEMENT, agreement
+    yield AGREEMENT, program, AGREEMENT
     for file in sorted(CRATES.glob("*/src"), key=lambda it: -sum(source.stat().st_size for source in it.rglob("*.rt"))):
         if any("#[test]" in source.read_text() for source in file.rglob("*.rt")):
             yield f"tests of {file.parent.name}", tests, file.parent.name
