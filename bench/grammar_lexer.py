@@ -81,6 +81,7 @@ def is_numeric(c):
 
 
 def is_alphabetic(c):
+    """As the property says, but for marks that take no room, such as vowel signs of Thai: Python has no table of those."""
     return c != "" and (c.isalpha() or unicodedata.category(c) in ("Nl", "Mc"))
 
 
@@ -391,7 +392,8 @@ class Lexer:
             return "Field", "Dot", i + 1
         if c in SIGNS_OF_MATH:
             return SIGNS_OF_MATH[c], i + 1
-        if is_numeric(c):
+        # A letter number, such as a Roman one, may begin a name.
+        if is_numeric(c) and not (begins_math_name(c) and is_in_math_name(self.at(i + 1))):
             end = self.run(i, is_numeric)
             if self.at(end) == "." and is_numeric(self.at(end + 1)):
                 end = self.run(end + 1, is_numeric)

@@ -67,49 +67,49 @@ change_8 = record {
 abbrev pub change_9 : Change
 change_9 = record {
   test = tests.Always;
-  effect = effects.Become (record { kind = None; first = None; others = None });
+  effect = effects.Wrong expectations.Pattern;
 }
 
 abbrev pub change_10 : Change
 change_10 = record {
   test = tests.Always;
-  effect = effects.Become (record { kind = None; first = Some maps.Pattern; others = Some maps.Pattern });
+  effect = effects.Become (record { kind = None; first = None; others = None });
 }
 
 abbrev pub change_11 : Change
 change_11 = record {
   test = tests.Always;
-  effect = effects.Become (record { kind = Some kinds.Destructuring; first = Some maps.Pattern; others = Some maps.Pattern });
+  effect = effects.Become (record { kind = None; first = Some maps.Pattern; others = Some maps.Pattern });
 }
 
 abbrev pub change_12 : Change
 change_12 = record {
   test = tests.Always;
-  effect = effects.Become (record { kind = Some kinds.Named; first = Some maps.Mistaken; others = Some maps.Part });
+  effect = effects.Become (record { kind = Some kinds.Destructuring; first = Some maps.Member; others = Some maps.Member });
 }
 
 abbrev pub change_13 : Change
 change_13 = record {
   test = tests.Always;
-  effect = effects.Become (record { kind = None; first = Some maps.Sink; others = Some maps.Sink });
+  effect = effects.Become (record { kind = Some kinds.Named; first = Some maps.Mistaken; others = Some maps.Part });
 }
 
 abbrev pub change_14 : Change
 change_14 = record {
-  test = tests.Expr;
-  effect = effects.Wrong expectations.Pattern;
+  test = tests.Always;
+  effect = effects.Become (record { kind = None; first = Some maps.Sink; others = Some maps.Sink });
 }
 
 abbrev pub change_15 : Change
 change_15 = record {
-  test = tests.Always;
-  effect = effects.Become (record { kind = Some kinds.Named; first = Some maps.Mistaken; others = Some maps.Pattern });
+  test = tests.Expr;
+  effect = effects.Wrong expectations.Pattern;
 }
 
 abbrev pub change_16 : Change
 change_16 = record {
   test = tests.Always;
-  effect = effects.Wrong expectations.Pattern;
+  effect = effects.Become (record { kind = Some kinds.Named; first = Some maps.Mistaken; others = Some maps.Pattern });
 }
 
 abbrev pub change_17 : Change
@@ -121,7 +121,7 @@ change_17 = record {
 abbrev pub change_18 : Change
 change_18 = record {
   test = tests.Always;
-  effect = effects.Become (record { kind = Some kinds.Destructuring; first = Some maps.Target; others = Some maps.Target });
+  effect = effects.Become (record { kind = Some kinds.Destructuring; first = Some maps.Place; others = Some maps.Place });
 }
 
 abbrev pub change_19 : Change
@@ -191,38 +191,66 @@ params _ = []
 
 -- a parameter
 abbrev pub param : SyntaxKind → List Change
-param kinds.Underscore = change_9 ∷ []
-param kinds.Ident = change_9 ∷ []
-param kinds.Parenthesized = change_10 ∷ []
-param kinds.Array = change_11 ∷ []
-param kinds.Dict = change_11 ∷ []
+param kinds.Colon = change_9 ∷ []
+param kinds.Underscore = change_10 ∷ []
+param kinds.Ident = change_10 ∷ []
+param kinds.Parenthesized = change_11 ∷ []
+param kinds.Array = change_12 ∷ []
+param kinds.Dict = change_12 ∷ []
 param kinds.Named = change_6 ∷ []
-param kinds.Keyed = change_12 ∷ []
-param kinds.Spread = change_13 ∷ []
-param _ = change_14 ∷ []
+param kinds.Keyed = change_13 ∷ []
+param kinds.Spread = change_14 ∷ []
+param _ = change_15 ∷ []
+
+-- what is in the parentheses of a pattern
+abbrev pub member : SyntaxKind → List Change
+member kinds.Colon = change_9 ∷ []
+member kinds.Underscore = change_10 ∷ []
+member kinds.Ident = change_10 ∷ []
+member kinds.Parenthesized = change_11 ∷ []
+member kinds.Array = change_12 ∷ []
+member kinds.Dict = change_12 ∷ []
+member kinds.Named = change_11 ∷ []
+member kinds.Keyed = change_16 ∷ []
+member kinds.Spread = change_14 ∷ []
+member _ = change_15 ∷ []
 
 -- a pattern
 abbrev pub pattern : SyntaxKind → List Change
-pattern kinds.Underscore = change_9 ∷ []
-pattern kinds.Ident = change_9 ∷ []
-pattern kinds.Parenthesized = change_10 ∷ []
-pattern kinds.Array = change_11 ∷ []
-pattern kinds.Dict = change_11 ∷ []
-pattern kinds.Named = change_10 ∷ []
-pattern kinds.Keyed = change_15 ∷ []
-pattern kinds.Spread = change_13 ∷ []
-pattern _ = change_14 ∷ []
+pattern kinds.Underscore = change_10 ∷ []
+pattern kinds.Ident = change_10 ∷ []
+pattern kinds.Parenthesized = change_11 ∷ []
+pattern kinds.Array = change_12 ∷ []
+pattern kinds.Dict = change_12 ∷ []
+pattern kinds.Named = change_11 ∷ []
+pattern kinds.Keyed = change_16 ∷ []
+pattern kinds.Spread = change_14 ∷ []
+pattern _ = change_15 ∷ []
 
 -- the name of a sink
 abbrev pub sink : SyntaxKind → List Change
-sink kinds.Underscore = change_16 ∷ []
-sink kinds.Ident = change_9 ∷ []
-sink _ = change_14 ∷ []
+sink kinds.Underscore = change_9 ∷ []
+sink kinds.Ident = change_10 ∷ []
+sink _ = change_15 ∷ []
 
 -- a key that has to be a name
 abbrev pub mistaken : SyntaxKind → List Change
-mistaken kinds.Underscore = change_16 ∷ []
-mistaken _ = change_14 ∷ []
+mistaken kinds.Underscore = change_9 ∷ []
+mistaken _ = change_15 ∷ []
+
+-- what is in the parentheses of a target
+abbrev pub place : SyntaxKind → List Change
+place kinds.Colon = change_9 ∷ []
+place kinds.Parenthesized = change_17 ∷ []
+place kinds.Array = change_18 ∷ []
+place kinds.Dict = change_18 ∷ []
+place kinds.Named = change_17 ∷ []
+place kinds.Keyed = change_19 ∷ []
+place kinds.Unary = change_9 ∷ []
+place kinds.Binary = change_9 ∷ []
+place kinds.Closure = change_9 ∷ []
+place kinds.DestructAssignment = change_9 ∷ []
+place _ = []
 
 -- what a value is assigned to
 abbrev pub target : SyntaxKind → List Change
@@ -231,10 +259,10 @@ target kinds.Array = change_18 ∷ []
 target kinds.Dict = change_18 ∷ []
 target kinds.Named = change_17 ∷ []
 target kinds.Keyed = change_19 ∷ []
-target kinds.Unary = change_16 ∷ []
-target kinds.Binary = change_16 ∷ []
-target kinds.Closure = change_16 ∷ []
-target kinds.DestructAssignment = change_16 ∷ []
+target kinds.Unary = change_9 ∷ []
+target kinds.Binary = change_9 ∷ []
+target kinds.Closure = change_9 ∷ []
+target kinds.DestructAssignment = change_9 ∷ []
 target _ = []
 
 -- an expression that loses its parentheses
@@ -255,9 +283,11 @@ changes maps.Entry kind = entry kind
 changes maps.Part kind = part kind
 changes maps.Params kind = params kind
 changes maps.Param kind = param kind
+changes maps.Member kind = member kind
 changes maps.Pattern kind = pattern kind
 changes maps.Sink kind = sink kind
 changes maps.Mistaken kind = mistaken kind
+changes maps.Place kind = place kind
 changes maps.Target kind = target kind
 changes maps.Unparen kind = unparen kind
 changes maps.Paren kind = paren kind

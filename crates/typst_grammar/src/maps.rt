@@ -1,7 +1,7 @@
 // Written by bench/grammar_crate.py from crates/grammar.table: change that and run it.
 //! The maps that give nodes other kinds.
 ghost use Rattle.std.specs.Prelude.{◌≡◌};
-ghost use Rattle.typst_grammar.specs.Maps.{changes, entry, item, mistaken, param, params, paren, part, pattern, sink, target, unparen, value};
+ghost use Rattle.typst_grammar.specs.Maps.{changes, entry, item, member, mistaken, param, params, paren, part, pattern, place, sink, target, unparen, value};
 
 use crate::change::{Change, Effect, Relabel, Test};
 use crate::expectation::Expectation;
@@ -22,12 +22,16 @@ pub enum Map {
     Params,
     /// A parameter.
     Param,
+    /// What is in the parentheses of a pattern.
+    Member,
     /// A pattern.
     Pattern,
     /// The name of a sink.
     Sink,
     /// A key that has to be a name.
     Mistaken,
+    /// What is in the parentheses of a target.
+    Place,
     /// What a value is assigned to.
     Target,
     /// An expression that loses its parentheses.
@@ -103,6 +107,11 @@ const CHANGE_8: Change = Change {
 
 const CHANGE_9: Change = Change {
     test: Test::Always,
+    effect: Effect::Wrong(Expectation::Pattern),
+};
+
+const CHANGE_10: Change = Change {
+    test: Test::Always,
     effect: Effect::Become(Relabel {
         kind: None,
         first: None,
@@ -110,19 +119,10 @@ const CHANGE_9: Change = Change {
     }),
 };
 
-const CHANGE_10: Change = Change {
-    test: Test::Always,
-    effect: Effect::Become(Relabel {
-        kind: None,
-        first: Some(Map::Pattern),
-        others: Some(Map::Pattern),
-    }),
-};
-
 const CHANGE_11: Change = Change {
     test: Test::Always,
     effect: Effect::Become(Relabel {
-        kind: Some(SyntaxKind::Destructuring),
+        kind: None,
         first: Some(Map::Pattern),
         others: Some(Map::Pattern),
     }),
@@ -131,13 +131,22 @@ const CHANGE_11: Change = Change {
 const CHANGE_12: Change = Change {
     test: Test::Always,
     effect: Effect::Become(Relabel {
+        kind: Some(SyntaxKind::Destructuring),
+        first: Some(Map::Member),
+        others: Some(Map::Member),
+    }),
+};
+
+const CHANGE_13: Change = Change {
+    test: Test::Always,
+    effect: Effect::Become(Relabel {
         kind: Some(SyntaxKind::Named),
         first: Some(Map::Mistaken),
         others: Some(Map::Part),
     }),
 };
 
-const CHANGE_13: Change = Change {
+const CHANGE_14: Change = Change {
     test: Test::Always,
     effect: Effect::Become(Relabel {
         kind: None,
@@ -146,23 +155,18 @@ const CHANGE_13: Change = Change {
     }),
 };
 
-const CHANGE_14: Change = Change {
+const CHANGE_15: Change = Change {
     test: Test::Expr,
     effect: Effect::Wrong(Expectation::Pattern),
 };
 
-const CHANGE_15: Change = Change {
+const CHANGE_16: Change = Change {
     test: Test::Always,
     effect: Effect::Become(Relabel {
         kind: Some(SyntaxKind::Named),
         first: Some(Map::Mistaken),
         others: Some(Map::Pattern),
     }),
-};
-
-const CHANGE_16: Change = Change {
-    test: Test::Always,
-    effect: Effect::Wrong(Expectation::Pattern),
 };
 
 const CHANGE_17: Change = Change {
@@ -178,8 +182,8 @@ const CHANGE_18: Change = Change {
     test: Test::Always,
     effect: Effect::Become(Relabel {
         kind: Some(SyntaxKind::Destructuring),
-        first: Some(Map::Target),
-        others: Some(Map::Target),
+        first: Some(Map::Place),
+        others: Some(Map::Place),
     }),
 };
 
@@ -285,13 +289,29 @@ fn param(kind: SyntaxKind) -> &'static [Change]
     ensures { result.now ≡ param kind }
 {
     match kind {
-        SyntaxKind::Underscore | SyntaxKind::Ident => &[CHANGE_9],
-        SyntaxKind::Parenthesized => &[CHANGE_10],
-        SyntaxKind::Array | SyntaxKind::Dict => &[CHANGE_11],
+        SyntaxKind::Colon => &[CHANGE_9],
+        SyntaxKind::Underscore | SyntaxKind::Ident => &[CHANGE_10],
+        SyntaxKind::Parenthesized => &[CHANGE_11],
+        SyntaxKind::Array | SyntaxKind::Dict => &[CHANGE_12],
         SyntaxKind::Named => &[CHANGE_6],
-        SyntaxKind::Keyed => &[CHANGE_12],
-        SyntaxKind::Spread => &[CHANGE_13],
-        _ => &[CHANGE_14],
+        SyntaxKind::Keyed => &[CHANGE_13],
+        SyntaxKind::Spread => &[CHANGE_14],
+        _ => &[CHANGE_15],
+    }
+}
+
+/// What is in the parentheses of a pattern.
+fn member(kind: SyntaxKind) -> &'static [Change]
+    ensures { result.now ≡ member kind }
+{
+    match kind {
+        SyntaxKind::Colon => &[CHANGE_9],
+        SyntaxKind::Underscore | SyntaxKind::Ident => &[CHANGE_10],
+        SyntaxKind::Parenthesized | SyntaxKind::Named => &[CHANGE_11],
+        SyntaxKind::Array | SyntaxKind::Dict => &[CHANGE_12],
+        SyntaxKind::Keyed => &[CHANGE_16],
+        SyntaxKind::Spread => &[CHANGE_14],
+        _ => &[CHANGE_15],
     }
 }
 
@@ -300,12 +320,12 @@ fn pattern(kind: SyntaxKind) -> &'static [Change]
     ensures { result.now ≡ pattern kind }
 {
     match kind {
-        SyntaxKind::Underscore | SyntaxKind::Ident => &[CHANGE_9],
-        SyntaxKind::Parenthesized | SyntaxKind::Named => &[CHANGE_10],
-        SyntaxKind::Array | SyntaxKind::Dict => &[CHANGE_11],
-        SyntaxKind::Keyed => &[CHANGE_15],
-        SyntaxKind::Spread => &[CHANGE_13],
-        _ => &[CHANGE_14],
+        SyntaxKind::Underscore | SyntaxKind::Ident => &[CHANGE_10],
+        SyntaxKind::Parenthesized | SyntaxKind::Named => &[CHANGE_11],
+        SyntaxKind::Array | SyntaxKind::Dict => &[CHANGE_12],
+        SyntaxKind::Keyed => &[CHANGE_16],
+        SyntaxKind::Spread => &[CHANGE_14],
+        _ => &[CHANGE_15],
     }
 }
 
@@ -314,9 +334,9 @@ fn sink(kind: SyntaxKind) -> &'static [Change]
     ensures { result.now ≡ sink kind }
 {
     match kind {
-        SyntaxKind::Underscore => &[CHANGE_16],
-        SyntaxKind::Ident => &[CHANGE_9],
-        _ => &[CHANGE_14],
+        SyntaxKind::Underscore => &[CHANGE_9],
+        SyntaxKind::Ident => &[CHANGE_10],
+        _ => &[CHANGE_15],
     }
 }
 
@@ -325,8 +345,25 @@ fn mistaken(kind: SyntaxKind) -> &'static [Change]
     ensures { result.now ≡ mistaken kind }
 {
     match kind {
-        SyntaxKind::Underscore => &[CHANGE_16],
-        _ => &[CHANGE_14],
+        SyntaxKind::Underscore => &[CHANGE_9],
+        _ => &[CHANGE_15],
+    }
+}
+
+/// What is in the parentheses of a target.
+fn place(kind: SyntaxKind) -> &'static [Change]
+    ensures { result.now ≡ place kind }
+{
+    match kind {
+        SyntaxKind::Colon
+        | SyntaxKind::Unary
+        | SyntaxKind::Binary
+        | SyntaxKind::Closure
+        | SyntaxKind::DestructAssignment => &[CHANGE_9],
+        SyntaxKind::Parenthesized | SyntaxKind::Named => &[CHANGE_17],
+        SyntaxKind::Array | SyntaxKind::Dict => &[CHANGE_18],
+        SyntaxKind::Keyed => &[CHANGE_19],
+        _ => &[],
     }
 }
 
@@ -341,7 +378,7 @@ fn target(kind: SyntaxKind) -> &'static [Change]
         SyntaxKind::Unary
         | SyntaxKind::Binary
         | SyntaxKind::Closure
-        | SyntaxKind::DestructAssignment => &[CHANGE_16],
+        | SyntaxKind::DestructAssignment => &[CHANGE_9],
         _ => &[],
     }
 }
@@ -378,9 +415,11 @@ pub fn changes(map: Map, kind: SyntaxKind) -> &'static [Change]
         Map::Part => part(kind),
         Map::Params => params(kind),
         Map::Param => param(kind),
+        Map::Member => member(kind),
         Map::Pattern => pattern(kind),
         Map::Sink => sink(kind),
         Map::Mistaken => mistaken(kind),
+        Map::Place => place(kind),
         Map::Target => target(kind),
         Map::Unparen => unparen(kind),
         Map::Paren => paren(kind),

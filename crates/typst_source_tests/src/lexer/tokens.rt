@@ -246,12 +246,14 @@ const AFTER_HASHES: &[(&str, &str)] = &[
 fn a_hash_switches_to_code(rt: HostRuntime) -> Result<(), Fail> {
     for (text, want) in AFTER_HASHES {
         let mut lexer = Lexer::new(text, Mode::Markup);
-        if let Some(hash) = lexer.next() {
-            lexer.set_mode(Mode::Code);
-            let code = shown(rt.alloc(), lexer)?;
-            let tokens = format!(in rt.alloc(); "{:?}[{}]{code}", hash.kind, hash.text)?;
-            assert_in(&rt, text, &tokens.as_str(), want);
-        }
+        let Some(hash) = lexer.next() else {
+            assert_in(&rt, text, &"no token", want);
+            continue;
+        };
+        lexer.set_mode(Mode::Code);
+        let code = shown(rt.alloc(), lexer)?;
+        let tokens = format!(in rt.alloc(); "{:?}[{}]{code}", hash.kind, hash.text)?;
+        assert_in(&rt, text, &tokens.as_str(), want);
     }
     Ok(())
 }
