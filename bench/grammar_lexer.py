@@ -318,7 +318,7 @@ class Lexer:
 
     def sign(self, i, c):
         two = ("-" if c == "\u2212" else c) + self.at(i + 1)
-        if c == "." and begins_name(self.at(i + 1)):
+        if c == "." and begins_name(self.at(i + 1)) and self.text[i + 1 : self.run(i + 1, is_in_name)] != "_":
             return "Field", "Dot", i + 1
         for sign in (two, two[0]):
             if sign in SIGNS_OF_CODE:

@@ -65,7 +65,7 @@ pub enum Class {
     Colon,
     /// A dot that isn't directly before a name.
     Dot,
-    /// A dot directly before a name.
+    /// A dot directly before a name, which isn't `_` alone.
     Field,
     /// Two dots.
     Dots,

@@ -17,7 +17,7 @@ use Rattle.typst_lexer.specs.declared.cluster.Cluster.{Cluster}
 use Rattle.typst_lexer.specs.Arguments.{after_argument_name, argument_with, enter_argument, enter_name, enter_value, is_colon_after, is_spread, stay_argument, stay_argument_name}
 use Rattle.typst_lexer.specs.Clusters.{joins, with_char}
 use Rattle.typst_lexer.specs.Math.{after_char, enter_char, enter_formula, enter_math, enter_math_sign, enter_shorthand, is_math_name, is_math_part, is_root, is_shorthand_of_four, is_shorthand_of_one, is_shorthand_of_three, is_shorthand_of_two, longer_kind, name_with, stay_cluster, stay_math_name}
-use Rattle.typst_lexer.specs.Code.{enter_bracket, enter_code, enter_dot, enter_expression, enter_one, enter_operation, enter_operator, enter_operator_sign, enter_suffix, enter_word, is_based, is_field, is_fraction, is_long_unit, is_minus, is_short_unit, is_suffix, is_word_here, stay_exponent, stay_letters, stay_string, stay_unit}
+use Rattle.typst_lexer.specs.Code.{begins_field_name, enter_bracket, enter_code, enter_dot, enter_expression, enter_one, enter_operation, enter_operator, enter_operator_sign, enter_suffix, enter_word, is_based, is_field, is_fraction, is_long_unit, is_minus, is_short_unit, is_suffix, is_word_here, stay_exponent, stay_letters, stay_string, stay_unit}
 use Rattle.typst_lexer.specs.declared.place.Behind.{Behind}
 use Rattle.typst_lexer.specs.declared.place.Place.{Place}
 use Rattle.typst_lexer.specs.declared.place.Place.TheVariants as place
@@ -120,7 +120,7 @@ bracket_fresh kind w =
     (choose (begins_with (codes ":") w) _ _ none none)))))))))
 
 dot_fresh : (w : List ℕ) → Fresh (enter_dot w)
-dot_fresh w = choose (begins_char is_name_start (drop 1 w)) _ _ none none
+dot_fresh w = choose (begins_field_name (drop 1 w)) _ _ none none
 
 one_fresh : (kind : TokenKind) (w : List ℕ) → Fresh (enter_one kind w)
 one_fresh kind w =

@@ -106,9 +106,17 @@ stay_string w =
 abbrev pub is_minus : ℕ → Bool
 is_minus c = c == 0x2212
 
--- a dot, alone or directly before a name
+-- this name begins here, and ends with it
+abbrev pub is_word_here : List ℕ → List ℕ → Bool
+is_word_here word w = begins_with word w && not (begins_char is_name_part (drop (length word) w))
+
+-- A name begins here that a field may have: it isn't `_` alone.
+abbrev pub begins_field_name : List ℕ → Bool
+begins_field_name w = begins_char is_name_start w && not (is_word_here (codes "_") w)
+
+-- a dot, alone or directly before the name of a field
 abbrev pub enter_dot : List ℕ → Place
-enter_dot w = if begins_char is_name_start (drop 1 w) then place.Rest kinds.Field 0 else place.Rest kinds.Dot 0
+enter_dot w = if begins_field_name (drop 1 w) then place.Rest kinds.Field 0 else place.Rest kinds.Dot 0
 
 -- a bracket or a sign that separates, or another kind of token
 abbrev pub enter_bracket : TokenKind → List ℕ → Place
@@ -171,10 +179,6 @@ abbrev pub enter_code : Behind → List ℕ → Place
 enter_code before w =
     if begins_char is_whitespace w then place.Blank
     else elim (enter_comment w) [ None ↦ enter_expression before w | Some p ↦ p ]
-
--- the keyword begins here, and the name ends with it
-abbrev pub is_word_here : List ℕ → List ℕ → Bool
-is_word_here word w = begins_with word w && not (begins_char is_name_part (drop (length word) w))
 
 -- a keyword that may come where an operator may, or another token
 abbrev pub enter_word : List ℕ → Place

@@ -4,7 +4,7 @@ ghost use Rattle.std.specs.Char.{is_whitespace};
 ghost use Rattle.std.specs.List.{take_while};
 ghost use Rattle.typst_lexer.specs.Characters.{begins};
 ghost use Rattle.typst_lexer.specs.Classes.{begins_char, is_name_part};
-ghost use Rattle.typst_lexer.specs.Code.{after_exponent, enter_bracket, enter_code, enter_dot, enter_expression, enter_one, enter_operation, enter_operator, enter_operator_sign, enter_suffix, enter_word, is_based, is_field, is_fraction, is_minus, is_long_unit, is_short_unit, is_suffix, is_word_here, stay_based, stay_exponent, stay_fraction, stay_integer, stay_letters, stay_power, stay_sign, stay_string, stay_unit, stay_while};
+ghost use Rattle.typst_lexer.specs.Code.{after_exponent, begins_field_name, enter_bracket, enter_code, enter_dot, enter_expression, enter_one, enter_operation, enter_operator, enter_operator_sign, enter_suffix, enter_word, is_based, is_field, is_fraction, is_minus, is_long_unit, is_short_unit, is_suffix, is_word_here, stay_based, stay_exponent, stay_fraction, stay_integer, stay_letters, stay_power, stay_sign, stay_string, stay_unit, stay_while};
 
 use crate::characters::{begins_digit, behind};
 use crate::classes::{begins_name_part, begins_name_start, begins_space, first_char};
@@ -246,11 +246,18 @@ fn begins_minus(window: &[u8]) -> bool
     }
 }
 
+/// Whether a name begins that a field may have: it isn't `_` alone.
+fn begins_field_name(window: &[u8]) -> bool
+    ensures { result ≡ begins_field_name window.now }
+{
+    begins_name_start(window) && !is_word_here(b"_", window)
+}
+
 /// What a dot is inside of.
 fn enter_dot(window: &[u8]) -> Place
     ensures { result ≡ enter_dot window.now }
 {
-    if begins_name_start(behind(window, 1)) {
+    if begins_field_name(behind(window, 1)) {
         Place::Rest(TokenKind::Field, 0)
     } else {
         Place::Rest(TokenKind::Dot, 0)
@@ -381,7 +388,7 @@ pub fn enter_code(before: Behind, window: &[u8]) -> Place
     }
 }
 
-/// Whether the keyword is next, and the name ends with it.
+/// Whether this name is next, and ends with it.
 fn is_word_here(word: &[u8], window: &[u8]) -> bool
     ensures { result ≡ is_word_here word.now window.now }
 {

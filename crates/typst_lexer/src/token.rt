@@ -67,9 +67,9 @@ pub enum TokenKind {
     Semicolon,
     /// `:`.
     Colon,
-    /// A dot, but not directly before a name, in math a name of math.
+    /// A dot, but not directly before the name of a field.
     Dot,
-    /// A dot directly before a name, in math a name of math.
+    /// A dot directly before the name of a field: in code a name but `_` alone, in math a name of math.
     Field,
     /// `..`.
     Dots,
