@@ -14,7 +14,7 @@ import re
 import sys
 from pathlib import Path
 
-from bodies_sources import blanked, functions
+from judge.sources import blanked, functions
 
 TOP = Path(__file__).resolve().parent.parent
 CRATES = ("typst_atoms", "typst_ast")

@@ -69,9 +69,9 @@ from concurrent.futures import ThreadPoolExecutor
 from contextlib import nullcontext
 from pathlib import Path
 
-from bodies_forms import change_of_form, right_bodies
-from bodies_public import without_body
-from bodies_sources import (
+from judge.forms import change_of_form, right_bodies
+from judge.public import without_body
+from judge.sources import (
     Edit,
     Hunk,
     blanked,
@@ -811,7 +811,7 @@ def main():
     if given.apply:
         return 0 if apply_all() else 1
     if given.test:
-        from bodies_test import tested
+        from judge.test import tested
 
         return 0 if tested(given) else 1
     return 0 if judge_all(given) else 1

@@ -11,11 +11,10 @@ import sys
 from pathlib import Path
 from textwrap import fill
 
-from grammar_maps import maps_in_code, maps_in_specs
-from grammar_table import TOP, Row, Table
-from grammar_words import WIDTH, arm, camel, flat, head_of, list_in_code, list_in_specs, snake
+from grammar.maps import maps_in_code, maps_in_specs
+from grammar.table import TABLE, TOP, Row, Table
+from grammar.words import WIDTH, arm, camel, flat, head_of, list_in_code, list_in_specs, snake
 
-TABLE = TOP / "crates/grammar.table"
 WRITTEN = f"Written by bench/grammar_crate.py from {TABLE.relative_to(TOP)}: change that and run it."
 DECLARED = "Rattle.typst_grammar.specs.declared"
 # The enum of each action's word, by the action.

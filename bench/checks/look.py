@@ -2,14 +2,14 @@
 """Says whether the pages have what crates/typst_run/stdout has: docs/SCRIPT.md a form for each accessor of each view, and
 docs/internal/GATE.md how many lines each mark has.
 
-    bench/look.py
+    bench/checks/look.py
 """
 import re
 import sys
 from collections import Counter
 from pathlib import Path
 
-TOP = Path(__file__).resolve().parent.parent
+TOP = Path(__file__).resolve().parents[2]
 PAGE = TOP / "docs/SCRIPT.md"
 COUNTS = TOP / "docs/internal/GATE.md"
 WANTED = TOP / "crates/typst_run/stdout"

@@ -6,7 +6,7 @@ behind that if the frame may return before the token is taken.
 from dataclasses import dataclass
 from functools import cache
 
-from grammar_table import START
+from grammar.table import START
 
 # What isn't read where only an operator may come.
 NO_OPERATORS = {"Ident", "Str", "Literal", "Label", "Raw", "Error", "Underscore", "Hash"}

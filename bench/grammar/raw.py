@@ -1,7 +1,7 @@
-"""Raw text for the plain lexer of bench/grammar_lexer.py."""
+"""Raw text for the plain lexer of bench/grammar/lexer.py."""
 import re
 
-from grammar_nodes import Node
+from grammar.nodes import Node
 
 NEWLINE = re.compile("\r\n|[\n\x0b\x0c\r\x85\u2028\u2029]")
 

@@ -1,7 +1,9 @@
 #!/usr/bin/env python3
 """Tries the table of the whole syntax on texts, by a plain lexer and a plain machine.
 
-    bench/grammar_corpus.py
+    bench/checks/grammar_corpus.py
+    bench/checks/grammar_corpus.py --write FOLDER COUNT [SEED]    writes COUNT valid texts and COUNT soups by chance, each as NAME.typ
+                                                                  with NAME.tree, and tries nothing
 
 It fails if the tree of a text in crates/typst_language_tests/data isn't the one beside it, with a few exceptions that are named here
 and have errors; if there is a row without which all those trees stay the same; if a row could take the end of the text, or rows
@@ -9,22 +11,15 @@ could go round without a token; if a text of the grammar has an error, or a byte
 """
 import random
 import sys
+from pathlib import Path
 
-from grammar_checks import faults
-from grammar_machine import Machine, Refused, Rows, parse
-from grammar_nodes import Node, lines_of
-from grammar_table import TOP, Table
-from grammar_texts import soup, valid_text
+sys.path.insert(0, str(Path(__file__).resolve().parents[1]))
+from grammar.checks import faults
+from grammar.machine import Machine, Refused, Rows, parse
+from grammar.nodes import Node, lines_of
+from grammar.table import TABLE, TOP, Table
+from grammar.texts import DATA, OTHERS, soup, valid_text
 
-TABLE = TOP / "crates/grammar.table"
-DATA = TOP / "crates/typst_language_tests/data"
-# Texts with errors whose trees may be others, with the reason.
-OTHERS = {
-    "bad_dicts": "a colon that comes first makes a dictionary of `(: 1)`, and not a parenthesis",
-    "bad_import": "what follows an item of an import is the next item, with the comma that is missing before it",
-    "bad_math_args": "a name without a value has no node for the blanks behind its colon",
-    "bad_set_show": "the colon that a show rule lacks is told behind its selector, not before it",
-}
 # What work has to be linear in: a beginning, what comes behind it again and again, and how often.
 REPEATED = [
     ("#", "(", 10_000), ("", "[", 10_000), ("#", "{", 10_000), ("", "$", 10_000), ("#{", " -a", 10_000), ("#a", ".b", 10_000),
@@ -101,10 +96,23 @@ def linear(rows):
             yield f"{machine.looks} looks for {start + piece!r}, the end {count:,} times"
 
 
+def write(rows, folder, count, seed=0):
+    """Writes texts by chance, with their trees by the plain machine."""
+    Path(folder).mkdir(parents=True, exist_ok=True)
+    for number in range(int(seed), int(seed) + int(count)):
+        for name, make in (("valid", valid_text), ("soup", soup)):
+            text, file = make(random.Random(number)), Path(folder, f"{name}-{number}.typ")
+            file.write_bytes(text.encode())
+            tree = Node("Markup", children=tuple(parse(rows, text).nodes))
+            file.with_suffix(".tree").write_text("\n".join(lines_of(tree)) + "\n")
+
+
 def main():
     sys.setrecursionlimit(10_000)
     table = Table(TABLE)
     rows = Rows(table)
+    if sys.argv[1:2] == ["--write"]:
+        return write(rows, *sys.argv[2:])
     wrong = [*faults(table), *corpus(rows), *texts_of_all(rows), *linear(rows)]
     if wrong:
         sys.exit("\n".join(wrong))

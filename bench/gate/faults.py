@@ -1,7 +1,7 @@
 #!/usr/bin/env python3
 """Makes the program's reads and writes fail, and compares what it says then and what it wrote before.
 
-    bench/faults.py
+    bench/gate/faults.py
 
 runs the proved build of crates/typst_run, which `rt ci` and `rt run` in that folder make. It runs a script
 of edits, and one that is longer than the buffers,
@@ -26,7 +26,7 @@ import tempfile
 import threading
 from pathlib import Path
 
-TOP = Path(__file__).resolve().parent.parent
+TOP = Path(__file__).resolve().parents[2]
 PROGRAM = TOP / "crates/typst_run/out/typst_run"
 
 # Replacements and searches, of which some are refused and some don't fit, and the tree at the end.

@@ -1,7 +1,7 @@
 #!/usr/bin/env python3
 """Runs scripts and looks through the `main` of crates/typst_run, and compares standard output, standard error and the status.
 
-    bench/through_main.py [NAME ..]
+    bench/gate/through_main.py [NAME ..]
 
 takes the vectors of crates/typst_script_tests with these names, or else all of these:
 
@@ -19,7 +19,7 @@ import sys
 import tempfile
 from pathlib import Path
 
-TOP = Path(__file__).resolve().parent.parent
+TOP = Path(__file__).resolve().parents[2]
 VECTORS = TOP / "crates/typst_script_tests/vectors"
 EXAMPLES = TOP / "examples"
 PROGRAM = TOP / "crates/typst_run/out/typst_run"

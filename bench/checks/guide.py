@@ -1,7 +1,7 @@
 #!/usr/bin/env python3
 """Says whether each example in the pages and in the crates' own documents is taken from what the gate runs.
 
-    bench/guide.py
+    bench/checks/guide.py
 
 Pages are README.md, docs/GUIDE.md and examples/README.md, and the code in C and Rust of docs/C.md and docs/RUST.md. The
 documents of a crate are what `//!` and `///` say in its sources. An example is the text between fences, or in a page the
@@ -10,10 +10,10 @@ text that is indented by four blanks. It is one of these:
 - code: its lines follow one another in a test of `crates/*_tests`, in `crates/example_*`, in another program or in what
   the programs of ./show share, however far they are indented there. A line `..` means lines that are left out. The
   pieces between the fences of a page come only from the guide's tests or an example program. That may be one of
-  `bindings/`, which `bench/door.py` runs.
+  `bindings/`, which `bench/gate/door.py` runs.
 - imports, in a page: each name is imported in one of these sources too.
 - a script, a look or an answer: its lines follow one another in `examples/NAME.script`, `NAME.look` or `NAME.stdout`,
-  which `bench/through_main.py` compares. All those of one document of a crate come from one such NAME.
+  which `bench/gate/through_main.py` compares. All those of one document of a crate come from one such NAME.
 - commands, in a page: each begins with `./`, and names files that are there. The file after `--page` is one that it
   writes.
 - the windows in README.md: the numbers before and after are those of `examples/inserted.stdout`.
@@ -22,7 +22,7 @@ import re
 import sys
 from pathlib import Path
 
-TOP = Path(__file__).resolve().parent.parent
+TOP = Path(__file__).resolve().parents[2]
 PAGES = ("README.md", "docs/GUIDE.md", "examples/README.md")
 OF_BINDINGS = ("docs/C.md", "docs/RUST.md")
 GUIDE = ("crates/typst_tree_tests/src/guide/*.rt", "crates/example_*/src/*.rt", "bindings/*/examples/*.c", "bindings/*/examples/*.rs")

@@ -1,4 +1,4 @@
-// What bench/page.sh does with a page in a browser: it folds, searches, follows links, pins and walks, and leaves what fails in the title.
+// What bench/gate/page.sh does with a page in a browser: it folds, searches, follows links, pins and walks, and leaves what fails in the title.
 'use strict';
 const wrong = [];
 const holds = (what, is) => is || wrong.push(what);

@@ -1,7 +1,7 @@
 #!/usr/bin/env python3
 """Runs ./show, ./run and ./look where nothing is built, with a stand-in for the kit, and compares what they do.
 
-    bench/unbuilt.py
+    bench/checks/unbuilt.py
 
 The scripts and bench/unproved.py stand in a folder of their own, with crates that have no code. The stand-in for `rt try` makes a
 module, and that for the linker a program that tells its words. Each case is a list of calls, each with what is wanted of it: how many
@@ -16,7 +16,7 @@ import tempfile
 import time
 from pathlib import Path
 
-TOP = Path(__file__).resolve().parent.parent
+TOP = Path(__file__).resolve().parents[2]
 SCRIPTS = ["show", "run", "look", "bench/start", "bench/unproved.py", "crates.txt", "README.md"]
 BUILT, KEPT, PROVED = "build: {0} without a proof, which is kept; this takes a minute or two\n", "run: a build without a proof (for the proved one: rt run, in crates/{0})\n", "run: the proved build\n"
 NO_RT = "there is no command rt: install the Rattle kit that README.md names, and put the folder of rt into PATH\n"

@@ -1,5 +1,5 @@
 """The maps that give nodes other kinds, as bench/grammar_crate.py writes them in code and in specs."""
-from grammar_words import arm, camel, head_of, list_in_specs, snake
+from grammar.words import arm, camel, head_of, list_in_specs, snake
 
 DECLARED = "Rattle.typst_grammar.specs.declared"
 

@@ -1,5 +1,5 @@
-"""Names that come again in a node, for bench/grammar_machine.py: they become errors, and so does a second sink."""
-from grammar_nodes import error
+"""Names that come again in a node, for bench/grammar/machine.py: they become errors, and so does a second sink."""
+from grammar.nodes import error
 
 
 def unique(what, node):

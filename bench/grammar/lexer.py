@@ -1,4 +1,4 @@
-"""A plain lexer of Typst for bench/grammar_corpus.py: white space and tokens in each mode.
+"""A plain lexer of Typst for bench/checks/grammar_corpus.py: white space and tokens in each mode.
 
 It is written from the rules for tokens in words, and looks at a text anew for each token. The library's lexer is another program.
 """
@@ -8,8 +8,8 @@ from bisect import bisect_right
 from dataclasses import dataclass, field
 from functools import cached_property
 
-from grammar_nodes import Node
-from grammar_raw import raw
+from grammar.nodes import Node
+from grammar.raw import raw
 
 NEWLINES = set("\n\x0b\x0c\r\x85\u2028\u2029")
 WHITE = NEWLINES | set("\t \xa0\u1680\u202f\u205f\u3000") | {chr(code) for code in range(0x2000, 0x200B)}

@@ -1,7 +1,7 @@
 """Finds the public functions with clauses that no wrong body changes."""
 import re
 
-from bodies_sources import blanked
+from judge.sources import blanked
 
 CLAUSE = re.compile(r"\bensures\b")
 PUBLIC = re.compile(r"\bpub\s+(?:const\s+)?(?:unsafe\s+)?(?:extern\s+)?$")

@@ -1,10 +1,10 @@
-"""A plain machine for the rows of a table, for bench/grammar_corpus.py. Nothing is taken from the library's machine."""
+"""A plain machine for the rows of a table, for bench/checks/grammar_corpus.py. Nothing is taken from the library's machine."""
 from dataclasses import dataclass
 
-from grammar_lexer import Gap, Lexer, Token
-from grammar_nodes import Node, error
-from grammar_table import START, Row, Table
-from grammar_unique import unique
+from grammar.lexer import Lexer
+from grammar.nodes import Node, error
+from grammar.table import START, Row, Table
+from grammar.unique import unique
 
 MOST_DEEP, MOST_LOOKS, MOST_LEVELS = 64, 1024, 255
 LEAST_LEVELS = 2  # of a frame: the node of a token has at most two

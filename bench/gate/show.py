@@ -1,12 +1,12 @@
 #!/usr/bin/env python3
 """Runs the program behind ./show, and compares what it prints with what it must print.
 
-    bench/show.py [--program FILE]
+    bench/gate/show.py [--program FILE]
 
-`bench/shown.py` works out what the program must print, apart from it, from trees that no program here made:
+`bench/shown/trees.py` works out what the program must print, apart from it, from trees that no program here made:
 
 - each text of crates/typst_language_tests/data must give the tree next to it, with --plain and without, and turn into the
-  next text by an edit; bench/grammar_corpus.py names the few that are left out;
+  next text by an edit; bench/checks/grammar_corpus.py names the few that are left out;
 - each tree of crates/typst_run whose views were asked must give with --views the answers that are written there;
 - `examples/mistake.typ` and `examples/letter.typ` with their edits, a text, and the program's own run of a look with remarks must give
   what the small trees below and `examples/letter.tree` say, and the files with the wanted output must be the same;
@@ -29,13 +29,13 @@ import sys
 import tempfile
 from pathlib import Path
 
-import show_page
-import shown
-from grammar_corpus import DATA as PAIRS
-from grammar_corpus import OTHERS
+sys.path.insert(0, str(Path(__file__).resolve().parents[1]))
+from grammar.texts import DATA, OTHERS
+from shown import page as show_page
+from shown import trees
 
-TOP = Path(__file__).resolve().parent.parent
-TEXTS = sorted(it for it in PAIRS.glob("*.typ") if it.stem not in OTHERS)
+TOP = Path(__file__).resolve().parents[2]
+TEXTS = sorted(it for it in DATA.glob("*.typ") if it.stem not in OTHERS)
 PROVED = TOP / "crates/typst_show/out/typst_show"
 # Without these the program draws without colours.
 SETTINGS = {name: value for name, value in os.environ.items() if name not in ("CLICOLOR_FORCE", "NO_COLOR")}
@@ -339,7 +339,7 @@ class Named:
 
     def tree(self, *names):
         """The tree of the words of these files, one after the other."""
-        return shown.numbered(shown.tree_of(f'Markup\n  Text "{"".join(map(self.word, names))}"\n'))
+        return trees.numbered(trees.tree_of(f'Markup\n  Text "{"".join(map(self.word, names))}"\n'))
 
 
 def does_as_asked(program, words, form, file, edits, page):
@@ -356,11 +356,11 @@ def does_as_asked(program, words, form, file, edits, page):
         return [f"{words} end with {ran.returncode} and {ran.stderr!r}"]
     last = new or old
     if form == "plain":
-        wanted = f"Markup\n  Text {shown.beginning(last.children[0].characters())}\n"
+        wanted = f"Markup\n  Text {trees.beginning(last.children[0].characters())}\n"
     elif form == "tree":
-        wanted = shown.printed(old, file)
+        wanted = trees.printed(old, file)
         if edits:
-            wanted += shown.printed_edit(f'0..0 "{named.word(edits)}"', old, new, range(last.end), file)
+            wanted += trees.printed_edit(f'0..0 "{named.word(edits)}"', old, new, range(last.end), file)
     elif form == "page":
         wanted, printed = [it.text() for it in (old, new) if it], [step["text"] for step in show_page.Page(printed).steps]
     else:
@@ -422,23 +422,23 @@ def status_of(root):
 
 
 def tree_beside(text):
-    return shown.numbered(shown.tree_of(text.with_suffix(".tree").read_bytes().decode()))
+    return trees.numbered(trees.tree_of(text.with_suffix(".tree").read_bytes().decode()))
 
 
 def differing_pairs(program):
     """What differs between trees of texts, with --plain and without."""
     wrong = []
     for text in TEXTS:
-        plain = shown.without_remarks(text.with_suffix(".tree").read_bytes().decode()).encode()
-        drawing = shown.printed(tree_beside(text), text.name).encode()
-        piped = shown.printed(tree_beside(text), "-").encode()
+        plain = trees.without_remarks(text.with_suffix(".tree").read_bytes().decode()).encode()
+        drawing = trees.printed(tree_beside(text), text.name).encode()
+        piped = trees.printed(tree_beside(text), "-").encode()
         for words, given, wanted in (
             ([text.name, "--plain"], b"", plain),
             (["-", "--plain"], text.read_bytes(), plain),
             ([text.name], b"", drawing),
             (["-"], text.read_bytes(), piped),
         ):
-            ran = run(program, words, PAIRS, given)
+            ran = run(program, words, DATA, given)
             if (ran.stdout, ran.stderr, ran.returncode) != (wanted, b"", status_of(tree_beside(text))):
                 wrong.append(f"{text.name}: {' '.join(words)} gives another tree, or ends with {ran.returncode}: {ran.stderr!r}")
     return wrong
@@ -449,10 +449,10 @@ def differing_edits(program):
     wrong = []
     for text, other in zip(TEXTS, TEXTS[1:] + TEXTS[:1]):
         old, new = tree_beside(text), tree_beside(other)
-        edit = f"0..{old.end} {shown.beginning(new.characters())}"
-        wanted = shown.printed(old, text.name)
-        wanted += shown.printed_edit(edit, old, new, range(new.end), text.name)
-        ran = run(program, [text.name, "--edits", "-"], PAIRS, edit.encode())
+        edit = f"0..{old.end} {trees.beginning(new.characters())}"
+        wanted = trees.printed(old, text.name)
+        wanted += trees.printed_edit(edit, old, new, range(new.end), text.name)
+        ran = run(program, [text.name, "--edits", "-"], DATA, edit.encode())
         if (ran.stdout.decode(), ran.stderr, ran.returncode) != (wanted, b"", status_of(new)):
             wrong.append(f"{text.name}: the edit to {other.name} gives another output, or ends with {ran.returncode}: {ran.stderr!r}")
     return wrong
@@ -461,17 +461,17 @@ def differing_edits(program):
 def differing_views(program):
     """What differs between the trees of looks with the answers of their views, and how many trees there are."""
     wrong, count = [], 0
-    form_of, kind_of = shown.forms(), shown.kinds()
+    form_of, kind_of = trees.forms(), trees.kinds()
     with tempfile.TemporaryDirectory() as room:
-        for name, lines, answers in shown.looks():
-            root = shown.built(lines, kind_of)
-            wanted = shown.drawn(root, shown.answers_of(root, answers, form_of))
+        for name, lines, answers in trees.looks():
+            root = trees.built(lines, kind_of)
+            wanted = trees.drawn(root, trees.answers_of(root, answers, form_of))
             Path(room, "a.look").write_bytes("\n".join(lines).encode(errors="surrogateescape"))
             ran = run(program, ["a.look", "--views"], room)
             got = ran.stdout.decode().partition("\n\n")[0].rstrip("\n").split("\n")
             count += 1
             page = show_page.Page(run(program, ["a.look", "--page", "-"], room).stdout.decode())
-            told = page.wrong + show_page.differing_step(page.steps[0], 0, root, shown.answers_of(root, answers, form_of))
+            told = page.wrong + show_page.differing_step(page.steps[0], 0, root, trees.answers_of(root, answers, form_of))
             wrong += [f"look {name}: its page has {it}" for it in told]
             if got != wanted or ran.stderr or ran.returncode != status_of(root):
                 wrong.append(f"look {name}: --views gives {first_other(got, wanted)}, or ends with {ran.returncode}: {ran.stderr!r}")
@@ -489,17 +489,17 @@ def differing_pages(program):
     wrong = []
     for text, other in zip(TEXTS, TEXTS[1:] + TEXTS[:1]):
         old, new = tree_beside(text), tree_beside(other)
-        edit = f"0..{old.end} {shown.beginning(new.characters())}"
-        ran = run(program, [text.name, "--edits", "-", "--page", "-"], PAIRS, edit.encode())
+        edit = f"0..{old.end} {trees.beginning(new.characters())}"
+        ran = run(program, [text.name, "--edits", "-", "--page", "-"], DATA, edit.encode())
         page = show_page.Page(ran.stdout.decode())
         told = [*page.wrong, *([] if ran.returncode == status_of(new) else [f"status {ran.returncode}, {ran.stderr!r}"])]
-        change = shown.edited(old, new, range(len(old.children)), range(len(new.children)))
+        change = trees.edited(old, new, range(len(old.children)), range(len(new.children)))
         if len(page.steps) == 2:
             told += show_page.differing_step(page.steps[0], 0, old) + show_page.differing_step(page.steps[1], 1, new)
             told += show_page.differing_drawing(page.steps[1], change)
         else:
             told.append(f"{len(page.steps)} steps")
-        if page.title != shown.told_of(edit, new, range(new.end), change):
+        if page.title != trees.told_of(edit, new, range(new.end), change):
             told.append(f"the title {page.title!r}")
         wrong += [f"the page of {text.name} has {it}" for it in told]
     return wrong
@@ -508,12 +508,12 @@ def differing_pages(program):
 def typed():
     """Paragraphs that are inserted at one place, one by one, until a window is too narrow: each tree with the change of its edit."""
     paragraph = '  Text "a"\n  Parbreak "\\n\\n"\n'
-    tree, steps = shown.numbered(shown.tree_of("Markup\n" + 2 * paragraph)), []
+    tree, steps = trees.numbered(trees.tree_of("Markup\n" + 2 * paragraph)), []
     for count in range(TYPED):
-        new = shown.tree_of("Markup\n" + (3 + count) * paragraph)
+        new = trees.tree_of("Markup\n" + (3 + count) * paragraph)
         new.place()
         # The block before the place is parsed anew, up to the end of the inserted block.
-        steps.append((new, shown.edited(tree, new, range(2), range(4))))
+        steps.append((new, trees.edited(tree, new, range(2), range(4))))
         tree = new
     return steps
 
@@ -522,13 +522,13 @@ def differing_typing(program):
     """What differs if a window has no room, so that several are tried."""
     steps = typed()
     edit = '3..3 "a\\n\\n"'
-    titles = [shown.told_of(edit, new, range(6), change, at + 1) for at, (new, change) in enumerate(steps)]
+    titles = [trees.told_of(edit, new, range(6), change, at + 1) for at, (new, change) in enumerate(steps)]
     with tempfile.TemporaryDirectory() as room:
         fill(room, {"a.typ": "a\n\na\n\n", "e": f"{edit}\n" * TYPED})
         printed = run(program, ["a.typ", "--edits", "e"], room).stdout.decode()
         page = show_page.Page(run(program, ["a.typ", "--edits", "e", "--page", "-"], room).stdout.decode())
     told = [] if max(len(change.windows) for _, change in steps) > 1 else ["each first window has room"]
-    wanted = "".join(f"\n{title}\n\n{shown.printed(new, 'a.typ')}" for title, (new, _) in zip(titles, steps))
+    wanted = "".join(f"\n{title}\n\n{trees.printed(new, 'a.typ')}" for title, (new, _) in zip(titles, steps))
     if not printed.endswith(wanted) or len(page.steps) != TYPED + 1:
         told.append(f"{printed!r} with {len(page.steps)} steps, and should end with {wanted!r}")
     for at, (step, (new, change)) in enumerate(zip(page.steps[1:], steps)):
@@ -540,9 +540,9 @@ def differing_typing(program):
 def differing_paste(program):
     """What differs in the page of an edit that numbers more children than are drawn."""
     paragraph, count = '  Text "a"\n  Parbreak "\\n\\n"\n', 40
-    old, new = shown.numbered(shown.tree_of("Markup\n" + paragraph)), shown.tree_of("Markup\n" + count * paragraph)
+    old, new = trees.numbered(trees.tree_of("Markup\n" + paragraph)), trees.tree_of("Markup\n" + count * paragraph)
     new.place()
-    change = shown.edited(old, new, range(2), range(2 * count))
+    change = trees.edited(old, new, range(2), range(2 * count))
     with tempfile.TemporaryDirectory() as room:
         fill(room, {"a.typ": "a\n\n", "e": '0..3 "' + count * "a\\n\\n" + '"\n'})
         page = show_page.Page(run(program, ["a.typ", "--edits", "e", "--page", "-"], room).stdout.decode())
@@ -563,7 +563,7 @@ def large_pages(program):
     """Whether the page of a large text, which is written in pieces, is the same in a file and on standard output, and is that of a text
     with an edit, which is written at once, up to the edit. Whether it is as large as it may be, tells what it leaves out, and shows that
     where its lines are asked for."""
-    root = shown.numbered(shown.tree_of("Markup\n" + PARAGRAPH_TREE * PARAGRAPHS))
+    root = trees.numbered(trees.tree_of("Markup\n" + PARAGRAPH_TREE * PARAGRAPHS))
     with tempfile.TemporaryDirectory() as room:
         fill(room, {"a.typ": PARAGRAPH * PARAGRAPHS, "e": '2..7 "Leaves"\n'})
         pages = [run(program, ["a.typ", *edits, "--page", "-"], room).stdout for edits in ([], ["--edits", "e"])]
@@ -573,7 +573,7 @@ def large_pages(program):
         rest = show_page.Page(run(program, ["a.typ", "--page", "-", "--lines", f"{last - 7}-{last}"], room).stdout.decode())
     page, most = show_page.Page(pages[0].decode()), PAGE_BYTES * root.end + PAGE_MORE
     wrong = [f"a large page has {it}" for it in page.wrong + show_page.differing_step(page.steps[0], 0, root, has=part_of(root, page), file="a.typ")]
-    asked = shown.within(root, lines=(last - 7, last))
+    asked = trees.within(root, lines=(last - 7, last))
     wrong += [f"a page of its last lines has {it}" for it in show_page.differing_step(rest.steps[0], 0, root, has=asked)]
     if not most / 4 < len(pages[0]) <= most or len(pages[1]) > 2 * most:
         wrong.append(f"large pages have {[len(it) for it in pages]} bytes, and may have {most} for each text")
@@ -590,13 +590,13 @@ def differing_lines(program):
     for end in ENDS_OF_LINES:
         text = f"a{end}ä `raw{end}more{end}"
         kinds = [("Text", "a"), ("Space", end), ("Text", "ä"), ("Space", " "), ("Error", f"`raw{end}more{end}")]
-        leaves = [shown.Node(kind, shown.quoted_of(own), message="unclosed raw text" if kind == "Error" else None) for kind, own in kinds]
-        root = shown.numbered(shown.Node("Markup", children=leaves))
+        leaves = [trees.Node(kind, trees.quoted_of(own), message="unclosed raw text" if kind == "Error" else None) for kind, own in kinds]
+        root = trees.numbered(trees.Node("Markup", children=leaves))
         with tempfile.TemporaryDirectory() as room:
             fill(room, {"a.typ": text})
             got = run(program, ["a.typ"], room).stdout.decode()
             page = show_page.Page(run(program, ["a.typ", "--page", "-"], room).stdout.decode())
-        wrong += [] if got == shown.printed(root, "a.typ") else [f"{text!r} gives {got!r}, and should give {shown.printed(root, 'a.typ')!r}"]
+        wrong += [] if got == trees.printed(root, "a.typ") else [f"{text!r} gives {got!r}, and should give {trees.printed(root, 'a.typ')!r}"]
         wrong += [f"the page of {text!r} has {it}" for it in page.wrong + show_page.differing_step(page.steps[0], 0, root)]
     return wrong
 
@@ -620,19 +620,19 @@ def differing_parts(program):
     for text in TEXTS:
         root = tree_beside(text)
         whole = root.text()
-        parts = [shown.within(root, depth=1), shown.within(root, lines=(2, 3)), shown.within(root, depth=2, lines=(1, 1)), shown.within(root)]
-        trees = [shown.drawn(root, has=has, text=whole if at == 3 else None) for at, has in enumerate(parts)]
-        below = "".join(line + "\n" for line in shown.reports(root, text.name))
-        of_kind = "".join(shown.row(node, whole) + "\n" for _, node in root.preorder() if node.kind == "Text")
+        parts = [trees.within(root, depth=1), trees.within(root, lines=(2, 3)), trees.within(root, depth=2, lines=(1, 1)), trees.within(root)]
+        drawings = [trees.drawn(root, has=has, text=whole if at == 3 else None) for at, has in enumerate(parts)]
+        below = "".join(line + "\n" for line in trees.reports(root, text.name))
+        of_kind = "".join(trees.row(node, whole) + "\n" for _, node in root.preorder() if node.kind == "Text")
         calls = [["--depth", "1"], ["--lines", "2-3"], ["--depth", "2", "--lines", "1"], ["--places"]]
-        wanted = ["\n".join(tree) + "\n" + below for tree in trees]
+        wanted = ["\n".join(tree) + "\n" + below for tree in drawings]
         for words, printed in [*zip(calls, wanted), (["--kind", "text"], of_kind)]:
-            ran = run(program, [text.name, *words], PAIRS)
+            ran = run(program, [text.name, *words], DATA)
             if (ran.stdout.decode(), ran.stderr, ran.returncode) != (printed, b"", status_of(root)):
                 wrong.append(f"{text.name} {words}: {first_other(ran.stdout.decode().split(NEW_LINE), printed.split(NEW_LINE))}, status {ran.returncode}")
-        plain, bright = shown.printed(root, text.name), shown.coloured(shown.printed(root, text.name))
+        plain, bright = trees.printed(root, text.name), trees.coloured(trees.printed(root, text.name))
         for settings, printed in COLOURS:
-            got = run(program, [text.name], PAIRS, **settings).stdout.decode()
+            got = run(program, [text.name], DATA, **settings).stdout.decode()
             wrong += [] if got == (bright if printed else plain) else [f"{text.name} {settings}: {first_other(got.split(NEW_LINE), bright.split(NEW_LINE))}"]
     return wrong
 
@@ -765,27 +765,27 @@ def letter():
     text, plain = (TOP / file).read_text(), (TOP / "examples/letter.tree").read_text()
     lines, number = plain.splitlines(keepends=True), text[: text.index(place)].count("\n") + 1
     at = next(index for index, it in enumerate(lines) if place[2:] in it) - 4
-    old, new = shown.numbered(shown.tree_of(plain)), shown.tree_of("".join([*lines[:at], inserted, *lines[at:]]))
+    old, new = trees.numbered(trees.tree_of(plain)), trees.tree_of("".join([*lines[:at], inserted, *lines[at:]]))
     new.place()
     parsed = range(text.index(LETTER_BLOCK), text.index(LETTER_NEXT) + len(line))
-    edit = f"{number}:1..{number}:1 {shown.beginning(shown.quoted_of(line))}"
-    return plain, shown.printed(old, file) + shown.printed_edit(edit, old, new, parsed, file)
+    edit = f"{number}:1..{number}:1 {trees.beginning(trees.quoted_of(line))}"
+    return plain, trees.printed(old, file) + trees.printed_edit(edit, old, new, parsed, file)
 
 
 def mistake_of(edit):
     """What the example with a mistake prints if its edit is written like this."""
-    old, new = shown.numbered(shown.tree_of(MISTAKE)), shown.numbered(shown.tree_of(CLOSED))
-    first = shown.printed(old, "examples/mistake.typ")
-    return first + shown.printed_edit(edit, old, new, PARSED, "examples/mistake.typ")
+    old, new = trees.numbered(trees.tree_of(MISTAKE)), trees.numbered(trees.tree_of(CLOSED))
+    first = trees.printed(old, "examples/mistake.typ")
+    return first + trees.printed_edit(edit, old, new, PARSED, "examples/mistake.typ")
 
 
 def examples(program):
     """What differs in the example, in the example with its edit written in bytes, in remarks, and in the program's own run."""
     by_column, in_bytes = mistake_of('3:15..3:15 "*"'), mistake_of('23..23 "*"')
-    own = shown.printed(shown.numbered(shown.tree_of(OWN)), "a.typ")
-    headed = shown.numbered(shown.tree_of(HEADED))
-    answered = "\n".join(shown.drawn(headed, shown.answers_of(headed, HEADED_ANSWERS, shown.forms()))) + "\n"
-    remarked = "\n".join(shown.drawn(shown.numbered(shown.built(REMARKS.split("\n"), shown.kinds())))) + "\n" + REMARKED
+    own = trees.printed(trees.numbered(trees.tree_of(OWN)), "a.typ")
+    headed = trees.numbered(trees.tree_of(HEADED))
+    answered = "\n".join(trees.drawn(headed, trees.answers_of(headed, HEADED_ANSWERS, trees.forms()))) + "\n"
+    remarked = "\n".join(trees.drawn(trees.numbered(trees.built(REMARKS.split("\n"), trees.kinds())))) + "\n" + REMARKED
     with tempfile.TemporaryDirectory() as room:
         fill(room, {"a.look": REMARKS})
         look = run(program, ["a.look"], room).stdout.decode()

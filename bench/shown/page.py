@@ -1,8 +1,8 @@
-"""Reads a page of ./show as a browser does, and compares it with what bench/shown.py works out."""
+"""Reads a page of ./show as a browser does, and compares it with what bench/shown/trees.py works out."""
 import re
 from html.parser import HTMLParser
 
-import shown
+from shown import trees
 
 # How many characters of a node's text are shown next to it, how many children are drawn beside a window, and how many in all.
 NODE_CHARS, BESIDE, MOST = 48, 2, 60
@@ -145,18 +145,18 @@ def lines_of(root, has, file=None, answers=None):
 
     def add(node, path, parent):
         if path is None:
-            first, last = (shown.place_of(text, it.start)[0] for it in (node.nodes[0], [*node.nodes[-1].preorder()][-1][1]))
+            first, last = (trees.place_of(text, it.start)[0] for it in (node.nodes[0], [*node.nodes[-1].preorder()][-1][1]))
             found.append(("cut", parent, signed(node.told()) + (f"; to see them: ./show {file} --lines {first}-{last}" if file else "")))
             return
         line = len(found)
         form = "i" if node.children is not None else "bad" if node.kind == "Error" else "t" if node.kind in TRIVIA else "l"
-        place = "{}:{}".format(*shown.place_of(text, node.start))
+        place = "{}:{}".format(*trees.place_of(text, node.start))
         mark = " " * bool(node.mark) + node.mark
-        seen = f"{node.kind} {node.start}..{node.end} {place} #{node.number}{mark}  {shown.beginning(node.characters(), NODE_CHARS)}"
+        seen = f"{node.kind} {node.start}..{node.end} {place} #{node.number}{mark}  {trees.beginning(node.characters(), NODE_CHARS)}"
         bound = f", bound {node.upper}" if node.children is not None else ""
         told = [f"at {'.'.join(map(str, path)) or '-'}{bound}", *(map(signed, answers.get(path, [])) if answers is not None else [])]
         found.append((form, [node.mark] * bool(node.mark), parent, seen, told))
-        for below, child in shown.shown_children(node, path, has):
+        for below, child in trees.shown_children(node, path, has):
             add(child, below, line)
 
     add(root, (), None)
@@ -186,7 +186,7 @@ def differing_leaves(step, root, has):
             wanted.append((signed("".join(it.text() for it in node.nodes)), ["cut"]))
         elif node.children is None:
             wanted.append((signed(node.text()), ["bad"] * (node.kind == "Error")))
-        for below, child in shown.shown_children(node, path, has) if path is not None else []:
+        for below, child in trees.shown_children(node, path, has) if path is not None else []:
             add(child, below)
 
     add(root, ())
@@ -197,8 +197,8 @@ def differing_leaves(step, root, has):
 def reported(root):
     """The errors and warnings that a page tells: what is said with the hints, and the index of the node."""
     text, rows = root.text(), {id(node): at for at, (_, node) in enumerate(root.preorder())}
-    for node, severity, message in shown.reported(root):
-        place = shown.pointed(text, "", node.start, node.end)[0].partition("--> :")[2]
+    for node, severity, message in trees.reported(root):
+        place = trees.pointed(text, "", node.start, node.end)[0].partition("--> :")[2]
         yield signed(f"{severity} {place} {message}" + "".join(f"hint: {it}" for it in node.hints)), rows[id(node)]
 
 
@@ -268,7 +268,7 @@ def differing_step(step, number, root, answers=None, has=lambda node, path: True
     wrong += differing_leaves(step, root, has)
     if step["text"] != signed(root.text()):
         wrong.append(f"the text {step['text']!r}, and should have {signed(root.text())!r}")
-    begun = [0, *shown.line_ends(root.text())]
+    begun = [0, *trees.line_ends(root.text())]
     if step["numbered"] != sum(it < root.end for it in begun):
         wrong.append(f"{step['numbered']} numbers of lines")
     return wrong + (differing_reports(step, root, number) if answers is None else [])

@@ -1,7 +1,7 @@
 #!/usr/bin/env python3
 """Refuses each request for memory of ./show in turn, and compares what it prints with what it prints otherwise.
 
-    bench/refused.py [--program FILE]
+    bench/gate/refused.py [--program FILE]
 
 A run in which one request was refused must end as the run with all memory does, where the program can do without the
 memory. Otherwise it must end with status 3, with a beginning of all on standard output and `out of memory` on standard
@@ -17,7 +17,7 @@ import sys
 import tempfile
 from pathlib import Path
 
-TOP = Path(__file__).resolve().parent.parent
+TOP = Path(__file__).resolve().parents[2]
 PROVED = TOP / "crates/typst_show/out/typst_show"
 MALLOC = r"""
 #include <errno.h>

@@ -1,4 +1,4 @@
-"""The table of the syntax, as bench/grammar_corpus.py and bench/grammar_crate.py read it. Its head says how it is written.
+"""The table of the syntax, as bench/checks/grammar_corpus.py and bench/grammar_crate.py read it. Its head says how it is written.
 
 What follows an opened frame in a row is done by a state of its own, so that a row takes a token at most once and opens at most one
 frame.
@@ -8,7 +8,8 @@ import sys
 from dataclasses import dataclass, field
 from pathlib import Path
 
-TOP = Path(__file__).resolve().parent.parent
+TOP = Path(__file__).resolve().parents[2]
+TABLE = TOP / "crates/grammar.table"
 START = "document"  # the state of the outermost frame
 MODES = ("markup", "code", "math", "operator", "argument")
 LINE_FEEDS = ("go", "stop", "context", "par", "column")

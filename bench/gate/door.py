@@ -1,10 +1,10 @@
 #!/usr/bin/env python3
 """Builds the static library, runs the programs of bindings/ with it, and compares the declarations of its functions.
 
-    bench/door.py [--calls N]
-    bench/door.py --beside LOG     builds on the libraries that the run of `rt ci` with this log proves; the gate runs this
-    bench/door.py --declared       only compares the declarations, in a second
-    bench/door.py --speed          times calls from C, next to the same work in Rattle where bench/speed.py has a row for it
+    bench/gate/door.py [--calls N]
+    bench/gate/door.py --beside LOG     builds on the libraries that the run of `rt ci` with this log proves; the gate runs this
+    bench/gate/door.py --declared       only compares the declarations, in a second
+    bench/gate/door.py --speed          times calls from C, next to the same work in Rattle where bench/speed.py has a row for it
 
 1. The kinds of the header and of the Rust crate must be those that bench/kinds.py writes, and the accessors those of
    bench/accessors.py.
@@ -37,11 +37,12 @@ import sys
 import tempfile
 from pathlib import Path
 
+sys.path.insert(0, str(Path(__file__).resolve().parents[1]))
 import growth
 import speed
 from bodies import Proved, Room, below, needs_of
 
-TOP = Path(__file__).resolve().parent.parent
+TOP = Path(__file__).resolve().parents[2]
 EXPORTS = TOP / "crates/typst_c"
 ARCHIVE = "out/libtypst_c.a"
 C, RUST = TOP / "bindings/c", TOP / "bindings/rust"

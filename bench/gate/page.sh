@@ -1,16 +1,16 @@
 #!/usr/bin/env bash
 # Opens pages of ./show in a headless Chromium, takes a picture of each, compares what the browser sees, and uses one.
 #
-#     bench/page.sh [FOLDER]      with the pages and pictures in FOLDER (nothing: a new one below /tmp); docs/page.png is letter.png
+#     bench/gate/page.sh [FOLDER]      with the pages and pictures in FOLDER (nothing: a new one below /tmp); docs/page.png is letter.png
 #
 # The pages are of a text with an error and an edit, of an empty text, and of a text with characters that markup needs.
-# The browser must see the text, and the nodes, answers, reports and numbers that bench/show_page.py reads in the page.
-# bench/show.py compares those with what bench/shown.py works out. bench/page.js then folds, searches, follows links, pins
+# The browser must see the text, and the nodes, answers, reports and numbers that bench/shown/page.py reads in the page.
+# bench/gate/show.py compares those with what bench/shown/trees.py works out. bench/gate/page.js then folds, searches, follows links, pins
 # and walks, in windows of 420 and of 1,600 points and in both modes; and a page is printed. The script runs the proved
 # build, or PROGRAM. Where there is no Chromium (Debian's `chromium`), it says so and compares nothing.
 set -euo pipefail
 
-top=$(cd "$(dirname "${BASH_SOURCE[0]}")/.." && pwd)
+top=$(cd "$(dirname "${BASH_SOURCE[0]}")/../.." && pwd)
 program=${PROGRAM:-$top/crates/typst_show/out/typst_show}
 browser=$(command -v chromium || command -v chromium-browser || true)
 if [[ -z $browser ]]; then
@@ -46,7 +46,7 @@ compare() {
 import sys
 from pathlib import Path
 
-from show_page import Page
+from shown.page import Page
 
 name, seen = sys.argv[1:]
 written, read = Page(Path(f"{name}.html").read_text()), Page(Path(seen).read_text())
@@ -66,7 +66,7 @@ with_script() {
 }
 
 # Uses the page of the mistake in a frame of this width, since a window can't be narrow, in the mode with a number and a name. The
-# page must end with the title that bench/page.js gives it where nothing fails.
+# page must end with the title that bench/gate/page.js gives it where nothing fails.
 use_page() {
   local title
   {
@@ -99,7 +99,7 @@ for name in mistake empty marks; do
   open_page "$name" --dump-dom >"$name.seen"
   compare "$name" "$name.seen" || failed=1
 done
-with_script mistake mistake.used <"$top/bench/page.js"
+with_script mistake mistake.used <"$top/bench/gate/page.js"
 for width in 420 1600; do
   use_page "$width" 1 light
   use_page "$width" 0 dark

@@ -1,8 +1,8 @@
 #!/usr/bin/env python3
 """Refuses each request for memory of each call in turn, and compares how calls end with the table of docs/internal/REFUSED.md.
 
-    bench/hostile.py             compares, and fails if anything differs
-    bench/hostile.py --found     prints the rows as they are found, with no comparison
+    bench/gate/hostile.py             compares, and fails if anything differs
+    bench/gate/hostile.py --found     prints the rows as they are found, with no comparison
 
 The program typst_hostile builds what a call needs, makes K requests of its own, and then makes the call.
 `rt try --fail-alloc N` refuses the Nth request of a run.
@@ -23,7 +23,7 @@ import tempfile
 from collections import Counter
 from pathlib import Path
 
-TOP = Path(__file__).resolve().parent.parent
+TOP = Path(__file__).resolve().parents[2]
 CRATE = TOP / "crates/typst_hostile"
 TABLE = TOP / "docs/internal/REFUSED.md"
 # Which request of a run is refused: one after all that any call needs and makes. A drawing asks for memory with each of its words.

@@ -1,7 +1,7 @@
 #!/usr/bin/env python3
 """Says whether each clause, test, wrong body, function and file that the documents name exists.
 
-    bench/names.py
+    bench/checks/names.py
 
 In docs/PROVED.md and docs/internal/CLAUSES.md a name in code is a function (`name`, `Type::name`), a type, a variant, a
 definition, a file or a test. In parentheses, a name in small letters is a clause of a function that the same paragraph
@@ -24,9 +24,10 @@ import sys
 from functools import cache
 from pathlib import Path
 
-from bodies_sources import blanked, edit_files, edits_of, functions, is_in_every_turn
+sys.path.insert(0, str(Path(__file__).resolve().parents[1]))
+from judge.sources import blanked, edit_files, edits_of, functions, is_in_every_turn
 
-TOP = Path(__file__).resolve().parent.parent
+TOP = Path(__file__).resolve().parents[2]
 PROVED = ("docs/PROVED.md", "docs/internal/CLAUSES.md")
 CRATES = sorted(it.parent.name for it in (TOP / "crates").glob("*/src"))
 TESTS = {

@@ -1,14 +1,17 @@
-#!/usr/bin/env python3
-"""Texts by chance, with their trees by the plain machine of bench/grammar_machine.py.
-
-    bench/grammar_texts.py FOLDER COUNT [SEED]     writes COUNT valid texts and COUNT soups, each as NAME.typ with NAME.tree
+"""The texts that have trees beside them, and texts by chance.
 
 A valid text is made along the grammar, and has no error. A soup is pieces in any order.
 """
-import random
-import sys
-from pathlib import Path
+from grammar.table import TOP
 
+DATA = TOP / "crates/typst_language_tests/data"
+# Texts with errors whose trees may be others, with the reason.
+OTHERS = {
+    "bad_dicts": "a colon that comes first makes a dictionary of `(: 1)`, and not a parenthesis",
+    "bad_import": "what follows an item of an import is the next item, with the comma that is missing before it",
+    "bad_math_args": "a name without a value has no node for the blanks behind its colon",
+    "bad_set_show": "the colon that a show rule lacks is told behind its selector, not before it",
+}
 WORDS = "a word Übung x1 3.5 été 日本 don't a-b h see:this 1-2 e.g. naïve".split()
 NAMES = "a b x f value foo-bar _y größe".split()
 MATH_NAMES = "pi alpha arrow.r sqrt vec mat lim".split()
@@ -235,24 +238,3 @@ class Maker:
             lambda: self.chance.choice(["&", "\\ ", "->", "<=>", "...", "\\#", "(, ;)", "|x|", "a'", "f'(x)", "x_a_b", "a/b/c", "/* c */"]),
             lambda: f"f(..{inner()})",
         )
-
-
-def main():
-    from grammar_machine import Rows, parse
-    from grammar_nodes import Node, lines_of
-    from grammar_table import TOP, Table
-
-    sys.setrecursionlimit(10_000)
-    folder, count, seed = Path(sys.argv[1]), int(sys.argv[2]), int((sys.argv[3:] or [0])[0])
-    folder.mkdir(parents=True, exist_ok=True)
-    rows = Rows(Table(TOP / "crates/grammar.table"))
-    for number in range(seed, seed + count):
-        for name, make in (("valid", valid_text), ("soup", soup)):
-            text = make(random.Random(number))
-            tree = Node("Markup", children=tuple(parse(rows, text).nodes))
-            (folder / f"{name}-{number}.typ").write_bytes(text.encode())
-            (folder / f"{name}-{number}.tree").write_bytes(("\n".join(lines_of(tree)) + "\n").encode())
-
-
-if __name__ == "__main__":
-    main()

@@ -7,7 +7,7 @@ import re
 from collections import Counter
 from os.path import commonprefix
 
-from bodies_sources import Hunk, blanked, placed
+from judge.sources import Hunk, blanked, placed
 
 CONTROL = re.compile(r"\b(?:if|match|while|for|loop|return|break|continue)\b|\?(?!\w)|&&|\|\|")
 CONDITION = re.compile(r"\b(?:if|while)\b(?!\s+let\b)([^{}]*)\{")
