@@ -58,7 +58,6 @@ import os
 import re
 import resource
 import shutil
-import subprocess
 import sys
 import tempfile
 import threading
@@ -69,6 +68,7 @@ from concurrent.futures import ThreadPoolExecutor
 from contextlib import nullcontext
 from pathlib import Path
 
+from common import TOP, crates, ran
 from judge.forms import change_of_form, right_bodies
 from judge.public import without_body
 from judge.sources import (
@@ -88,7 +88,6 @@ from judge.sources import (
 )
 from dearest import seconds_of, table
 
-TOP = Path(__file__).resolve().parent.parent
 SAID = re.compile(r"fn (\S+): (.*)")
 ERRORS = re.compile(r"^\./proofs/(\S+?\.antt):\d+:\d+: error: (.*)", re.M)
 STOPPED = re.compile(r"^(src/\S+?):(\d+):(\d+): error\[", re.M)  # an error before the prover is reached
@@ -118,15 +117,9 @@ judged = unnamed
 """
 
 
-def lines_of(top):
-    """What each crate of crates.txt is, as `typst_c staticlib`, and what it uses."""
-    lines = [line.partition("#")[0].partition(":") for line in (top / "crates.txt").read_text().split("\n")]
-    return {name.split()[0]: (name.strip(), uses.split()) for name, _, uses in lines if name.strip()}
-
-
 def needs_of(top):
     """What each crate of crates.txt uses."""
-    return {name: uses for name, (_, uses) in lines_of(top).items()}
+    return {name: uses for name, (_, uses) in crates(top).items()}
 
 
 def below(name, needs):
@@ -162,7 +155,7 @@ class Room:
             shutil.copytree(top / "crates" / it, Path(place) / "crates" / it, ignore=leaves_out)
             if proved:
                 shutil.copytree(proved.place / it, Path(place) / "crates" / it / "out/rlib")
-        listed = [f"{what}: {' '.join(uses)}\n" for it, (what, uses) in lines_of(top).items() if it in kept | {name}]
+        listed = [f"{what}: {' '.join(uses)}\n" for it, (what, uses) in crates(top).items() if it in kept | {name}]
         (Path(place) / "crates.txt").write_text("".join(listed))
         shutil.copy(top / "HANDLES", place)
         if proved:
@@ -234,10 +227,10 @@ class Room:
         words = ["nice", "-n", str(self.nice), "rt", "check", "--jobs", str(jobs)]
         words += [word for it in only for word in ("--only", it)]
         began = time.time()
-        ran = subprocess.run(words, cwd=self.crate, capture_output=True, text=True)
+        done = ran(words, cwd=self.crate, text=True)
         for sums, new in zip(self.times, seconds_of(self.crate / "out/incremental", began)):
             sums.update(new)
-        self.text = ran.stdout + ran.stderr
+        self.text = done.stdout + done.stderr
         reached = REACHED.search(self.text)
         errors = [(file, text) for file, text in ERRORS.findall(self.text) if not text.startswith("`judged`")]
         return (said_in(self.text), errors) if reached else ({}, [])
@@ -257,8 +250,8 @@ def turn_of_commit(top=TOP):
     """The turn of the commit that is checked out, and how it was found. Where there is no commit, there is no turn."""
 
     def told(*words):
-        ran = subprocess.run(["git", *words], cwd=top, capture_output=True, text=True, check=False)
-        return "" if ran.returncode else ran.stdout.strip()
+        done = ran(["git", *words], cwd=top, text=True)
+        return "" if done.returncode else done.stdout.strip()
 
     commit = told("rev-parse", "HEAD")
     if not commit:

@@ -19,24 +19,22 @@ With --parsed the texts are those of bench/grammar/texts.py: valid ones, and pie
 """
 import random
 import re
-import subprocess
 import sys
 from functools import cache
 from pathlib import Path
 
 import grammar.nodes
 import grammar.table
+from common import TOP, ended, proved, ran, write
 from grammar.machine import Rows, parse
 from grammar.texts import DATA, soup, valid_text
 from kinds import TABLE, Table
 from shown.trees import beginning, quoted_of, tree_of
 
-TOP = Path(__file__).resolve().parent.parent
 CLASSES = ("pattern", "arg", "array_item", "dict_item", "param", "destructuring_item", "import_item")
 LINES, PAGE = TOP / "crates/children.txt", TOP / "docs/CHILDREN.md"
 COMMENTS = ("LineComment", "BlockComment", "Shebang")
 WHITE = (*COMMENTS, "Space", "Parbreak")
-PROVED = TOP / "crates/typst_show/out/typst_show"
 # How many texts of each sort are made.
 TEXTS = 5_000
 # A row of a tree that ./show draws, and an error below it.
@@ -313,12 +311,12 @@ def drawn(program, texts):
     for text in texts:
         edits += f"0..{before} {beginning(quoted_of(text))}\n"
         before = len(text.encode())
-    ran = subprocess.run([program, "/dev/null", "--edits", "-"], input=edits.encode(), capture_output=True, check=False)
-    if ran.returncode > 1:
-        sys.exit(f"{program} ends with status {ran.returncode}: {ran.stderr.decode()}")
+    done = ran([program, "/dev/null", "--edits", "-"], input=edits.encode())
+    if done.returncode > 1:
+        sys.exit(f"{program} ends with status {done.returncode}: {done.stderr.decode()}")
     trees, above = [], []
     # A text in quotes has no line end of its own.
-    for line in ran.stdout.decode().split("\n"):
+    for line in done.stdout.decode().split("\n"):
         if row := ROW.match(line):
             node, depth = Drawn(row[2], int(row[3]), int(row[4])), len(row[1]) // 3
             if depth == 0:
@@ -382,21 +380,14 @@ def parsed_faults(program):
 
 
 def main():
-    made, wrong = page(), []
     if sys.argv[1:2] == ["--parsed"]:
         sys.setrecursionlimit(10_000)
-        wrong = list(parsed_faults(Path((sys.argv[2:] or [PROVED])[0]).resolve()))
-        print("\n".join(wrong[:40]) or f"the nodes of {2 * TEXTS:,} texts by chance have the children that views ask for")
-        return 1 if wrong else 0
-    if "--check" in sys.argv[1:]:
-        wrong = list(faults())
-        if not PAGE.is_file() or PAGE.read_text() != made:
-            wrong.append(f"{PAGE.relative_to(TOP)} isn't what bench/children.py writes: run it")
-    elif not PAGE.is_file() or PAGE.read_text() != made:
-        PAGE.write_text(made)
-        print(f"{PAGE.relative_to(TOP)} written from {LINES.relative_to(TOP)}")
-    print("\n".join(f"children: {it}" for it in wrong) or f"the children of {sum(map(len, lines().values()))} kinds are those of the trees and views")
-    return 1 if wrong else 0
+        wrong = list(parsed_faults(Path(sys.argv[2]).resolve() if sys.argv[2:] else proved("typst_show")))
+        return ended(wrong[:40], f"{2 * TEXTS:,} texts by chance, {len(wrong)} faults in their trees and in the children that views ask for")
+    check = "--check" in sys.argv[1:]
+    write([(PAGE, page())], LINES.relative_to(TOP), check)
+    wrong = [f"children: {it}" for it in faults()] if check else []
+    return ended(wrong, f"the children of {sum(map(len, lines().values()))} kinds, {len(wrong)} faults in their lines and their page")
 
 
 if __name__ == "__main__":

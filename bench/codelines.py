@@ -10,9 +10,9 @@ A line of code isn't empty, isn't a comment, and belongs to no clause and no gho
 import argparse
 import re
 import sys
-from pathlib import Path
 
-TOP = Path(__file__).resolve().parent.parent
+from common import TOP
+
 SIX = "typst_base typst_node typst_linked typst_atoms typst_ast typst_tree".split()
 FOR_PROOF = re.compile(r"(?:requires|ensures|ghost|invariant|decreases)\b")
 STRING = re.compile(r'"(?:[^"\\]|\\.)*"')

@@ -6,7 +6,8 @@
 """
 import sys
 
-from grammar.table import TABLE, TOP, Table
+from common import TOP, write
+from grammar.table import TABLE, Table
 
 PAGE = TOP / "docs/SYNTAX.md"
 TEMPLATE = TOP / "bench/grammar/SYNTAX.md.txt"
@@ -103,11 +104,7 @@ def page(table):
 
 
 def main():
-    text = page(Table(TABLE))
-    is_same = PAGE.is_file() and PAGE.read_text() == text
-    if "--check" in sys.argv[1:] and not is_same:
-        sys.exit(f"{PAGE.relative_to(TOP)} differs: run bench/grammar_page.py")
-    PAGE.write_text(text)
+    write([(PAGE, page(Table(TABLE)))], TABLE.relative_to(TOP), "--check" in sys.argv[1:])
     print(f"{PAGE.relative_to(TOP)} is that of {TABLE.relative_to(TOP)}")
 
 

@@ -13,11 +13,10 @@ import re
 import sys
 import textwrap
 from dataclasses import dataclass
-from pathlib import Path
 
 import bindings
+from common import TOP, write
 
-TOP = Path(__file__).resolve().parent.parent
 TABLE = "crates/kinds.txt"
 TEMPLATES = TOP / "bench/templates"
 WRITTEN = f"Written by bench/kinds.py from {TABLE}: change that and run it."
@@ -260,19 +259,9 @@ def main():
     parser.add_argument("--check", action="store_true", help="tell which differ, and change nothing")
     check = parser.parse_args().check
     table = Table((TOP / TABLE).read_text())
-    count = differing = 0
-    for path, text in files(table):
-        count += 1
-        if path.is_file() and path.read_text() == text:
-            continue
-        differing += 1
-        if not check:
-            path.parent.mkdir(parents=True, exist_ok=True)
-            path.write_text(text)
-        print(f"{path.relative_to(TOP)} {'differs from' if check else 'written from'} {TABLE} and its template")
-    if check and differing:
-        sys.exit(f"{differing} of {count} files differ: change {TABLE} or a template, and run bench/kinds.py")
-    print(f"the {count} tables of {len(table.kinds)} kinds are those of {TABLE}")
+    made = list(files(table))
+    write(made, f"{TABLE} or its template", check)
+    print(f"the {len(made)} tables of {len(table.kinds)} kinds are those of {TABLE}")
 
 
 if __name__ == "__main__":

@@ -14,10 +14,11 @@ import sys
 from pathlib import Path
 
 sys.path.insert(0, str(Path(__file__).resolve().parents[1]))
+from common import TOP
 from grammar.checks import faults
 from grammar.machine import Machine, Refused, Rows, parse
 from grammar.nodes import Node, lines_of
-from grammar.table import TABLE, TOP, Table
+from grammar.table import TABLE, Table
 from grammar.texts import DATA, OTHERS, soup, valid_text
 
 # What work has to be linear in: a beginning, what comes behind it again and again, and how often.

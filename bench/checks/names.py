@@ -25,9 +25,9 @@ from functools import cache
 from pathlib import Path
 
 sys.path.insert(0, str(Path(__file__).resolve().parents[1]))
+from common import TOP
 from judge.sources import blanked, edit_files, edits_of, functions, is_in_every_turn
 
-TOP = Path(__file__).resolve().parents[2]
 PROVED = ("docs/PROVED.md", "docs/internal/CLAUSES.md")
 CRATES = sorted(it.parent.name for it in (TOP / "crates").glob("*/src"))
 TESTS = {

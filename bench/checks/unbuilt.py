@@ -17,7 +17,7 @@ import time
 from pathlib import Path
 
 TOP = Path(__file__).resolve().parents[2]
-SCRIPTS = ["show", "run", "look", "bench/start", "bench/unproved.py", "crates.txt", "README.md"]
+SCRIPTS = ["show", "run", "look", "bench/start", "bench/unproved.py", "bench/common.py", "crates.txt", "README.md"]
 BUILT, KEPT, PROVED = "build: {0} without a proof, which is kept; this takes a minute or two\n", "run: a build without a proof (for the proved one: rt run, in crates/{0})\n", "run: the proved build\n"
 NO_RT = "there is no command rt: install the Rattle kit that README.md names, and put the folder of rt into PATH\n"
 # The kit. `rt try` would run for a minute once it has made the module, so it must be ended.

@@ -32,7 +32,6 @@ import argparse
 import os
 import re
 import shutil
-import subprocess
 import sys
 import tempfile
 from pathlib import Path
@@ -41,8 +40,8 @@ sys.path.insert(0, str(Path(__file__).resolve().parents[1]))
 import growth
 import speed
 from bodies import Proved, Room, below, needs_of
+from common import TOP, ran
 
-TOP = Path(__file__).resolve().parents[2]
 EXPORTS = TOP / "crates/typst_c"
 ARCHIVE = "out/libtypst_c.a"
 C, RUST = TOP / "bindings/c", TOP / "bindings/rust"
@@ -247,21 +246,21 @@ def compare_declarations():
 
 
 def compare_archive(archive, wanted):
-    said = subprocess.run(["nm", "-g", "--defined-only", archive], capture_output=True, text=True, check=True).stdout
+    said = run(["nm", "-g", "--defined-only", archive])
     there = set(re.findall(r" T (typst_\w+)$", said, re.M))
     if there != set(wanted):
         raise Differs(f"the archive lacks these, or has them although they are no exports: {sorted(there ^ set(wanted))}")
-    all_symbols = subprocess.run(["nm", archive], capture_output=True, text=True, check=True).stdout
-    variables = re.findall(r" [BbCDdGgSs] (\S+)$", all_symbols, re.M)
+    variables = re.findall(r" [BbCDdGgSs] (\S+)$", run(["nm", archive]), re.M)
     if variables:
         raise Differs(f"the archive has variables, which two threads would share: {variables}")
 
 
 def run(command, **more):
-    ran = subprocess.run([str(one) for one in command], capture_output=True, text=True, check=False, **more)
-    if ran.returncode:
-        raise Differs(f"{' '.join(map(str, command))} ends with {ran.returncode}:\n{ran.stdout[-3000:]}{ran.stderr[-6000:]}")
-    return ran.stdout
+    """What a command prints, which must end with the status 0."""
+    done = ran(command, text=True, **more)
+    if done.returncode:
+        raise Differs(f"{' '.join(map(str, command))} ends with {done.returncode}:\n{done.stdout[-3000:]}{done.stderr[-6000:]}")
+    return done.stdout
 
 
 def crate_over_proved(log, place):
@@ -309,7 +308,7 @@ def check_discards(folder):
     for file, line, is_taken in [("looks.c", "return (int)typst_new(&session);", True), ("discards.c", "typst_new(&session);", False)]:
         program = folder / file
         program.write_text(f'#include "typst.h"\nint main(void)\n{{\n    typst_session session = TYPST_SESSION_INIT;\n    {line}\n}}\n')
-        said = subprocess.run(["gcc", *STRICT, "-c", program, "-o", folder / "program.o"], capture_output=True, text=True, check=False)
+        said = ran(["gcc", *STRICT, "-c", program, "-o", folder / "program.o"], text=True)
         if (said.returncode == 0) != is_taken:
             raise Differs(f"gcc {'takes' if not is_taken else 'refuses'} the line {line}\n{said.stderr}")
 
@@ -349,10 +348,10 @@ def count_calls(folder, archive):
     pattern = growth.INSTRUCTIONS[1]
 
     def counted(call, size, times):
-        ran = subprocess.run(["valgrind", *growth.INSTRUCTIONS[0], program, call, str(size), str(times)], capture_output=True, text=True, check=False)
-        if ran.returncode:
-            raise Differs(f"growth.c: {call} {size} ends with {ran.returncode}: {ran.stderr[-2000:]}")
-        return int(re.search(pattern, ran.stderr)[1])
+        done = ran(["valgrind", *growth.INSTRUCTIONS[0], program, call, size, times], text=True)
+        if done.returncode:
+            raise Differs(f"growth.c: {call} {size} ends with {done.returncode}: {done.stderr[-2000:]}")
+        return int(re.search(pattern, done.stderr)[1])
 
     for call, bounds in COUNTED.items():
         for size, most in bounds:
@@ -366,12 +365,12 @@ def run_scripts(program):
     """Carries out each script of the vectors and of the examples, and compares standard output, standard error and the status."""
     count = 0
     for script in (it for folder in SCRIPTS for it in sorted(folder.glob("*.script"))):
-        ran = subprocess.run([program], input=script.read_bytes(), capture_output=True, check=False)
+        done = ran([program], input=script.read_bytes())
         beside = {it: script.with_suffix(f".{it}") for it in ("stdout", "stderr", "status")}
         read = {it: file.read_bytes() if file.is_file() else b"" for it, file in beside.items()}
         wanted = (read["stdout"], read["stderr"], int(read["status"] or 0))
-        if (ran.stdout, ran.stderr, ran.returncode) != wanted:
-            raise Differs(f"{script.name} gives {ran} through the Rust crate, and should give {wanted}")
+        if (done.stdout, done.stderr, done.returncode) != wanted:
+            raise Differs(f"{script.name} gives {done} through the Rust crate, and should give {wanted}")
         count += 1
     if not count:
         raise Differs("there are no scripts")
@@ -390,7 +389,7 @@ def crate_in_rust(folder, archive):
     run_scripts(folder / "target/debug/examples/script")
     run(["cargo", "doc", "--offline", "--quiet", "--no-deps"], **more)
     for lint in ["clippy", "fmt"]:
-        if subprocess.run(["cargo", lint, "--version"], capture_output=True, check=False).returncode:
+        if ran(["cargo", lint, "--version"]).returncode:
             print(f"there is no cargo {lint} here, so it didn't check the Rust crate")
         else:
             run(["cargo", lint, *({"clippy": ["--offline", "--quiet", "--all-targets"], "fmt": ["--check"]}[lint])], **more)

@@ -20,14 +20,13 @@ folder, or on a file that isn't there, must say so in one line.
 import os
 import resource
 import socket
-import subprocess
 import sys
 import tempfile
 import threading
 from pathlib import Path
 
-TOP = Path(__file__).resolve().parents[2]
-PROGRAM = TOP / "crates/typst_run/out/typst_run"
+sys.path.insert(0, str(Path(__file__).resolve().parents[1]))
+from common import TOP, ended, proved, ran
 
 # Replacements and searches, of which some are refused and some don't fit, and the tree at the end.
 EDITED = b"""leaf 55 *
@@ -87,7 +86,8 @@ def places(text):
 
 
 def run(**how):
-    return subprocess.run([PROGRAM, "script"], stderr=subprocess.PIPE, check=False, timeout=60, **how)
+    """A run of a script, which standard input gives."""
+    return ran([proved("typst_run"), "script"], timeout=60, **how)
 
 
 def after_reading(script, count):
@@ -99,7 +99,7 @@ def after_reading(script, count):
     ours.sendall(script[:count])
     ours.close()
     with theirs:
-        return run(stdin=theirs, stdout=subprocess.PIPE)
+        return run(stdin=theirs)
 
 
 def after_writing(script, count):
@@ -112,9 +112,9 @@ def after_writing(script, count):
             resource.setrlimit(resource.RLIMIT_FSIZE, (count, count))
 
         # Python ignores the signal of a file that grows too long, and so does what it starts where it restores none.
-        ran = run(stdin=lines, stdout=taken, restore_signals=False, preexec_fn=limit)
+        done = run(stdin=lines, stdout=taken, restore_signals=False, preexec_fn=limit)
         taken.seek(0)
-        return ran, taken.read()
+        return done, taken.read()
 
 
 def byte_by_byte(script):
@@ -129,35 +129,35 @@ def byte_by_byte(script):
     feeding = threading.Thread(target=feed, daemon=True)
     feeding.start()
     with theirs:
-        return run(stdin=theirs, stdout=subprocess.PIPE)
+        return run(stdin=theirs)
 
 
-def told(name, ran, fault):
+def told(name, done, fault):
     """What is wrong with the end of a run that should end with this fault."""
-    if ran.returncode == 1 and ran.stderr == f"{fault}\n".encode():
+    if done.returncode == 1 and done.stderr == f"{fault}\n".encode():
         return []
-    return [f"{name}: status {ran.returncode}, {ran.stderr!r}"]
+    return [f"{name}: status {done.returncode}, {done.stderr!r}"]
 
 
 def swept(script, answer):
     """What is wrong with the runs of a script, whose whole answer is given."""
     wrong, count = [], 0
-    ran = byte_by_byte(script)
-    if ran.returncode or ran.stdout != answer:
-        wrong.append(f"a byte a read: status {ran.returncode}, {len(ran.stdout)} bytes written, {ran.stderr!r}")
+    done = byte_by_byte(script)
+    if done.returncode or done.stdout != answer:
+        wrong.append(f"a byte a read: status {done.returncode}, {len(done.stdout)} bytes written, {done.stderr!r}")
     for at in [*places(script), len(script)]:
-        ran, count = after_reading(script, at), count + 1
-        wrong += told(f"a read after {at} bytes", ran, "cannot read")
-        if not answer.startswith(ran.stdout):
-            wrong.append(f"a read after {at} bytes: no beginning of the answer, {ran.stdout[-80:]!r}")
+        done, count = after_reading(script, at), count + 1
+        wrong += told(f"a read after {at} bytes", done, "cannot read")
+        if not answer.startswith(done.stdout):
+            wrong.append(f"a read after {at} bytes: no beginning of the answer, {done.stdout[-80:]!r}")
     for at in places(answer):
-        (ran, taken), count = after_writing(script, at), count + 1
-        wrong += told(f"a write after {at} bytes", ran, "cannot write")
+        (done, taken), count = after_writing(script, at), count + 1
+        wrong += told(f"a write after {at} bytes", done, "cannot write")
         if taken != answer[:at]:
             wrong.append(f"a write after {at} bytes: {len(taken)} bytes taken, {taken[-80:]!r}")
-    ran, taken = after_writing(script, len(answer))
-    if ran.returncode or taken != answer:
-        wrong.append(f"an output that takes all: status {ran.returncode}, {len(taken)} bytes taken, {ran.stderr!r}")
+    done, taken = after_writing(script, len(answer))
+    if done.returncode or taken != answer:
+        wrong.append(f"an output that takes all: status {done.returncode}, {len(taken)} bytes taken, {done.stderr!r}")
     return wrong, count
 
 
@@ -178,28 +178,23 @@ def spoiled():
             wrong += told("a pipe that nobody reads", run(stdin=lines, stdout=unread), "cannot write")
         os.close(unread)
         for name, how in (("a folder", {"stdin": folder}), ("a closed input", {"preexec_fn": lambda: os.close(0)})):
-            ran = run(stdout=subprocess.PIPE, **how)
-            wrong += told(name, ran, "cannot read") + [f"{name}: {it!r} written" for it in [ran.stdout] if it]
+            done = run(**how)
+            wrong += told(name, done, "cannot read") + [f"{name}: {it!r} written" for it in [done.stdout] if it]
         os.close(folder)
-        ran = subprocess.run([TOP / "run", room], capture_output=True, check=False)
-        wrong += told("./run on a folder", ran, f"cannot read: {room} is a folder")
-        ran = subprocess.run([TOP / "run", Path(room, "none")], capture_output=True, check=False)
-        wrong += told("./run on no file", ran, f"cannot read: there is no file {room}/none")
+        wrong += told("./run on a folder", ran([TOP / "run", room]), f"cannot read: {room} is a folder")
+        wrong += told("./run on no file", ran([TOP / "run", f"{room}/none"]), f"cannot read: there is no file {room}/none")
     return wrong
 
 
 def main():
-    if not PROGRAM.exists():
-        sys.exit(f"faults: no {PROGRAM}: `rt run` in crates/typst_run makes it")
-    whole = run(input=LONG, stdout=subprocess.PIPE)
+    whole = run(input=LONG)
     wrong = [f"the long script: status {whole.returncode}, {whole.stderr!r}"] if whole.returncode else []
     count = 0
     for script, answer in ((EDITED, EDITED_SHOWN), (LONG, whole.stdout)):
         more, runs = swept(script, answer)
         wrong, count = wrong + more, count + runs
     wrong += spoiled()
-    print("\n".join([*wrong, f"{count} reads and writes that fail, {len(wrong)} differences"]))
-    return 1 if wrong else 0
+    return ended(wrong, f"{count} reads and writes that fail, {len(wrong)} differences")
 
 
 if __name__ == "__main__":

@@ -17,13 +17,14 @@ It may also be whole, where the call can do without the memory. A list that grow
 such a case.
 """
 import re
-import subprocess
 import sys
 import tempfile
 from collections import Counter
 from pathlib import Path
 
-TOP = Path(__file__).resolve().parents[2]
+sys.path.insert(0, str(Path(__file__).resolve().parents[1]))
+from common import TOP, ended, ran
+
 CRATE = TOP / "crates/typst_hostile"
 TABLE = TOP / "docs/internal/REFUSED.md"
 # Which request of a run is refused: one after all that any call needs and makes. A drawing asks for memory with each of its words.
@@ -52,24 +53,23 @@ def written(errors):
     return ", ".join(f"{errors[it]} {it}" for it in ENDS if errors[it]) or "none"
 
 
-def run(asked):
+def ends_asked(asked):
     """How these calls end, by name and number of requests. Each has a run of its own, and all use one build."""
     with tempfile.TemporaryDirectory() as room:
         for index, (name, requests) in enumerate(asked):
             Path(room, f"{index:05}").write_text(f"{name} {requests}\n")
-        command = ["rt", "try", "--fail-alloc", str(REFUSED), "--cases", room]
-        ran = subprocess.run(command, cwd=CRATE, capture_output=True, text=True, check=False)
-    said = ran.stdout + ran.stderr
+        done = ran(["rt", "try", "--fail-alloc", REFUSED, "--cases", room], cwd=CRATE, text=True)
+    said = done.stdout + done.stderr
     ends = {(name, requests): end for name, requests, end in re.findall(r"^(.+) (\d+|spare) (\w+)$", said, re.M)}
     missing = [it for it in asked if (it[0], str(it[1])) not in ends]
-    if missing or ran.returncode:
-        sys.exit(f"no answer for {missing[:3]} and {len(missing)} in all; rt try ended with {ran.returncode}:\n{said[-2000:]}")
+    if missing or done.returncode:
+        sys.exit(f"no answer for {missing[:3]} and {len(missing)} in all; rt try ended with {done.returncode}:\n{said[-2000:]}")
     return ends
 
 
 def spare_requests(names):
     """How many requests are granted before the refused one in the place of each call. A call that can't be made has none."""
-    ends = run([(name, "spare") for name in names])
+    ends = ends_asked([(name, "spare") for name in names])
     told = {name: ends[name, "spare"] for name in names}
     return {name: int(end) for name, end in told.items() if end.isdigit()}
 
@@ -81,7 +81,7 @@ def digits(count):
 
 def ends_of(first, passes):
     """How each call ends in so many passes, after one that ends before the call."""
-    return run([(name, digits(first[name] + 1 - it)) for name, count in passes.items() for it in range(count + 1)])
+    return ends_asked([(name, digits(first[name] + 1 - it)) for name, count in passes.items() for it in range(count + 1)])
 
 
 def judged(name, ends, first, passes):
@@ -118,8 +118,7 @@ def main():
             print(f"| `{name}` | {written(errors)} |")
         elif errors != told[name]:
             wrong.append(f"{name}: {written(errors)}, and {TABLE.name} says {written(told[name])}")
-    print("\n".join([*wrong, f"{len(first)} calls, {count} requests refused in turn, {len(wrong)} differences"]))
-    return 1 if wrong else 0
+    return ended(wrong, f"{len(first)} calls, {count} requests refused in turn, {len(wrong)} differences")
 
 
 if __name__ == "__main__":

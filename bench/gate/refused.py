@@ -12,13 +12,13 @@ malloc. Where there is no compiler, the script says so and runs nothing.
 """
 import os
 import shutil
-import subprocess
 import sys
 import tempfile
 from pathlib import Path
 
-TOP = Path(__file__).resolve().parents[2]
-PROVED = TOP / "crates/typst_show/out/typst_show"
+sys.path.insert(0, str(Path(__file__).resolve().parents[1]))
+from common import ended, proved, ran
+
 MALLOC = r"""
 #include <errno.h>
 #include <stdlib.h>
@@ -70,19 +70,19 @@ FILES = {
 }
 
 
-def run(command, room, **settings):
+def over(room, command, settings, **how):
+    """A run over the malloc that refuses, which these settings tell what to do."""
     env = {"PATH": os.environ["PATH"], "LD_PRELOAD": str(Path(room, "refusing.so")), **settings}
-    return subprocess.run(command, cwd=room, env=env, capture_output=True, check=False)
+    return ran(command, cwd=room, env=env, **how)
 
 
 def requests_of(command, room):
     """How many requests a run makes, what it prints with memory at hand, and its status."""
     ours, theirs = os.pipe()
-    env = {"PATH": os.environ["PATH"], "LD_PRELOAD": str(Path(room, "refusing.so")), "REQUESTS": str(theirs)}
-    ran = subprocess.run(command, cwd=room, env=env, capture_output=True, check=False, pass_fds=[theirs])
+    done = over(room, command, {"REQUESTS": str(theirs)}, pass_fds=[theirs])
     os.close(theirs)
     with os.fdopen(ours) as told:
-        return int(told.read() or 0), ran.stdout, ran.returncode
+        return int(told.read() or 0), done.stdout, done.returncode
 
 
 def differences(program, words, room):
@@ -91,17 +91,17 @@ def differences(program, words, room):
     count, whole, status = requests_of(command, room)
     wrong = [] if count and whole and status in (0, 1) else [f"{words}: {count} requests, {len(whole)} bytes are printed, and the status is {status}"]
     for at in range(1, count + 1):
-        ran = run(command, room, REFUSED=str(at))
-        said = ran.stderr.decode()
-        is_whole = (ran.returncode, said, ran.stdout) == (status, "", whole)
-        is_cut = ran.returncode == 3 and "out of memory" in said and said.count("\n") == 1 and whole.startswith(ran.stdout)
+        done = over(room, command, {"REFUSED": str(at)})
+        said = done.stderr.decode()
+        is_whole = (done.returncode, said, done.stdout) == (status, "", whole)
+        is_cut = done.returncode == 3 and "out of memory" in said and said.count("\n") == 1 and whole.startswith(done.stdout)
         if not is_whole and not is_cut:
-            wrong.append(f"{words}, request {at}: status {ran.returncode}, {said!r}, {ran.stdout[-80:]!r}")
+            wrong.append(f"{words}, request {at}: status {done.returncode}, {said!r}, {done.stdout[-80:]!r}")
     return count, wrong
 
 
 def main():
-    program = Path(sys.argv[2]).resolve() if sys.argv[1:2] == ["--program"] else PROVED
+    program = Path(sys.argv[2]).resolve() if sys.argv[1:2] == ["--program"] else proved("typst_show")
     compiler = shutil.which("cc")
     if not compiler:
         print("no C compiler is here, so no request was refused")
@@ -109,13 +109,12 @@ def main():
     with tempfile.TemporaryDirectory() as room:
         source = Path(room, "refusing.c")
         source.write_text(MALLOC)
-        subprocess.run([compiler, "-O1", "-w", "-shared", "-fPIC", "-o", Path(room, "refusing.so"), source], check=True)
+        ran([compiler, "-O1", "-w", "-shared", "-fPIC", "-o", Path(room, "refusing.so"), source]).check_returncode()
         for name, text in FILES.items():
             Path(room, name).write_text(text)
         found = [differences(program, words, room) for words in RUNS]
     wrong = [line for _, lines in found for line in lines]
-    print("\n".join([*wrong, f"{sum(count for count, _ in found)} requests of ./show refused in turn, {len(wrong)} differences"]))
-    return 1 if wrong else 0
+    return ended(wrong, f"{sum(count for count, _ in found)} requests of ./show refused in turn, {len(wrong)} differences")
 
 
 if __name__ == "__main__":

@@ -24,19 +24,17 @@ It runs the proved build, which `rt ci` and `rt run` make, or the given program.
 """
 import os
 import re
-import subprocess
 import sys
 import tempfile
 from pathlib import Path
 
 sys.path.insert(0, str(Path(__file__).resolve().parents[1]))
+from common import TOP, ended, proved, ran
 from grammar.texts import DATA, OTHERS
 from shown import page as show_page
 from shown import trees
 
-TOP = Path(__file__).resolve().parents[2]
 TEXTS = sorted(it for it in DATA.glob("*.typ") if it.stem not in OTHERS)
-PROVED = TOP / "crates/typst_show/out/typst_show"
 # Without these the program draws without colours.
 SETTINGS = {name: value for name, value in os.environ.items() if name not in ("CLICOLOR_FORCE", "NO_COLOR")}
 NEW_LINE = "\n"
@@ -302,7 +300,7 @@ GIVEN = [
 
 def run(program, words, room, given=b"", **settings):
     """A run of the program, without colours unless the settings ask for them."""
-    return subprocess.run([program, *words], cwd=room, input=given, capture_output=True, env=SETTINGS | settings, check=False)
+    return ran([program, *words], cwd=room, input=given, env=SETTINGS | settings)
 
 
 def misread(program):
@@ -311,11 +309,11 @@ def misread(program):
     wanted += [(words, b"", f"error: {said}\n", 2) for words, said in REFUSED]
     wrong = []
     for words, printed, said, status in wanted:
-        ran = run(program, words, TOP)
-        told = ran.stderr.decode()
+        done = run(program, words, TOP)
+        told = done.stderr.decode()
         is_said = told.startswith(said) if said else not told
-        if not is_said or (ran.stdout, ran.returncode) != (printed, status):
-            wrong.append(f"{words} give status {ran.returncode}, {ran.stdout!r} and {told!r}, and should give {status}, {printed!r} and {said!r}")
+        if not is_said or (done.stdout, done.returncode) != (printed, status):
+            wrong.append(f"{words} give status {done.returncode}, {done.stdout!r} and {told!r}, and should give {status}, {printed!r} and {said!r}")
     return wrong
 
 
@@ -349,11 +347,11 @@ def does_as_asked(program, words, form, file, edits, page):
         text = named.write(file)
         lines = named.write(edits, is_edits=True) if edits else b""
         given = lines if edits == "-" else text
-        ran = run(program, words, room, given)
-        printed = Path(room, page).read_text() if page not in ("", "-") else ran.stdout.decode()
+        done = run(program, words, room, given)
+        printed = Path(room, page).read_text() if page not in ("", "-") else done.stdout.decode()
         old, new = named.tree(file), named.tree(edits, file) if edits else None
-    if (ran.stderr, ran.returncode) != (b"", 0):
-        return [f"{words} end with {ran.returncode} and {ran.stderr!r}"]
+    if (done.stderr, done.returncode) != (b"", 0):
+        return [f"{words} end with {done.returncode} and {done.stderr!r}"]
     last = new or old
     if form == "plain":
         wanted = f"Markup\n  Text {trees.beginning(last.children[0].characters())}\n"
@@ -377,11 +375,11 @@ def otherwise_shown(program):
     with tempfile.TemporaryDirectory() as room:
         fill(room, files)
         for words, given in GIVEN:
-            ran = run(TOP / "show", words, room, given)
+            done = run(TOP / "show", words, room, given)
             wanted = run(program, words, room, given)
-            said = ran.stderr.removeprefix(b"run: the proved build\n")
-            if (ran.stdout, said, ran.returncode) != (wanted.stdout, wanted.stderr, wanted.returncode):
-                wrong.append(f"./show {words} ends with {ran.returncode}, {ran.stdout!r} and {ran.stderr!r}")
+            said = done.stderr.removeprefix(b"run: the proved build\n")
+            if (done.stdout, said, done.returncode) != (wanted.stdout, wanted.stderr, wanted.returncode):
+                wrong.append(f"./show {words} ends with {done.returncode}, {done.stdout!r} and {done.stderr!r}")
     return wrong
 
 
@@ -403,16 +401,16 @@ def told_wrong(program, what, words, files, message, status):
     with tempfile.TemporaryDirectory() as room:
         Path(room, "folder").mkdir()
         fill(room, {"text.typ": TEXT} | files)
-        ran = run(program, words, room)
-    said = ran.stderr.decode()
+        done = run(program, words, room)
+    said = done.stderr.decode()
     is_said = said == message + "\n" if isinstance(message, str) else message.match(said)
     wrong = [] if is_said else [f"{what}: standard error is {said!r}, and should be {message!r}"]
     # Before an edit that doesn't fit, the tree of the text is printed.
     is_edit = "--edits" in words and isinstance(message, str) and ": the edit " in message
-    if ran.stdout and not is_edit:
-        wrong.append(f"{what}: it prints {ran.stdout[:80]!r}")
-    if ran.returncode != status:
-        wrong.append(f"{what}: the status is {ran.returncode}, and should be {status}")
+    if done.stdout and not is_edit:
+        wrong.append(f"{what}: it prints {done.stdout[:80]!r}")
+    if done.returncode != status:
+        wrong.append(f"{what}: the status is {done.returncode}, and should be {status}")
     return wrong
 
 
@@ -438,9 +436,9 @@ def differing_pairs(program):
             ([text.name], b"", drawing),
             (["-"], text.read_bytes(), piped),
         ):
-            ran = run(program, words, DATA, given)
-            if (ran.stdout, ran.stderr, ran.returncode) != (wanted, b"", status_of(tree_beside(text))):
-                wrong.append(f"{text.name}: {' '.join(words)} gives another tree, or ends with {ran.returncode}: {ran.stderr!r}")
+            done = run(program, words, DATA, given)
+            if (done.stdout, done.stderr, done.returncode) != (wanted, b"", status_of(tree_beside(text))):
+                wrong.append(f"{text.name}: {' '.join(words)} gives another tree, or ends with {done.returncode}: {done.stderr!r}")
     return wrong
 
 
@@ -452,9 +450,9 @@ def differing_edits(program):
         edit = f"0..{old.end} {trees.beginning(new.characters())}"
         wanted = trees.printed(old, text.name)
         wanted += trees.printed_edit(edit, old, new, range(new.end), text.name)
-        ran = run(program, [text.name, "--edits", "-"], DATA, edit.encode())
-        if (ran.stdout.decode(), ran.stderr, ran.returncode) != (wanted, b"", status_of(new)):
-            wrong.append(f"{text.name}: the edit to {other.name} gives another output, or ends with {ran.returncode}: {ran.stderr!r}")
+        done = run(program, [text.name, "--edits", "-"], DATA, edit.encode())
+        if (done.stdout.decode(), done.stderr, done.returncode) != (wanted, b"", status_of(new)):
+            wrong.append(f"{text.name}: the edit to {other.name} gives another output, or ends with {done.returncode}: {done.stderr!r}")
     return wrong
 
 
@@ -467,14 +465,14 @@ def differing_views(program):
             root = trees.built(lines, kind_of)
             wanted = trees.drawn(root, trees.answers_of(root, answers, form_of))
             Path(room, "a.look").write_bytes("\n".join(lines).encode(errors="surrogateescape"))
-            ran = run(program, ["a.look", "--views"], room)
-            got = ran.stdout.decode().partition("\n\n")[0].rstrip("\n").split("\n")
+            done = run(program, ["a.look", "--views"], room)
+            got = done.stdout.decode().partition("\n\n")[0].rstrip("\n").split("\n")
             count += 1
             page = show_page.Page(run(program, ["a.look", "--page", "-"], room).stdout.decode())
             told = page.wrong + show_page.differing_step(page.steps[0], 0, root, trees.answers_of(root, answers, form_of))
             wrong += [f"look {name}: its page has {it}" for it in told]
-            if got != wanted or ran.stderr or ran.returncode != status_of(root):
-                wrong.append(f"look {name}: --views gives {first_other(got, wanted)}, or ends with {ran.returncode}: {ran.stderr!r}")
+            if got != wanted or done.stderr or done.returncode != status_of(root):
+                wrong.append(f"look {name}: --views gives {first_other(got, wanted)}, or ends with {done.returncode}: {done.stderr!r}")
     return wrong, count
 
 
@@ -490,9 +488,9 @@ def differing_pages(program):
     for text, other in zip(TEXTS, TEXTS[1:] + TEXTS[:1]):
         old, new = tree_beside(text), tree_beside(other)
         edit = f"0..{old.end} {trees.beginning(new.characters())}"
-        ran = run(program, [text.name, "--edits", "-", "--page", "-"], DATA, edit.encode())
-        page = show_page.Page(ran.stdout.decode())
-        told = [*page.wrong, *([] if ran.returncode == status_of(new) else [f"status {ran.returncode}, {ran.stderr!r}"])]
+        done = run(program, [text.name, "--edits", "-", "--page", "-"], DATA, edit.encode())
+        page = show_page.Page(done.stdout.decode())
+        told = [*page.wrong, *([] if done.returncode == status_of(new) else [f"status {done.returncode}, {done.stderr!r}"])]
         change = trees.edited(old, new, range(len(old.children)), range(len(new.children)))
         if len(page.steps) == 2:
             told += show_page.differing_step(page.steps[0], 0, old) + show_page.differing_step(page.steps[1], 1, new)
@@ -627,9 +625,9 @@ def differing_parts(program):
         calls = [["--depth", "1"], ["--lines", "2-3"], ["--depth", "2", "--lines", "1"], ["--places"]]
         wanted = ["\n".join(tree) + "\n" + below for tree in drawings]
         for words, printed in [*zip(calls, wanted), (["--kind", "text"], of_kind)]:
-            ran = run(program, [text.name, *words], DATA)
-            if (ran.stdout.decode(), ran.stderr, ran.returncode) != (printed, b"", status_of(root)):
-                wrong.append(f"{text.name} {words}: {first_other(ran.stdout.decode().split(NEW_LINE), printed.split(NEW_LINE))}, status {ran.returncode}")
+            done = run(program, [text.name, *words], DATA)
+            if (done.stdout.decode(), done.stderr, done.returncode) != (printed, b"", status_of(root)):
+                wrong.append(f"{text.name} {words}: {first_other(done.stdout.decode().split(NEW_LINE), printed.split(NEW_LINE))}, status {done.returncode}")
         plain, bright = trees.printed(root, text.name), trees.coloured(trees.printed(root, text.name))
         for settings, printed in COLOURS:
             got = run(program, [text.name], DATA, **settings).stdout.decode()
@@ -642,14 +640,14 @@ def escaped(program):
     markup = "<script>alert(1)</script> & \"'\0\n"
     with tempfile.TemporaryDirectory() as room:
         fill(room, {"<b>.typ": markup, "e": '0..0 "<i>"\n'})
-        ran = run(program, ["<b>.typ", "--edits", "e", "--page", "-"], room)
-    written = ran.stdout.decode()
+        done = run(program, ["<b>.typ", "--edits", "e", "--page", "-"], room)
+    written = done.stdout.decode()
     page = show_page.Page(written)
     texts = [step["text"] for step in page.steps]
     wanted = [show_page.signed(markup), show_page.signed("<i>" + markup)]
     wrong = [f"a page of markup has {it}" for it in page.wrong]
-    if texts != wanted or ran.returncode or ran.stderr:
-        wrong.append(f"a page of markup has the texts {texts!r}; status {ran.returncode}, {ran.stderr!r}")
+    if texts != wanted or done.returncode or done.stderr:
+        wrong.append(f"a page of markup has the texts {texts!r}; status {done.returncode}, {done.stderr!r}")
     wrong += show_page.contrasts(written)
     count, outside = show_page.scripts_in(written)
     if count != 1 or outside or "\0" in written or "&lt;b&gt;.typ" not in written:
@@ -809,10 +807,7 @@ def examples(program):
 
 def main():
     given = Path(sys.argv[2]).resolve() if sys.argv[1:2] == ["--program"] else None
-    program = given or PROVED
-    if not program.exists():
-        print(f"{program} isn't there: rt run in crates/typst_show makes it")
-        return 1
+    program = given or proved("typst_show")
     wrong = [line for row in WRONG for line in told_wrong(program, *row)]
     different, views = differing_views(program)
     wrong += misread(program) + [line for row in ASKED for line in does_as_asked(program, *row)]
@@ -823,8 +818,7 @@ def main():
     wrong += examples(program) + differing_remarks(program)
     counts = f"{len(TEXTS)} texts with their trees and edits, {views} trees with their answers, {len(WRONG)} wrong inputs"
     counts += f", {len(ASKED) + len(REFUSED) + len(EXPLAINED)} lists of words"
-    print("\n".join([*wrong, f"{counts}, {len(wrong)} differences"]))
-    return 1 if wrong else 0
+    return ended(wrong, f"{counts}, {len(wrong)} differences")
 
 
 if __name__ == "__main__":

@@ -14,15 +14,15 @@ takes the vectors of crates/typst_script_tests with these names, or else all of 
 
 Only the proved build counts. `rt ci` makes it, and so does `rt run` in crates/typst_run.
 """
-import subprocess
 import sys
 import tempfile
 from pathlib import Path
 
-TOP = Path(__file__).resolve().parents[2]
+sys.path.insert(0, str(Path(__file__).resolve().parents[1]))
+from common import TOP, ended, proved, ran
+
 VECTORS = TOP / "crates/typst_script_tests/vectors"
 EXAMPLES = TOP / "examples"
-PROGRAM = TOP / "crates/typst_run/out/typst_run"
 FAILING = ["a_new_tree_isnt_numbered", "no_utf_8"]
 # For each task a file that fails in its second line, and what it prints.
 BAD = {"script": ("leaf 6 a\nroots\nroot\nshow\n", b""), "look": ("mark bad\nroot\nmark after\n", b"#bad\n#after\n")}
@@ -33,24 +33,24 @@ REFUSED = b"write `script` or `look` first, and then the files to carry out, or 
 PROVED, OWN = b"run: the proved build\n", b"run: "
 
 
-def compared(name, ran, stdout, stderr=b"", status=0):
+def compared(name, done, stdout, stderr=b"", status=0):
     """What differs between what a program did and what it should do."""
-    got = {"stdout": (ran.stdout, stdout), "stderr": (ran.stderr, stderr), "status": (ran.returncode, status)}
+    got = {"stdout": (done.stdout, stdout), "stderr": (done.stderr, stderr), "status": (done.returncode, status)}
     return [f"{name}: {part} is {it!r}, and should be {wanted!r}" for part, (it, wanted) in got.items() if it != wanted]
 
 
 def through(starter, file):
     """A run by ./run or ./look, without the line that says which build it is, and whether it is the proved one."""
-    ran = subprocess.run([TOP / starter, file], capture_output=True, check=False)
-    lines = ran.stderr.splitlines(keepends=True)
-    ran.stderr = b"".join(line for line in lines if not line.startswith(OWN))
-    return ran, PROVED in lines
+    done = ran([TOP / starter, file])
+    lines = done.stderr.splitlines(keepends=True)
+    done.stderr = b"".join(line for line in lines if not line.startswith(OWN))
+    return done, PROVED in lines
 
 
 def differences(name, starter, file, **wanted):
-    ran, is_proved = through(starter, file)
+    done, is_proved = through(starter, file)
     unproved = [] if is_proved else [f"{name}: ./{starter} ran no proved build"]
-    return unproved + compared(name, ran, **wanted)
+    return unproved + compared(name, done, **wanted)
 
 
 def vector(name):
@@ -70,27 +70,23 @@ def example(file):
     return differences(f"examples/{file.name}", starter, file, stdout=answer(file))
 
 
-def ran(*words):
-    return subprocess.run([PROGRAM, *words], stdin=subprocess.DEVNULL, capture_output=True, check=False)
-
-
 def several(task):
     """What differs if the program gets all examples of a task, and if it gets one that fails between two."""
     files = sorted(EXAMPLES.glob(f"*.{task}"))
-    bad, printed = BAD[task]
+    (bad, printed), program = BAD[task], proved("typst_run")
     with tempfile.TemporaryDirectory() as room:
         failing = Path(room, f"bad.{task}")
         failing.write_text(bad)
-        whole = ran(task, *files)
+        whole = ran([program, task, *files])
         # The last file isn't taken: the one before it fails.
-        cut = ran(task, files[0], failing, files[-1])
+        cut = ran([program, task, files[0], failing, files[-1]])
     told = compared(f"several {task}s", whole, b"".join(answer(it) for it in files))
     fault = {"stdout": answer(files[0]) + printed, "stderr": b"line 2: bad command\n", "status": 2}
     return told + compared(f"a {task} that fails between two", cut, **fault)
 
 
 def refused(words):
-    return compared(f"the words {words}", ran(*words), stdout=b"", stderr=REFUSED, status=2)
+    return compared(f"the words {words}", ran([proved("typst_run"), *words]), stdout=b"", stderr=REFUSED, status=2)
 
 
 def main():
@@ -103,8 +99,7 @@ def main():
             found.append(several(task))
         found += [refused(words) for words in NO_TASK]
     wrong = [line for lines in found for line in lines]
-    print("\n".join([*wrong, f"{len(found)} runs through main, {len(wrong)} differences"]))
-    return 1 if wrong else 0
+    return ended(wrong, f"{len(found)} runs through main, {len(wrong)} differences")
 
 
 if __name__ == "__main__":

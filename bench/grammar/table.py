@@ -6,9 +6,9 @@ frame.
 import re
 import sys
 from dataclasses import dataclass, field
-from pathlib import Path
 
-TOP = Path(__file__).resolve().parents[2]
+from common import TOP
+
 TABLE = TOP / "crates/grammar.table"
 START = "document"  # the state of the outermost frame
 MODES = ("markup", "code", "math", "operator", "argument")

@@ -2,7 +2,7 @@
 
 A valid text is made along the grammar, and has no error. A soup is pieces in any order.
 """
-from grammar.table import TOP
+from common import TOP
 
 DATA = TOP / "crates/typst_language_tests/data"
 # Texts with errors whose trees may be others, with the reason.

@@ -4,7 +4,8 @@ import tempfile
 from collections import Counter
 from pathlib import Path
 
-from bodies import TOP, TURNS, edit_files, is_in_every_turn, judged, judged_in, turn_of, turn_of_commit
+from bodies import TURNS, edit_files, is_in_every_turn, judged, judged_in, turn_of, turn_of_commit
+from common import TOP
 
 LIB = """#![tactic(auto)]
 

@@ -5,9 +5,9 @@ and `replace_children`, as far down as nodes go on. Their rules are written here
 """
 import re
 import unicodedata
-from pathlib import Path
 
-TOP = Path(__file__).resolve().parent.parent
+from common import TOP
+
 NUMBERS = (2, 1 << 47)
 # How many characters of an inner node's text are shown, and of a text and how many entries of a list in an answer.
 INNER_CHARS, ANSWER_CHARS, ANSWER_ENTRIES = 32, 60, 8
