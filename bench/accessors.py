@@ -11,9 +11,9 @@ import argparse
 import sys
 from dataclasses import dataclass
 
-from bindings import constant
 from common import TOP, write
-from kinds import TABLE as KINDS, Table
+from kinds import TABLE as KINDS
+from kinds import Table, constant
 
 TABLE = "crates/accessors.txt"
 WRITTEN = f"Written by bench/accessors.py from {TABLE}: change that and run it."
