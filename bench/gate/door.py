@@ -39,8 +39,8 @@ from pathlib import Path
 sys.path.insert(0, str(Path(__file__).resolve().parents[1]))
 import growth
 import speed
-from bodies import Proved, Room, below, needs_of
 from common import TOP, ran
+from judge.room import Proved, Room, below, needs_of
 
 EXPORTS = TOP / "crates/typst_c"
 ARCHIVE = "out/libtypst_c.a"

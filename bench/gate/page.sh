@@ -5,7 +5,7 @@
 #
 # The pages are of a text with an error and an edit, of an empty text, and of a text with characters that markup needs.
 # The browser must see the text, and the nodes, answers, reports and numbers that bench/shown/page.py reads in the page.
-# bench/gate/show.py compares those with what bench/shown/trees.py works out. bench/gate/page.js then folds, searches, follows links, pins
+# bench/gate/show.py compares those with what bench/shown/ works out. bench/gate/page.js then folds, searches, follows links, pins
 # and walks, in windows of 420 and of 1,600 points and in both modes; and a page is printed. The script runs the proved
 # build, or PROGRAM. Where there is no Chromium (Debian's `chromium`), it says so and compares nothing.
 set -euo pipefail

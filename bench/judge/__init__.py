@@ -1,1 +1,1 @@
-"""What bench/bodies.py judges wrong bodies by: the sources and the edits, the forms of bodies, and the test of the judge itself."""
+"""The judge of wrong bodies, which bench/bodies.py runs: its turns, checks and verdicts, how it reads sources and edits, and its own test."""

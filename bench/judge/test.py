@@ -4,8 +4,10 @@ import tempfile
 from collections import Counter
 from pathlib import Path
 
-from bodies import TURNS, edit_files, is_in_every_turn, judged, judged_in, turn_of, turn_of_commit
+from bodies import judged
 from common import TOP
+from judge.sources import edit_files, is_in_every_turn
+from judge.turns import TURNS, judged_in, turn_of, turn_of_commit
 
 LIB = """#![tactic(auto)]
 

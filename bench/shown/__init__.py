@@ -1,1 +1,1 @@
-"""What ./show must print, worked out apart from it: trees with what is told of them, and pages as a browser reads them."""
+"""What ./show must print, worked out apart from it: trees, looks, words and examples, and pages as a browser reads them."""

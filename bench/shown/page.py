@@ -1,4 +1,4 @@
-"""Reads a page of ./show as a browser does, and compares it with what bench/shown/trees.py works out."""
+"""Reads a page of ./show as a browser does, and compares it with the trees of shown/trees.py."""
 import re
 from html.parser import HTMLParser
 
