@@ -2,6 +2,7 @@
 import os
 import subprocess
 import sys
+from itertools import zip_longest
 from pathlib import Path
 
 TOP = Path(__file__).resolve().parent.parent
@@ -32,6 +33,13 @@ def ended(wrong, said):
     """Prints what is wrong, and a last line. Returns the status of a program that ends so."""
     print("\n".join([*wrong, said]))
     return 1 if wrong else 0
+
+
+def first_other(got, wanted):
+    """The first line in which a text, or bytes, differs from what is wanted."""
+    end = b"\n" if isinstance(got, bytes) else "\n"
+    pairs = enumerate(zip_longest(got.split(end), wanted.split(end)), 1)
+    return next((f"line {at} is {it!r}, and should be {other!r}" for at, (it, other) in pairs if it != other), "all lines are right")
 
 
 def write(files, source, check):

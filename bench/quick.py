@@ -25,11 +25,10 @@ import sys
 import tempfile
 import time
 from concurrent.futures import ThreadPoolExecutor, as_completed
-from itertools import zip_longest
 from pathlib import Path
 
 import unproved
-from common import TOP, ran
+from common import TOP, first_other, ran
 
 CRATES, EXAMPLES = TOP / "crates", TOP / "examples"
 LANES = min(4, len(os.sched_getaffinity(0)))
@@ -90,10 +89,8 @@ def compared(done, wanted, status=0):
     """Whether a command has printed what is in a file, and ended with this status."""
     text = wanted.read_bytes()
     is_right = done.stdout == text and done.returncode == status
-    lines = zip_longest(done.stdout.splitlines(), text.splitlines())
-    differing = next(((at, *both) for at, both in enumerate(lines, 1) if both[0] != both[1]), None)
-    how = f"line {differing[0]} is {differing[1]!r}, and {wanted.relative_to(TOP)} has {differing[2]!r}\n" if differing else ""
-    return int(is_right), int(not is_right), f"status {done.returncode}, and {status} is wanted\n{how}{told(done)}"
+    how = f"{wanted.relative_to(TOP)}: {first_other(done.stdout, text)}; the status is {done.returncode}, and should be {status}"
+    return int(is_right), int(not is_right), f"{how}\n{told(done)}"
 
 
 def scripts(ending):

@@ -28,7 +28,7 @@ import tempfile
 from pathlib import Path
 
 sys.path.insert(0, str(Path(__file__).resolve().parents[1]))
-from common import TOP, ended, proved, ran
+from common import TOP, ended, first_other, proved, ran
 from grammar.texts import DATA, OTHERS
 from shown import looks
 from shown import page as show_page
@@ -39,7 +39,6 @@ from shown.words import ASKED, ENDS_OF_LINES, EXPLAINED, GIVEN, PARAGRAPH, PARAG
 TEXTS = sorted(it for it in DATA.glob("*.typ") if it.stem not in OTHERS)
 # Without these the program draws without colours.
 SETTINGS = {name: value for name, value in os.environ.items() if name not in ("CLICOLOR_FORCE", "NO_COLOR")}
-NEW_LINE = "\n"
 # The most bytes that a page may have for each byte of its text, and besides.
 PAGE_BYTES, PAGE_MORE = 20, 1 << 20
 # How many paragraphs are inserted at one place. For the fifteenth the first window is too narrow.
@@ -222,23 +221,17 @@ def differing_views(program):
     with tempfile.TemporaryDirectory() as room:
         for name, lines, answers in looks.looks():
             root = looks.built(lines, kind_of)
-            wanted = trees.drawn(root, looks.answers_of(root, answers, form_of))
+            wanted = "\n".join(trees.drawn(root, looks.answers_of(root, answers, form_of)))
             Path(room, "a.look").write_bytes("\n".join(lines).encode(errors="surrogateescape"))
             done = run(program, ["a.look", "--views"], room)
-            got = done.stdout.decode().partition("\n\n")[0].rstrip("\n").split("\n")
+            got = done.stdout.decode().partition("\n\n")[0].rstrip("\n")
             count += 1
             page = show_page.Page(run(program, ["a.look", "--page", "-"], room).stdout.decode())
             told = page.wrong + show_page.differing_step(page.steps[0], 0, root, looks.answers_of(root, answers, form_of))
             wrong += [f"look {name}: its page has {it}" for it in told]
             if got != wanted or done.stderr or done.returncode != status_of(root):
-                wrong.append(f"look {name}: --views gives {first_other(got, wanted)}, or ends with {done.returncode}: {done.stderr!r}")
+                wrong.append(f"look {name}: with --views {first_other(got, wanted)}; it ends with {done.returncode}: {done.stderr!r}")
     return wrong, count
-
-
-def first_other(got, wanted):
-    """The first line that differs."""
-    pairs = [(ours, theirs) for ours, theirs in zip(got, wanted) if ours != theirs]
-    return f"{pairs[0][0]!r}, and should give {pairs[0][1]!r}" if pairs else f"{len(got)} lines, and should give {len(wanted)}"
 
 
 def differing_pages(program):
@@ -386,11 +379,12 @@ def differing_parts(program):
         for words, printed in [*zip(calls, wanted), (["--kind", "text"], of_kind)]:
             done = run(program, [text.name, *words], DATA)
             if (done.stdout.decode(), done.stderr, done.returncode) != (printed, b"", status_of(root)):
-                wrong.append(f"{text.name} {words}: {first_other(done.stdout.decode().split(NEW_LINE), printed.split(NEW_LINE))}, status {done.returncode}")
+                wrong.append(f"{text.name} {words}: {first_other(done.stdout.decode(), printed)}, status {done.returncode}")
         plain, bright = trees.printed(root, text.name), trees.coloured(trees.printed(root, text.name))
         for settings, printed in COLOURS:
             got = run(program, [text.name], DATA, **settings).stdout.decode()
-            wrong += [] if got == (bright if printed else plain) else [f"{text.name} {settings}: {first_other(got.split(NEW_LINE), bright.split(NEW_LINE))}"]
+            wanted = bright if printed else plain
+            wrong += [] if got == wanted else [f"{text.name} {settings}: {first_other(got, wanted)}"]
     return wrong
 
 
@@ -452,7 +446,7 @@ def examples(program):
         ("a text with its views", views, answered),
         ("crates/typst_show/stdout", (TOP / "crates/typst_show/stdout").read_text(), remarked),
     ]
-    return [f"{name}: {first_other(got.split(NEW_LINE), wanted.split(NEW_LINE))}" for name, got, wanted in compared if got != wanted]
+    return [f"{name}: {first_other(got, wanted)}" for name, got, wanted in compared if got != wanted]
 
 
 def main():
