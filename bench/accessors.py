@@ -7,11 +7,10 @@
 These are the enums of typst_accessors and the numbers that their contracts cite, the constants of bindings/c, the enum of
 bindings/rust, and docs/internal/ACCESSORS.md. The code is laid out as `rt fmt` and `cargo fmt` lay it out.
 """
-import argparse
 import sys
 from dataclasses import dataclass
 
-from common import TOP, write
+from common import TOP, parser, write
 from kinds import TABLE as KINDS
 from kinds import Table, constant
 
@@ -337,9 +336,7 @@ def files():
 
 
 def main():
-    parser = argparse.ArgumentParser(description=__doc__, formatter_class=argparse.RawDescriptionHelpFormatter)
-    parser.add_argument("--check", action="store_true", help="tell which differ, and change nothing")
-    check = parser.parse_args().check
+    check = parser(__doc__, "--check").parse_args().check
     made = files()
     write(((TOP / name, text) for name, text in made.items()), TABLE, check)
     print(f"the {len(made)} tables of {len(accessors())} accessors are those of {TABLE}")

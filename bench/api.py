@@ -11,10 +11,9 @@ rows for its variants too. A function is written as `name(arguments) -> result`,
 `Result` or an `Option` shows what it holds. What docs/KINDS.md says of each kind isn't said again.
 """
 import re
-import sys
 from collections import defaultdict
 
-from common import TOP, crates, write
+from common import TOP, crates, parser, write
 
 PAGE = TOP / "docs/API.md"
 KINDS = TOP / "docs/KINDS.md"
@@ -218,7 +217,7 @@ def definitions():
 
 def main():
     made = {PAGE: page(), DEFINITIONS: definitions()}
-    write(made.items(), "the sources", "--check" in sys.argv[1:])
+    write(made.items(), "the sources", parser(__doc__, "--check").parse_args().check)
     for path, text in made.items():
         print(f"{path.relative_to(TOP)}: {text.count(chr(10) + '| `')} names")
 

@@ -53,7 +53,6 @@ hold its words, but into a value that the next condition, call or `?` reads unde
 `if len > 3_000 { return Err(AllocError); }`, but `let room = room.min(3_000);`. A body that keeps the form is also refused if it meets
 its contract for another reason than the answer gives, such as another number of the same range. The judge looks for no other answer.
 """
-import argparse
 import resource
 import sys
 import tempfile
@@ -62,7 +61,7 @@ import time
 from concurrent.futures import ThreadPoolExecutor
 from contextlib import nullcontext
 
-from common import TOP
+from common import TOP, parser
 from dearest import table
 from judge.public import without_body
 from judge.room import Proved, Room, below, needs_of
@@ -168,7 +167,7 @@ def apply_all():
 
 
 def main():
-    words = argparse.ArgumentParser(description=__doc__, formatter_class=argparse.RawDescriptionHelpFormatter)
+    words = parser(__doc__, "--apply", "--each", "--goals", "--times", "--test")
     words.add_argument("crates", nargs="*")
     words.add_argument("--only", default="", help="judge only the edits with this word in their names; commas separate several words")
     words.add_argument("--turn", metavar="commit|N", help="judge the edits of every turn, and of the others those of this turn")
@@ -176,8 +175,6 @@ def main():
     words.add_argument("--jobs", type=int, default=2, help="how many jobs a check gets at most; it gets one if no processor is idle")
     words.add_argument("--further", type=int, default=16, help="how many further checks a crate gets for what the first ones leave open")
     words.add_argument("--lanes", type=int, default=1, help="how many crates are judged at a time")
-    for flag in ("apply", "each", "goals", "times", "test"):
-        words.add_argument(f"--{flag}", action="store_true")
     given = words.parse_args()
     if given.turn not in (None, "commit", *map(str, range(TURNS))):
         words.error(f"--turn is commit or a number below {TURNS}, not {given.turn}")

@@ -1,4 +1,5 @@
-"""What the programs of bench/ share: the folder of the repository, its crates and proved programs, commands, and files that are written."""
+"""What the programs of bench/ share: words, crates and proved programs, commands, what they say, and files that they write."""
+import argparse
 import os
 import subprocess
 import sys
@@ -6,6 +7,14 @@ from itertools import zip_longest
 from pathlib import Path
 
 TOP = Path(__file__).resolve().parent.parent
+
+
+def parser(doc, *flags):
+    """A parser of the words of a program. It knows these flags, and its help is the text at the head of the program."""
+    words = argparse.ArgumentParser(description=doc, formatter_class=argparse.RawDescriptionHelpFormatter)
+    for flag in flags:
+        words.add_argument(flag, action="store_true")
+    return words
 
 
 def crates(top=TOP):
@@ -20,6 +29,14 @@ def proved(name):
     if not program.exists():
         sys.exit(f"{program} isn't there: `rt run` in crates/{name} makes it")
     return program
+
+
+def chosen(doc, name):
+    """The program that the word --program names, or else the proved build with this name; and whether it is the proved one."""
+    words = parser(doc)
+    words.add_argument("--program", type=Path, metavar="FILE")
+    given = words.parse_args().program
+    return (given.resolve(), False) if given else (proved(name), True)
 
 
 def ran(words, **how):

@@ -6,11 +6,10 @@
 
 A part of the table is a file of its own, so that no file is long, and parts are proved side by side.
 """
-import argparse
 from pathlib import Path
 from textwrap import fill
 
-from common import TOP, write
+from common import TOP, parser, write
 from grammar.maps import maps_in_code, maps_in_specs
 from grammar.table import TABLE, Row, Table
 from grammar.words import WIDTH, arm, camel, flat, head_of, list_in_code, list_in_specs, snake
@@ -423,10 +422,9 @@ def files(table):
 
 
 def main():
-    parser = argparse.ArgumentParser(description=__doc__, formatter_class=argparse.RawDescriptionHelpFormatter)
-    parser.add_argument("crate", type=Path)
-    parser.add_argument("--check", action="store_true", help="tell which differ, and change nothing")
-    args = parser.parse_args()
+    words = parser(__doc__, "--check")
+    words.add_argument("crate", type=Path)
+    args = words.parse_args()
     table = Table(TABLE)
     write(((args.crate / name, text) for name, text in files(table)), SOURCE, args.check)
     print(f"the {len(table.frames)} states of the syntax are those of {SOURCE}")

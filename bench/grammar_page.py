@@ -4,9 +4,8 @@
     bench/grammar_page.py            writes it, and says whether it changed
     bench/grammar_page.py --check    fails if it isn't what would be written
 """
-import sys
 
-from common import TOP, write
+from common import TOP, parser, write
 from grammar.table import TABLE, Table
 
 PAGE = TOP / "docs/SYNTAX.md"
@@ -104,7 +103,7 @@ def page(table):
 
 
 def main():
-    write([(PAGE, page(Table(TABLE)))], TABLE.relative_to(TOP), "--check" in sys.argv[1:])
+    write([(PAGE, page(Table(TABLE)))], TABLE.relative_to(TOP), parser(__doc__, "--check").parse_args().check)
     print(f"{PAGE.relative_to(TOP)} is that of {TABLE.relative_to(TOP)}")
 
 

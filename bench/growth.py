@@ -15,7 +15,7 @@ import re
 import shutil
 import sys
 
-from common import ended, proved, ran
+from common import ended, parser, proved, ran
 
 # The two numbers of children or of lines, and how often each call is made.
 SIZES, CALLS = (1_000, 16_000), 32
@@ -107,13 +107,14 @@ def rows():
 
 
 def main():
+    is_asked = parser(__doc__, "--found").parse_args().found
     if not shutil.which("valgrind"):
         print("growth: no valgrind, so no instructions are counted")
         return 0
     wrong, count = [], 0
     for name, what, bounds, found in rows():
         count += 1
-        if "--found" in sys.argv:
+        if is_asked:
             print(f"{name}: {found} {what}")
             continue
         for size, taken, most in zip(SIZES, found, bounds):

@@ -7,13 +7,12 @@
 Each such file has a template in bench/templates, which is the file without its tables. In a template, `@NAME@` is the
 place of the table that `tables` below makes under that name. The tables are laid out as `rt fmt` lays them out.
 """
-import argparse
 import re
 import sys
 import textwrap
 from dataclasses import dataclass
 
-from common import TOP, write
+from common import TOP, parser, write
 
 TABLE = "crates/kinds.txt"
 TEMPLATES = TOP / "bench/templates"
@@ -270,9 +269,7 @@ def files(table):
 
 
 def main():
-    parser = argparse.ArgumentParser(description=__doc__, formatter_class=argparse.RawDescriptionHelpFormatter)
-    parser.add_argument("--check", action="store_true", help="tell which differ, and change nothing")
-    check = parser.parse_args().check
+    check = parser(__doc__, "--check").parse_args().check
     table = Table((TOP / TABLE).read_text())
     made = list(files(table))
     write(made, f"{TABLE} or its template", check)

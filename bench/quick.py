@@ -17,7 +17,6 @@ It works in a clean clone, four parts at a time, the longest first:
 
 The last line is 'N passed, M failed'. Each check, each test and each program, script or look counts.
 """
-import argparse
 import os
 import re
 import shlex
@@ -28,7 +27,7 @@ from concurrent.futures import ThreadPoolExecutor, as_completed
 from pathlib import Path
 
 import unproved
-from common import TOP, first_other, ran
+from common import TOP, first_other, parser, ran
 
 CRATES, EXAMPLES = TOP / "crates", TOP / "examples"
 LANES = min(4, len(os.sched_getaffinity(0)))
@@ -127,7 +126,7 @@ def timed(call, given):
 
 
 def main():
-    argparse.ArgumentParser(description=__doc__, formatter_class=argparse.RawDescriptionHelpFormatter).parse_args()
+    parser(__doc__).parse_args()
     began, passed, failed, lost = time.monotonic(), 0, 0, []
     with ThreadPoolExecutor(LANES) as pool:
         running = {pool.submit(timed, call, given): name for name, call, *given in parts()}

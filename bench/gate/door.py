@@ -28,7 +28,6 @@
 
 If gcc or cargo is missing, the script says so. The status is 1 if anything differs or fails.
 """
-import argparse
 import os
 import re
 import shutil
@@ -39,7 +38,7 @@ from pathlib import Path
 sys.path.insert(0, str(Path(__file__).resolve().parents[1]))
 import growth
 import speed
-from common import TOP, ran
+from common import TOP, parser, ran
 from judge.room import Proved, Room, below, needs_of
 
 EXPORTS = TOP / "crates/typst_c"
@@ -396,12 +395,10 @@ def crate_in_rust(folder, archive):
 
 
 def main():
-    parser = argparse.ArgumentParser(description=__doc__, formatter_class=argparse.RawDescriptionHelpFormatter)
-    parser.add_argument("--calls", type=int, default=1_000_000, help="how many calls are drawn at random")
-    parser.add_argument("--beside", metavar="LOG", help="build on what the run of rt ci with this log proves")
-    parser.add_argument("--speed", action="store_true", help="time calls from C, and run nothing else")
-    parser.add_argument("--declared", action="store_true", help="compare the declarations, and build nothing")
-    asked = parser.parse_args()
+    words = parser(__doc__, "--speed", "--declared")
+    words.add_argument("--calls", type=int, default=1_000_000, metavar="N")
+    words.add_argument("--beside", metavar="LOG")
+    asked = words.parse_args()
     try:
         run([TOP / "bench/kinds.py", "--check"])
         run([TOP / "bench/accessors.py", "--check"])

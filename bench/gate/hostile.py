@@ -23,7 +23,7 @@ from collections import Counter
 from pathlib import Path
 
 sys.path.insert(0, str(Path(__file__).resolve().parents[1]))
-from common import TOP, ended, ran
+from common import TOP, ended, parser, ran
 
 CRATE = TOP / "crates/typst_hostile"
 TABLE = TOP / "docs/internal/REFUSED.md"
@@ -101,7 +101,7 @@ def judged(name, ends, first, passes):
 
 
 def main():
-    names, found = calls(), "--found" in sys.argv
+    names, found = calls(), parser(__doc__, "--found").parse_args().found
     told = {} if found else table()
     wrong = [] if found else [f"{it}: only in {TABLE} or only in {CRATE}/stdin" for it in sorted(set(names) ^ set(told))]
     asked = [name for name in names if found or name in told]

@@ -17,7 +17,7 @@ import tempfile
 from pathlib import Path
 
 sys.path.insert(0, str(Path(__file__).resolve().parents[1]))
-from common import ended, proved, ran
+from common import chosen, ended, ran
 
 MALLOC = r"""
 #include <errno.h>
@@ -101,7 +101,7 @@ def differences(program, words, room):
 
 
 def main():
-    program = Path(sys.argv[2]).resolve() if sys.argv[1:2] == ["--program"] else proved("typst_show")
+    program, _ = chosen(__doc__, "typst_show")
     compiler = shutil.which("cc")
     if not compiler:
         print("no C compiler is here, so no request was refused")

@@ -28,7 +28,7 @@ import tempfile
 from pathlib import Path
 
 sys.path.insert(0, str(Path(__file__).resolve().parents[1]))
-from common import TOP, ended, first_other, proved, ran
+from common import TOP, chosen, ended, first_other, ran
 from grammar.texts import DATA, OTHERS
 from shown import looks
 from shown import page as show_page
@@ -450,12 +450,11 @@ def examples(program):
 
 
 def main():
-    given = Path(sys.argv[2]).resolve() if sys.argv[1:2] == ["--program"] else None
-    program = given or proved("typst_show")
+    program, is_proved = chosen(__doc__, "typst_show")
     wrong = [line for row in WRONG for line in told_wrong(program, *row)]
     different, views = differing_views(program)
     wrong += misread(program) + [line for row in ASKED for line in does_as_asked(program, *row)]
-    wrong += [] if given else otherwise_shown(program)
+    wrong += otherwise_shown(program) if is_proved else []
     wrong += differing_pairs(program) + differing_edits(program) + different
     wrong += differing_pages(program) + differing_typing(program) + differing_paste(program) + large_pages(program) + escaped(program)
     wrong += differing_parts(program) + dense_pages(program) + differing_lines(program)
