@@ -383,7 +383,7 @@ def main():
     if sys.argv[1:2] == ["--parsed"]:
         sys.setrecursionlimit(10_000)
         wrong = list(parsed_faults(Path(sys.argv[2]).resolve() if sys.argv[2:] else proved("typst_show")))
-        return ended(wrong[:40], f"{2 * TEXTS:,} texts by chance, {len(wrong)} faults in their trees and in the children that views ask for")
+        return ended(wrong[:40], f"{2 * TEXTS:,} texts by chance, {len(wrong)} faults in their trees and in what views ask for")
     check = "--check" in sys.argv[1:]
     write([(PAGE, page())], LINES.relative_to(TOP), check)
     wrong = [f"children: {it}" for it in faults()] if check else []

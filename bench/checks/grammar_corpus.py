@@ -5,9 +5,9 @@
     bench/checks/grammar_corpus.py --write FOLDER COUNT [SEED]    writes COUNT valid texts and COUNT soups by chance, each as NAME.typ
                                                                   with NAME.tree, and tries nothing
 
-It fails if the tree of a text in crates/typst_language_tests/data isn't the one beside it, with a few exceptions that bench/grammar/texts.py
-names and that have errors; if there is a row without which all those trees stay the same; if a row could take the end of the text, or rows
-could go round without a token; if a text of the grammar has an error, or a byte of any text is lost; or if the work isn't linear.
+It fails if the tree of a text in crates/typst_language_tests/data isn't the one beside it, with a few exceptions that have errors and that
+bench/grammar/texts.py names; if there is a row without which all those trees stay the same; if a row could take the end of the text, or
+rows could go round without a token; if a text of the grammar has an error, or a byte of any text is lost; or if the work isn't linear.
 """
 import random
 import sys

@@ -71,7 +71,8 @@ def misread(program):
         told = done.stderr.decode()
         is_said = told.startswith(said) if said else not told
         if not is_said or (done.stdout, done.returncode) != (printed, status):
-            wrong.append(f"{words} give status {done.returncode}, {done.stdout!r} and {told!r}, and should give {status}, {printed!r} and {said!r}")
+            got = f"status {done.returncode}, {done.stdout!r} and {told!r}"
+            wrong.append(f"{words} give {got}, and should give {status}, {printed!r} and {said!r}")
     return wrong
 
 
@@ -346,7 +347,8 @@ def differing_lines(program):
             fill(room, {"a.typ": text})
             got = run(program, ["a.typ"], room).stdout.decode()
             page = show_page.Page(run(program, ["a.typ", "--page", "-"], room).stdout.decode())
-        wrong += [] if got == trees.printed(root, "a.typ") else [f"{text!r} gives {got!r}, and should give {trees.printed(root, 'a.typ')!r}"]
+        wanted = trees.printed(root, "a.typ")
+        wrong += [] if got == wanted else [f"{text!r} gives {got!r}, and should give {wanted!r}"]
         wrong += [f"the page of {text!r} has {it}" for it in page.wrong + show_page.differing_step(page.steps[0], 0, root)]
     return wrong
 
@@ -370,7 +372,8 @@ def differing_parts(program):
     for text in TEXTS:
         root = tree_beside(text)
         whole = root.text()
-        parts = [trees.within(root, depth=1), trees.within(root, lines=(2, 3)), trees.within(root, depth=2, lines=(1, 1)), trees.within(root)]
+        asked = ({"depth": 1}, {"lines": (2, 3)}, {"depth": 2, "lines": (1, 1)}, {})
+        parts = [trees.within(root, **it) for it in asked]
         drawings = [trees.drawn(root, has=has, text=whole if at == 3 else None) for at, has in enumerate(parts)]
         below = "".join(line + "\n" for line in trees.reports(root, text.name))
         of_kind = "".join(trees.row(node, whole) + "\n" for _, node in root.preorder() if node.kind == "Text")

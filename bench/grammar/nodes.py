@@ -1,4 +1,4 @@
-"""Nodes for bench/checks/grammar_corpus.py, and trees as lines: a node a line, two blanks a level, a leaf with its text, an error with both."""
+"""Nodes for the plain machine, and trees as lines: a node a line, two blanks a level, a leaf with its text, an error with both."""
 import re
 import unicodedata
 from dataclasses import dataclass
