@@ -7,15 +7,13 @@
 These are the enums of typst_accessors and the numbers that their contracts cite, the constants of bindings/c, the enum of
 bindings/rust, and docs/internal/ACCESSORS.md. The code is laid out as `rt fmt` and `cargo fmt` lay it out.
 """
-import argparse
 import sys
 from dataclasses import dataclass
-from pathlib import Path
 
-from bindings import constant
-from kinds import TABLE as KINDS, Table
+from common import TOP, parser, write
+from kinds import TABLE as KINDS
+from kinds import Table, constant
 
-TOP = Path(__file__).resolve().parent.parent
 TABLE = "crates/accessors.txt"
 WRITTEN = f"Written by bench/accessors.py from {TABLE}: change that and run it."
 # What an accessor of each form answers, as its enum says it.
@@ -338,18 +336,10 @@ def files():
 
 
 def main():
-    parser = argparse.ArgumentParser(description=__doc__, formatter_class=argparse.RawDescriptionHelpFormatter)
-    parser.add_argument("--check", action="store_true", help="tell which differ, and change nothing")
-    check = parser.parse_args().check
-    written = files()
-    differing = [name for name, text in written.items() if not (TOP / name).is_file() or (TOP / name).read_text() != text]
-    for name in differing:
-        print(f"{name} {'differs from' if check else 'written from'} {TABLE}")
-        if not check:
-            (TOP / name).write_text(written[name])
-    if check and differing:
-        sys.exit(f"{len(differing)} of {len(written)} files differ: change {TABLE}, and run bench/accessors.py")
-    print(f"the {len(written)} tables of {len(accessors())} accessors are those of {TABLE}")
+    check = parser(__doc__, "--check").parse_args().check
+    made = files()
+    write(((TOP / name, text) for name, text in made.items()), TABLE, check)
+    print(f"the {len(made)} tables of {len(accessors())} accessors are those of {TABLE}")
 
 
 if __name__ == "__main__":

@@ -12,11 +12,10 @@ names only functions whose contracts cite a word of the field.
 """
 import re
 import sys
-from pathlib import Path
 
-from bodies_sources import blanked, functions
+from common import TOP
+from judge.sources import blanked, functions
 
-TOP = Path(__file__).resolve().parent.parent
 CRATES = ("typst_atoms", "typst_ast")
 ALIKE = TOP / "crates/typst_ast/specs/Alike.antt"
 WORD = re.compile(r"\w+")

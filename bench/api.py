@@ -11,11 +11,10 @@ rows for its variants too. A function is written as `name(arguments) -> result`,
 `Result` or an `Option` shows what it holds. What docs/KINDS.md says of each kind isn't said again.
 """
 import re
-import sys
 from collections import defaultdict
-from pathlib import Path
 
-TOP = Path(__file__).resolve().parent.parent
+from common import TOP, crates, parser, write
+
 PAGE = TOP / "docs/API.md"
 KINDS = TOP / "docs/KINDS.md"
 DEFINITIONS, FILES = TOP / "docs/internal/DEFINITIONS.md", "\n## Each file of `specs/`\n"
@@ -208,7 +207,7 @@ def defined(path):
 def definitions():
     """The page of definitions, with the table of all files of specs/ after its last heading."""
     lines = []
-    for crate in re.findall(r"^(\w+)\b.*:", (TOP / "crates.txt").read_text(), re.M):
+    for crate in crates():
         files = sorted(it for it in (TOP / "crates" / crate / "specs").glob("*.antt") if it.stem != "Lib")
         rows = "".join(f"| `{it.stem}` | {defined(it)} |\n" for it in files)
         lines += [f"\n`{crate}`:\n\n| | |\n|---|---|\n{rows}"] if files else []
@@ -218,13 +217,9 @@ def definitions():
 
 def main():
     made = {PAGE: page(), DEFINITIONS: definitions()}
+    write(made.items(), "the sources", parser(__doc__, "--check").parse_args().check)
     for path, text in made.items():
-        name = path.relative_to(TOP)
-        if "--check" not in sys.argv[1:]:
-            path.write_text(text)
-        elif not path.is_file() or path.read_text() != text:
-            sys.exit(f"{name} isn't what bench/api.py writes: run it")
-        print(f"{name}: {text.count(chr(10) + '| `')} names")
+        print(f"{path.relative_to(TOP)}: {text.count(chr(10) + '| `')} names")
 
 
 if __name__ == "__main__":

@@ -10,34 +10,31 @@
 - A line gives children to accessors. The definition that the contract of the accessor cites, in typst_accessors/specs, must
   give the same children of each of these nodes.
 
-With --parsed the texts are those of bench/grammar_texts.py: valid ones, and pieces in any order. Each is an edit of the one before it.
+With --parsed the texts are those of bench/grammar/texts.py: valid ones, and pieces in any order. Each is an edit of the one before it.
 
-- The tree of each text must be that of the plain machine (bench/grammar_machine.py), with its errors.
+- The tree of each text must be that of the plain machine (bench/grammar/machine.py), with its errors.
 - The tree of a valid text must have no error.
 - Each inner node must have the children that its kind's line says, unless an error is among them or directly before the node. So the
   accessors of its view find what they ask for, and return no placeholder. (Where an error is last, no further one tells what is missing.)
 """
 import random
 import re
-import subprocess
 import sys
 from functools import cache
 from pathlib import Path
 
-import grammar_nodes
-import grammar_table
-import shown
-from grammar_corpus import TABLE as GRAMMAR
-from grammar_machine import Rows, parse
-from grammar_texts import soup, valid_text
+import grammar.nodes
+import grammar.table
+from common import TOP, ended, proved, ran, write
+from grammar.machine import Rows, parse
+from grammar.texts import DATA, soup, valid_text
 from kinds import TABLE, Table
+from shown.trees import beginning, quoted_of, tree_of
 
-TOP = Path(__file__).resolve().parent.parent
 CLASSES = ("pattern", "arg", "array_item", "dict_item", "param", "destructuring_item", "import_item")
-LINES, PAGE, CORPUS = TOP / "crates/children.txt", TOP / "docs/CHILDREN.md", TOP / "crates/typst_language_tests/data"
+LINES, PAGE = TOP / "crates/children.txt", TOP / "docs/CHILDREN.md"
 COMMENTS = ("LineComment", "BlockComment", "Shebang")
 WHITE = (*COMMENTS, "Space", "Parbreak")
-PROVED = TOP / "crates/typst_show/out/typst_show"
 # How many texts of each sort are made.
 TEXTS = 5_000
 # A row of a tree that ./show draws, and an error below it.
@@ -273,8 +270,8 @@ def faults():
     unknown = {it for it in named if called(*it) not in equations()}
     yield from (f"{kind}: there is no accessor {accessor} with a definition" for kind, accessor in sorted(unknown))
     used, seen = set(), 0
-    for file in sorted(CORPUS.glob("*.tree")):
-        for _, node in shown.tree_of(file.read_bytes().decode()).preorder():
+    for file in sorted(DATA.glob("*.tree")):
+        for _, node in tree_of(file.read_bytes().decode()).preorder():
             if not node.children or any(it.kind == "Error" for it in node.children):
                 continue
             form = forms.get(node.kind)
@@ -292,7 +289,7 @@ def faults():
     for kind, form in forms.items():
         yield from (f"{kind}: no tree needs {it.inner} in its line" for it in form.names() if id(it) not in used)
     if not seen:
-        yield f"there is no tree in {CORPUS}"
+        yield f"there is no tree in {DATA}"
 
 
 class Drawn:
@@ -312,14 +309,14 @@ def drawn(program, texts):
     before it."""
     edits, before = "", 0
     for text in texts:
-        edits += f"0..{before} {shown.beginning(shown.quoted_of(text))}\n"
+        edits += f"0..{before} {beginning(quoted_of(text))}\n"
         before = len(text.encode())
-    ran = subprocess.run([program, "/dev/null", "--edits", "-"], input=edits.encode(), capture_output=True, check=False)
-    if ran.returncode > 1:
-        sys.exit(f"{program} ends with status {ran.returncode}: {ran.stderr.decode()}")
+    done = ran([program, "/dev/null", "--edits", "-"], input=edits.encode())
+    if done.returncode > 1:
+        sys.exit(f"{program} ends with status {done.returncode}: {done.stderr.decode()}")
     trees, above = [], []
     # A text in quotes has no line end of its own.
-    for line in ran.stdout.decode().split("\n"):
+    for line in done.stdout.decode().split("\n"):
         if row := ROW.match(line):
             node, depth = Drawn(row[2], int(row[3]), int(row[4])), len(row[1]) // 3
             if depth == 0:
@@ -367,13 +364,13 @@ def unlike(forms, root):
 def parsed_faults(program):
     """What is wrong with the trees that the program draws of texts by chance."""
     forms = {kind: Reader(line).choice() for part in lines().values() for kind, line in part.items()}
-    rows = Rows(grammar_table.Table(GRAMMAR))
+    rows = Rows(grammar.table.Table(grammar.table.TABLE))
     texts = [make(random.Random(seed)) for make in (valid_text, soup) for seed in range(TEXTS)]
     trees = drawn(program, texts)
     if len(trees) != len(texts):
         yield f"{len(trees)} trees are drawn, of {len(texts)} texts"
     for number, (text, (root, told)) in enumerate(zip(texts, trees)):
-        plain, errors = plain_tree(grammar_nodes.Node("Markup", children=tuple(parse(rows, text).nodes)))
+        plain, errors = plain_tree(grammar.nodes.Node("Markup", children=tuple(parse(rows, text).nodes)))
         shapes = [[(depth, it.kind, it.start, it.end) for depth, it in tree.rows()] for tree in (root, plain)]
         if shapes[0] != shapes[1] or told != errors:
             yield f"another tree than that of the plain machine: {text!r}"
@@ -383,21 +380,14 @@ def parsed_faults(program):
 
 
 def main():
-    made, wrong = page(), []
     if sys.argv[1:2] == ["--parsed"]:
         sys.setrecursionlimit(10_000)
-        wrong = list(parsed_faults(Path((sys.argv[2:] or [PROVED])[0]).resolve()))
-        print("\n".join(wrong[:40]) or f"the nodes of {2 * TEXTS:,} texts by chance have the children that views ask for")
-        return 1 if wrong else 0
-    if "--check" in sys.argv[1:]:
-        wrong = list(faults())
-        if not PAGE.is_file() or PAGE.read_text() != made:
-            wrong.append(f"{PAGE.relative_to(TOP)} isn't what bench/children.py writes: run it")
-    elif not PAGE.is_file() or PAGE.read_text() != made:
-        PAGE.write_text(made)
-        print(f"{PAGE.relative_to(TOP)} written from {LINES.relative_to(TOP)}")
-    print("\n".join(f"children: {it}" for it in wrong) or f"the children of {sum(map(len, lines().values()))} kinds are those of the trees and views")
-    return 1 if wrong else 0
+        wrong = list(parsed_faults(Path(sys.argv[2]).resolve() if sys.argv[2:] else proved("typst_show")))
+        return ended(wrong[:40], f"{2 * TEXTS:,} texts by chance, {len(wrong)} faults in their trees and in what views ask for")
+    check = "--check" in sys.argv[1:]
+    write([(PAGE, page())], LINES.relative_to(TOP), check)
+    wrong = [f"children: {it}" for it in faults()] if check else []
+    return ended(wrong, f"the children of {sum(map(len, lines().values()))} kinds, {len(wrong)} faults in their lines and their page")
 
 
 if __name__ == "__main__":

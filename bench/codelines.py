@@ -7,12 +7,11 @@
 
 A line of code isn't empty, isn't a comment, and belongs to no clause and no ghost item: these are for the proof alone.
 """
-import argparse
 import re
 import sys
-from pathlib import Path
 
-TOP = Path(__file__).resolve().parent.parent
+from common import TOP, parser
+
 SIX = "typst_base typst_node typst_linked typst_atoms typst_ast typst_tree".split()
 FOR_PROOF = re.compile(r"(?:requires|ensures|ghost|invariant|decreases)\b")
 STRING = re.compile(r'"(?:[^"\\]|\\.)*"')
@@ -39,10 +38,9 @@ def code_lines(text):
 
 
 def main():
-    parser = argparse.ArgumentParser(description=__doc__, formatter_class=argparse.RawDescriptionHelpFormatter)
-    parser.add_argument("crates", nargs="*", default=SIX)
-    parser.add_argument("--files", action="store_true")
-    given = parser.parse_args()
+    words = parser(__doc__, "--files")
+    words.add_argument("crates", nargs="*", default=SIX)
+    given = words.parse_args()
     all_by_hand = all_written = 0
     for crate in given.crates:
         by_hand = written = 0

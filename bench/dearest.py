@@ -11,9 +11,9 @@ import re
 import sys
 from collections import Counter
 from itertools import pairwise
-from pathlib import Path
 
-TOP = Path(__file__).resolve().parent.parent
+from common import TOP
+
 BORROWS = ("Lts", "Tie")  # that the borrows are right
 PROOF = ("Proof", "Answers")  # that the goals hold
 PART = re.compile(r"\.(Lts|Tie|Proof|Answers|Goals|Given|Reads|Layout|Mir|Code|Kinds|Named|Statement|Met|Invariants|Symbol|TheLink)\b.*")

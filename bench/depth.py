@@ -11,11 +11,9 @@ distance between a depth that a call returns from and one at which a signal ends
 import resource
 import subprocess
 import sys
-from pathlib import Path
 
-TOP = Path(__file__).resolve().parent.parent
-BENCH = TOP / "crates/typst_bench/out/typst_bench"
-SCRIPTS = TOP / "crates/typst_run/out/typst_run"
+from common import proved, ran
+
 STACK = 8 << 20
 # The calls of typst_bench in the table. Each is asked for as `large clone deep`. The last is one of scripts.
 CALLS = ("build", "drop", "number", "is_numbered", "replace", "find", "clone", "compare", "hash", "full_text", "errors_and_warnings")
@@ -31,21 +29,21 @@ def limit():
 def called(name, depth):
     """How a run of one call ends."""
     asked = f"large {name} deep {depth} 1"
-    ran = subprocess.run([BENCH], input=f"{asked}\n".encode(), capture_output=True, preexec_fn=limit, check=False)
-    return ran.returncode, ran.stdout.decode() == f"{asked} right\n"
+    done = ran([proved("typst_bench")], input=f"{asked}\n".encode(), preexec_fn=limit)
+    return done.returncode, done.stdout.decode() == f"{asked} right\n"
 
 
 def shown(depth):
     """How a script that shows a chain ends, by the last line that it prints: the program drops its tree thereafter."""
     script = b"leaf 6 a\n" + b"inner 5 1\n" * depth + b"root\nshow\n"
     wanted = b"\n" + b" " * (2 * depth) + b"6 1 2 1 a\n"
-    ran = subprocess.Popen([SCRIPTS, "script"], stdin=subprocess.PIPE, stdout=subprocess.PIPE, preexec_fn=limit)
-    last = subprocess.Popen(["tail", "-c", str(len(wanted))], stdin=ran.stdout, stdout=subprocess.PIPE)
-    ran.stdout.close()
-    ran.stdin.write(script)
-    ran.stdin.close()
+    begun = subprocess.Popen([proved("typst_run"), "script"], stdin=subprocess.PIPE, stdout=subprocess.PIPE, preexec_fn=limit)
+    last = subprocess.Popen(["tail", "-c", str(len(wanted))], stdin=begun.stdout, stdout=subprocess.PIPE)
+    begun.stdout.close()
+    begun.stdin.write(script)
+    begun.stdin.close()
     is_whole = last.communicate()[0] == wanted
-    return (0 if is_whole else ran.wait()), is_whole
+    return (0 if is_whole else begun.wait()), is_whole
 
 
 def returns(name, depth):
@@ -70,9 +68,6 @@ def reached(name):
 
 
 def main():
-    for program in (BENCH, SCRIPTS):
-        if not program.exists():
-            sys.exit(f"depth: no {program}: `rt run` in the crate's folder makes it")
     for name in sys.argv[1:] or (*CALLS, SHOW):
         depth, is_end = reached(name)
         print(f"| `{name}` | {f'{depth:,}' if is_end else f'more than {depth:,}'} |", flush=True)

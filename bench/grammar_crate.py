@@ -6,17 +6,16 @@
 
 A part of the table is a file of its own, so that no file is long, and parts are proved side by side.
 """
-import argparse
-import sys
 from pathlib import Path
 from textwrap import fill
 
-from grammar_maps import maps_in_code, maps_in_specs
-from grammar_table import TOP, Row, Table
-from grammar_words import WIDTH, arm, camel, flat, head_of, list_in_code, list_in_specs, snake
+from common import TOP, parser, write
+from grammar.maps import maps_in_code, maps_in_specs
+from grammar.table import TABLE, Row, Table
+from grammar.words import WIDTH, arm, camel, flat, head_of, list_in_code, list_in_specs, snake
 
-TABLE = TOP / "crates/grammar.table"
-WRITTEN = f"Written by bench/grammar_crate.py from {TABLE.relative_to(TOP)}: change that and run it."
+SOURCE = TABLE.relative_to(TOP)
+WRITTEN = f"Written by bench/grammar_crate.py from {SOURCE}: change that and run it."
 DECLARED = "Rattle.typst_grammar.specs.declared"
 # The enum of each action's word, by the action.
 WORDS = {"->": "State", "wrap": "SyntaxKind", "eat": "SyntaxKind", "retag": "Map", "unique": "Unique"}
@@ -423,23 +422,12 @@ def files(table):
 
 
 def main():
-    parser = argparse.ArgumentParser(description=__doc__, formatter_class=argparse.RawDescriptionHelpFormatter)
-    parser.add_argument("crate", type=Path)
-    parser.add_argument("--check", action="store_true", help="tell which differ, and change nothing")
-    args = parser.parse_args()
+    words = parser(__doc__, "--check")
+    words.add_argument("crate", type=Path)
+    args = words.parse_args()
     table = Table(TABLE)
-    differing = 0
-    for name, text in files(table):
-        path = args.crate / name
-        if path.is_file() and path.read_text() == text:
-            continue
-        differing += 1
-        if not args.check:
-            path.write_text(text)
-        print(f"{path} {'differs from' if args.check else 'written from'} {TABLE.relative_to(TOP)}")
-    if args.check and differing:
-        sys.exit(f"change {TABLE.relative_to(TOP)}, and run bench/grammar_crate.py")
-    print(f"the {len(table.frames)} states of the syntax are those of {TABLE.relative_to(TOP)}")
+    write(((args.crate / name, text) for name, text in files(table)), SOURCE, args.check)
+    print(f"the {len(table.frames)} states of the syntax are those of {SOURCE}")
 
 
 if __name__ == "__main__":

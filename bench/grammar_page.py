@@ -1,16 +1,15 @@
 #!/usr/bin/env python3
-"""Writes docs/SYNTAX.md from crates/grammar.table and bench/SYNTAX.md.txt.
+"""Writes docs/SYNTAX.md from crates/grammar.table and bench/grammar/SYNTAX.md.txt.
 
     bench/grammar_page.py            writes it, and says whether it changed
     bench/grammar_page.py --check    fails if it isn't what would be written
 """
-import sys
 
-from grammar_table import TOP, Table
+from common import TOP, parser, write
+from grammar.table import TABLE, Table
 
-TABLE = TOP / "crates/grammar.table"
 PAGE = TOP / "docs/SYNTAX.md"
-TEMPLATE = TOP / "bench/SYNTAX.md.txt"
+TEMPLATE = TOP / "bench/grammar/SYNTAX.md.txt"
 NEWLINES = {"go": "Rule: go.", "stop": "Rule: stop.", "context": "Rule: context.", "par": "Rule: par.", "column": "Rule: column."}
 PLAIN = {
     "unexpected": "refuse", "return": "return", "flush": "place white space", "up": "count up", "down": "count down",
@@ -104,11 +103,7 @@ def page(table):
 
 
 def main():
-    text = page(Table(TABLE))
-    is_same = PAGE.is_file() and PAGE.read_text() == text
-    if "--check" in sys.argv[1:] and not is_same:
-        sys.exit(f"{PAGE.relative_to(TOP)} differs: run bench/grammar_page.py")
-    PAGE.write_text(text)
+    write([(PAGE, page(Table(TABLE)))], TABLE.relative_to(TOP), parser(__doc__, "--check").parse_args().check)
     print(f"{PAGE.relative_to(TOP)} is that of {TABLE.relative_to(TOP)}")
 
 

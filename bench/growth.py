@@ -13,13 +13,10 @@ bytes. Where there is no valgrind it says so and compares nothing.
 """
 import re
 import shutil
-import subprocess
 import sys
-from pathlib import Path
 
-TOP = Path(__file__).resolve().parent.parent
-SCRIPTS = TOP / "crates/typst_run/out/typst_run"
-BENCH = TOP / "crates/typst_bench/out/typst_bench"
+from common import ended, parser, proved, ran
+
 # The two numbers of children or of lines, and how often each call is made.
 SIZES, CALLS = (1_000, 16_000), 32
 # The most instructions of a call at each size.
@@ -69,11 +66,11 @@ ASKED = ["--tool=memcheck", "--undef-value-errors=no"], r"frees, ([\d,]+) bytes 
 def counted(words, lines, what=INSTRUCTIONS):
     """How many instructions a program takes on these lines, or how many bytes it asks for."""
     tool, told = what
-    ran = subprocess.run(["valgrind", *tool, *words], input=lines.encode(), capture_output=True, check=False)
-    said = ran.stderr.decode(errors="replace")
+    done = ran(["valgrind", *tool, *words], input=lines.encode())
+    said = done.stderr.decode(errors="replace")
     found = re.search(told, said)
-    if ran.returncode or not found or b"wrong" in ran.stdout:
-        sys.exit(f"growth: {words[0].name} on {lines[:60]!r}: status {ran.returncode}, {ran.stdout[-200:]!r}, {said[-500:]}")
+    if done.returncode or not found or b"wrong" in done.stdout:
+        sys.exit(f"growth: {words[0].name} on {lines[:60]!r}: status {done.returncode}, {done.stdout[-200:]!r}, {said[-500:]}")
     return int(found[1].replace(",", ""))
 
 
@@ -88,10 +85,10 @@ def of_call(name, size, calls=CALLS, what=INSTRUCTIONS):
     """What a call takes in a tree or a text of this size."""
     kind, _, words = name.rpartition(": ")
     if kind == "script":
-        few, many = (counted([SCRIPTS, "script"], script(size, words.split(", "), often), what) for often in (0, calls))
+        few, many = (counted([proved("typst_run"), "script"], script(size, words.split(", "), often), what) for often in (0, calls))
     else:
         line = words if kind == "text" else f"large {words}"
-        few, many = (counted([BENCH], f"{line} {size} {often}\n", what) for often in (0, calls))
+        few, many = (counted([proved("typst_bench")], f"{line} {size} {often}\n", what) for often in (0, calls))
     return (many - few) // calls
 
 
@@ -110,23 +107,20 @@ def rows():
 
 
 def main():
+    is_asked = parser(__doc__, "--found").parse_args().found
     if not shutil.which("valgrind"):
         print("growth: no valgrind, so no instructions are counted")
         return 0
-    for program in (SCRIPTS, BENCH):
-        if not program.exists():
-            sys.exit(f"growth: no {program}: `rt run` in its crate's folder makes it")
     wrong, count = [], 0
     for name, what, bounds, found in rows():
         count += 1
-        if "--found" in sys.argv:
+        if is_asked:
             print(f"{name}: {found} {what}")
             continue
         for size, taken, most in zip(SIZES, found, bounds):
             if taken > most:
                 wrong.append(f"{name}: {taken} {what} at the size {size}, and {most} are the most")
-    print("\n".join([*wrong, f"{count} rows counted at two sizes, {len(wrong)} of the figures above their bound"]))
-    return 1 if wrong else 0
+    return ended(wrong, f"{count} rows counted at two sizes, {len(wrong)} of the figures above their bound")
 
 
 if __name__ == "__main__":

@@ -6,18 +6,14 @@
 
 Each such file has a template in bench/templates, which is the file without its tables. In a template, `@NAME@` is the
 place of the table that `tables` below makes under that name. The tables are laid out as `rt fmt` lays them out.
-bench/bindings.py has the two files of bindings/, which are tables alone.
 """
-import argparse
 import re
 import sys
 import textwrap
 from dataclasses import dataclass
-from pathlib import Path
 
-import bindings
+from common import TOP, parser, write
 
-TOP = Path(__file__).resolve().parent.parent
 TABLE = "crates/kinds.txt"
 TEMPLATES = TOP / "bench/templates"
 WRITTEN = f"Written by bench/kinds.py from {TABLE}: change that and run it."
@@ -149,6 +145,23 @@ def lines(kinds, line):
     return "\n".join(map(line, kinds))
 
 
+def constant(variant):
+    """LINE_COMMENT for LineComment."""
+    return re.sub(r"(?<=[a-z])(?=[A-Z])", "_", variant).upper()
+
+
+def in_c(comment):
+    """A comment as C has it. A sign by which Doxygen and clang tell a command, `\\` or `@`, is escaped, which takes effect in
+    `<code>` and not in backticks."""
+
+    def escaped(code):
+        marked = re.sub(r'[\\@&<>]', r"\\\g<0>", code[1])
+        return f"<code>{marked}</code>" if re.search(r"[\\@]", code[1]) else code[0]
+
+    # A comment in C ends at the first `*/`.
+    return re.sub(r"`([^`]*)`", escaped, comment).replace("/*", "/ *").replace("*/", "* /")
+
+
 # The tables, by their names in templates.
 
 
@@ -168,6 +181,8 @@ def tables_of_kinds(table):
         "variants": lines(kinds, lambda kind: f"    /// {kind.doc}\n    {kind.name},"),
         "paths": lines(kinds, lambda kind: f"    SyntaxKind::{kind.name},"),
         "arms of mode_after": arms(by_mode),
+        "constants": lines(kinds, lambda kind: f"    /** {in_c(kind.doc)} */\n    TYPST_KIND_{constant(kind.name)} = {kind.number},"),
+        "arms of name": lines(kinds, lambda kind: f'            SyntaxKind::{kind.name} => "{kind.printed}",'),
         "printed names": lines(kinds, lambda kind: f'    "{kind.printed}",'),
         "names in specs": ", ".join(kind.imported() for kind in kinds),
         "number_of": cases("number_of", kinds, lambda kind: kind.number),
@@ -249,30 +264,16 @@ def files(table):
         unknown = set(NAME.findall(text)) - made.keys()
         if unknown:
             sys.exit(f"{template.relative_to(TOP)}: no table is called @{'@, @'.join(sorted(unknown))}@")
-        path = TOP / (name if name.startswith("docs/") else f"crates/{name}")
+        path = TOP / (name if name.startswith(("docs/", "bindings/")) else f"crates/{name}")
         yield path, NAME.sub(lambda at: made[at[1]], text)
-    yield TOP / bindings.HEADER, bindings.header(table.kinds, WRITTEN)
-    yield TOP / bindings.RUST, bindings.rust(table.kinds, WRITTEN)
 
 
 def main():
-    parser = argparse.ArgumentParser(description=__doc__, formatter_class=argparse.RawDescriptionHelpFormatter)
-    parser.add_argument("--check", action="store_true", help="tell which differ, and change nothing")
-    check = parser.parse_args().check
+    check = parser(__doc__, "--check").parse_args().check
     table = Table((TOP / TABLE).read_text())
-    count = differing = 0
-    for path, text in files(table):
-        count += 1
-        if path.is_file() and path.read_text() == text:
-            continue
-        differing += 1
-        if not check:
-            path.parent.mkdir(parents=True, exist_ok=True)
-            path.write_text(text)
-        print(f"{path.relative_to(TOP)} {'differs from' if check else 'written from'} {TABLE} and its template")
-    if check and differing:
-        sys.exit(f"{differing} of {count} files differ: change {TABLE} or a template, and run bench/kinds.py")
-    print(f"the {count} tables of {len(table.kinds)} kinds are those of {TABLE}")
+    made = list(files(table))
+    write(made, f"{TABLE} or its template", check)
+    print(f"the {len(made)} tables of {len(table.kinds)} kinds are those of {TABLE}")
 
 
 if __name__ == "__main__":

@@ -20,17 +20,15 @@ The last line is 'N passed, M failed'. Each check, each test and each program, s
 import os
 import re
 import shlex
-import subprocess
 import sys
 import tempfile
 import time
 from concurrent.futures import ThreadPoolExecutor, as_completed
-from itertools import zip_longest
 from pathlib import Path
 
 import unproved
+from common import TOP, first_other, parser, ran
 
-TOP = Path(__file__).resolve().parent.parent
 CRATES, EXAMPLES = TOP / "crates", TOP / "examples"
 LANES = min(4, len(os.sched_getaffinity(0)))
 # `rt try` as it is called here. Where a machine has much to do, a program may take longer than the minute that it gets otherwise.
@@ -46,12 +44,6 @@ all memory; the answers of typst_run; words, pages and inputs of ./show; refused
 crate; bounds of work."""
 
 
-def ran(words, folder, stdin=None):
-    """What a command gives. Without a file its standard input is empty."""
-    with open(stdin or os.devnull, "rb") as lines:
-        return subprocess.run(words, cwd=folder, stdin=lines, capture_output=True, check=False)
-
-
 def told(done):
     """The end of what a command printed, for a part that failed."""
     return (done.stdout + done.stderr).decode(errors="replace").strip()[-2000:]
@@ -59,13 +51,13 @@ def told(done):
 
 def check(words):
     """A check of bench/seconds."""
-    done = ran(shlex.split(words), TOP)
+    done = ran(shlex.split(words), cwd=TOP)
     return int(done.returncode == 0), int(done.returncode != 0), told(done)
 
 
 def tests(name):
     """The tests of a crate. If they can't be built or don't end, that counts as one that failed."""
-    done = ran([*TRY, "--test"], CRATES / name)
+    done = ran([*TRY, "--test"], cwd=CRATES / name)
     said = done.stdout.decode(errors="replace")
     ends = [(test, end) for test, end in re.findall(r"^test (\S+) \.\.\. (\w+)$", said, re.M) if not test.startswith(WITH_ALL_MEMORY)]
     failed = [test for test, end in ends if end != "ok"]
@@ -78,39 +70,37 @@ def program(name):
     """A program that gets the words of its `args`, and must print its `stdout` and end with its `status`. If it reads files, it runs in
     the folder `data`. `rt try` runs none there, so of such a program nothing is tested."""
     folder = CRATES / name
-    stdin = folder / "stdin" if (folder / "stdin").exists() else None
+    given = (folder / "stdin").read_bytes() if (folder / "stdin").exists() else b""
     words = (folder / "args").read_text().split() if (folder / "args").exists() else []
     status = int((folder / "status").read_text()) if (folder / "status").exists() else 0
     if not (folder / "data").is_dir():
-        return compared(ran([*TRY, "--", *words], folder, stdin), folder / "stdout", status)
+        return compared(ran([*TRY, "--", *words], cwd=folder, input=given), folder / "stdout", status)
     with tempfile.TemporaryDirectory() as room:
         made = Path(room, name)
         try:
             unproved.build(folder, made)
         except unproved.Unbuilt as error:
             return 0, 1, str(error)
-        return compared(ran([made, *words], folder / "data", stdin), folder / "stdout", status)
+        return compared(ran([made, *words], cwd=folder / "data", input=given), folder / "stdout", status)
 
 
 def compared(done, wanted, status=0):
     """Whether a command has printed what is in a file, and ended with this status."""
     text = wanted.read_bytes()
     is_right = done.stdout == text and done.returncode == status
-    lines = zip_longest(done.stdout.splitlines(), text.splitlines())
-    differing = next(((at, *both) for at, both in enumerate(lines, 1) if both[0] != both[1]), None)
-    how = f"line {differing[0]} is {differing[1]!r}, and {wanted.relative_to(TOP)} has {differing[2]!r}\n" if differing else ""
-    return int(is_right), int(not is_right), f"status {done.returncode}, and {status} is wanted\n{how}{told(done)}"
+    how = f"{wanted.relative_to(TOP)}: {first_other(done.stdout, text)}; the status is {done.returncode}, and should be {status}"
+    return int(is_right), int(not is_right), f"{how}\n{told(done)}"
 
 
 def scripts(ending):
     """The scripts or the looks of examples/, one by one. The first makes the build."""
-    done = [compared(ran([STARTERS[ending], it], TOP), it.with_suffix(".stdout")) for it in sorted(EXAMPLES.glob(f"*{ending}"))]
+    done = [compared(ran([STARTERS[ending], it], cwd=TOP), it.with_suffix(".stdout")) for it in sorted(EXAMPLES.glob(f"*{ending}"))]
     return sum(it[0] for it in done), sum(it[1] for it in done) or int(not done), "".join(it[2] for it in done if it[1])
 
 
 def mistake():
     """The text with a mistake and the edit that mends it, by ./show."""
-    done = ran(["./show", "examples/mistake.typ", "--edits", "examples/mistake.edits"], TOP)
+    done = ran(["./show", "examples/mistake.typ", "--edits", "examples/mistake.edits"], cwd=TOP)
     return compared(done, EXAMPLES / "mistake.stdout")
 
 
@@ -125,7 +115,7 @@ def parts():
         yield f"examples/*{ending}", scripts, ending
     for name in sorted(it.name for it in CRATES.glob("example_*")):
         yield name, program, name
-    for words in ran(["bench/seconds", "--list"], TOP).stdout.decode().splitlines() or ["bench/seconds --list"]:
+    for words in ran(["bench/seconds", "--list"], cwd=TOP).stdout.decode().splitlines() or ["bench/seconds --list"]:
         yield words, check, words
 
 
@@ -136,6 +126,7 @@ def timed(call, given):
 
 
 def main():
+    parser(__doc__).parse_args()
     began, passed, failed, lost = time.monotonic(), 0, 0, []
     with ThreadPoolExecutor(LANES) as pool:
         running = {pool.submit(timed, call, given): name for name, call, *given in parts()}

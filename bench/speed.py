@@ -38,7 +38,8 @@ from functools import cache
 from itertools import accumulate
 from pathlib import Path
 
-TOP = Path(__file__).resolve().parent.parent
+from common import TOP, ran
+
 CRATE = TOP / "crates/typst_bench"
 PROGRAM = CRATE / "out/typst_bench"
 TURNS = 7
@@ -408,7 +409,7 @@ def timed_build(program):
     """What is timed: the commit of the proved build, or the program that takes its place."""
     if program != PROGRAM:
         return str(program)
-    commit = subprocess.run(["git", "rev-parse", "--short", "HEAD"], cwd=TOP, capture_output=True, text=True, check=False)
+    commit = ran(["git", "rev-parse", "--short", "HEAD"], cwd=TOP, text=True)
     return f"Commit {commit.stdout.strip()}"
 
 
@@ -425,7 +426,7 @@ def small():
 
 def is_current():
     """Whether there is a proved build and no source is newer than it. `rt run` would prove all libraries again after an `rt ci`."""
-    return subprocess.run([TOP / "bench/start", "--is-current", CRATE.name], check=False).returncode == 0
+    return ran([TOP / "bench/start", "--is-current", CRATE.name]).returncode == 0
 
 
 def proved():
@@ -433,8 +434,7 @@ def proved():
     if is_current():
         return PROGRAM
     print(f"speed: there is no current build of {CRATE.name}, so rt proves it and its libraries", file=sys.stderr, flush=True)
-    with open(CRATE / "stdin", "rb") as lines:
-        made = subprocess.run(["rt", "run"], cwd=CRATE, stdin=lines, capture_output=True, text=True, check=False)
+    made = ran(["rt", "run"], cwd=CRATE, input=(CRATE / "stdin").read_text(), text=True)
     if made.returncode or not PROGRAM.exists():
         sys.exit(f"speed: `rt run` in {CRATE} failed: {made.stdout[-500:]}{made.stderr[-500:]}")
     return PROGRAM

@@ -24,7 +24,8 @@ import time
 from contextlib import suppress
 from pathlib import Path
 
-TOP = Path(__file__).resolve().parent.parent
+from common import TOP, ran
+
 NO_RT = "there is no command rt: install the Rattle kit that README.md names, and put the folder of rt into PATH"
 # A test is a call of one of these functions, which stop the program if what a proof would show doesn't hold.
 NAME = r"rattle-(?:llvm-checks::\w+|try::site-\d+)"
@@ -51,9 +52,9 @@ def kit():
 
 def run(*words):
     """Runs a command of the kit."""
-    ran = subprocess.run(words, capture_output=True, text=True, check=False)
-    if ran.returncode:
-        raise Unbuilt(ended(words[0].name, ran.returncode, ran.stdout[-500:] + ran.stderr[-500:]))
+    done = ran(words, text=True)
+    if done.returncode:
+        raise Unbuilt(ended(words[0].name, done.returncode, done.stdout[-500:] + done.stderr[-500:]))
 
 
 def ended(name, status, said):
@@ -65,7 +66,7 @@ def ended(name, status, said):
 
 def other_kit():
     """What is said where this isn't the kit that README.md names."""
-    here = subprocess.run(["rt", "version"], capture_output=True, text=True, check=False).stdout.split(" ")[0].strip()
+    here = ran(["rt", "version"], text=True).stdout.split(" ")[0].strip()
     named = re.search(r"rattle-kit-\w+", (TOP / "README.md").read_text())
     return f"; this is {here}, and README.md names {named[0]}" if named and named[0] != here else ""
 

@@ -24,7 +24,7 @@ const SHORT_BUFFER: u32 = 17;
 pub(crate) struct Handle(raw::Session);
 
 // SAFETY: a session is used by one thread at a time, since each call borrows the handle and a handle isn't `Sync`. What it
-// points to belongs to it alone: sessions share nothing, and the library has no variables of its own. (bench/door.py looks
+// points to belongs to it alone: sessions share nothing, and the library has no variables of its own. (bench/gate/door.py looks
 // at the archive.) Its memory comes from `malloc`, which serves each thread.
 unsafe impl Send for Handle {}
 
