@@ -86,6 +86,7 @@ pub fn mode_of(state: State) -> Option<Mode>
         State::Tuple => Some(Mode::Code),
         State::TupleFirst => Some(Mode::Code),
         State::TupleOne => Some(Mode::Operator),
+        State::TupleMore => Some(Mode::Code),
         State::TupleItem => Some(Mode::Code),
         State::TupleComma => Some(Mode::Operator),
         State::TupleClose => Some(Mode::Operator),

@@ -2,7 +2,7 @@
 //! The rows of patterns.
 ghost use Rattle.std.specs.Prelude.{◌≡◌};
 ghost use Rattle.typst_grammar.specs.Row.{rows_of};
-ghost use Rattle.typst_grammar.specs.PatternsRows.{element, element_colon, element_colon_rest1, element_colon_rest2, leaf, leaf_check, pattern, pattern_rest1, pattern_rest2, tuple, tuple_close, tuple_comma, tuple_first, tuple_item, tuple_one};
+ghost use Rattle.typst_grammar.specs.PatternsRows.{element, element_colon, element_colon_rest1, element_colon_rest2, leaf, leaf_check, pattern, pattern_rest1, pattern_rest2, tuple, tuple_close, tuple_comma, tuple_first, tuple_item, tuple_more, tuple_one};
 
 use crate::expectation::Expectation;
 use crate::row::{Action, Call, Condition, Newline, Row, Take};
@@ -168,17 +168,38 @@ const ROW_14: Row = Row {
     call: None,
 };
 
-/// `| -> tuple.comma`
+/// `| expected comma; -> tuple.more`
 const ROW_15: Row = Row {
     condition: Condition::Always,
-    before: &[Action::Goto(State::TupleComma)],
+    before: &[
+        Action::Expected(Expectation::Comma),
+        Action::Goto(State::TupleMore),
+    ],
+    take: Take::Nothing,
+    after: &[],
+    call: None,
+};
+
+/// `| eat; -> tuple.item`
+const ROW_16: Row = Row {
+    condition: Condition::Always,
+    before: &[],
+    take: Take::Eat,
+    after: &[Action::Goto(State::TupleItem)],
+    call: None,
+};
+
+/// `| -> tuple.item`
+const ROW_17: Row = Row {
+    condition: Condition::Always,
+    before: &[Action::Goto(State::TupleItem)],
     take: Take::Nothing,
     after: &[],
     call: None,
 };
 
 /// `| -> tuple.comma; element`
-const ROW_16: Row = Row {
+const ROW_18: Row = Row {
     condition: Condition::Always,
     before: &[Action::Goto(State::TupleComma)],
     take: Take::Nothing,
@@ -193,7 +214,7 @@ const ROW_16: Row = Row {
 };
 
 /// `| expected comma; -> tuple.item`
-const ROW_17: Row = Row {
+const ROW_19: Row = Row {
     condition: Condition::Always,
     before: &[
         Action::Expected(Expectation::Comma),
@@ -204,17 +225,8 @@ const ROW_17: Row = Row {
     call: None,
 };
 
-/// `| eat; -> tuple.item`
-const ROW_18: Row = Row {
-    condition: Condition::Always,
-    before: &[],
-    take: Take::Eat,
-    after: &[Action::Goto(State::TupleItem)],
-    call: None,
-};
-
 /// `| unclosed; wrap Destructuring; return`
-const ROW_19: Row = Row {
+const ROW_20: Row = Row {
     condition: Condition::Always,
     before: &[
         Action::Unclosed,
@@ -227,7 +239,7 @@ const ROW_19: Row = Row {
 };
 
 /// `| eat; wrap Destructuring; return`
-const ROW_20: Row = Row {
+const ROW_21: Row = Row {
     condition: Condition::Always,
     before: &[],
     take: Take::Eat,
@@ -236,7 +248,7 @@ const ROW_20: Row = Row {
 };
 
 /// `| -> element.colon; pattern`
-const ROW_21: Row = Row {
+const ROW_22: Row = Row {
     condition: Condition::Always,
     before: &[Action::Goto(State::ElementColon)],
     take: Take::Nothing,
@@ -251,7 +263,7 @@ const ROW_21: Row = Row {
 };
 
 /// `| eat; -> sink`
-const ROW_22: Row = Row {
+const ROW_23: Row = Row {
     condition: Condition::Always,
     before: &[],
     take: Take::Eat,
@@ -260,7 +272,7 @@ const ROW_22: Row = Row {
 };
 
 /// `| return`
-const ROW_23: Row = Row {
+const ROW_24: Row = Row {
     condition: Condition::Always,
     before: &[Action::Return],
     take: Take::Nothing,
@@ -269,7 +281,7 @@ const ROW_23: Row = Row {
 };
 
 /// `if only ident | eat; -> element.colon.rest1; pattern`
-const ROW_24: Row = Row {
+const ROW_25: Row = Row {
     condition: Condition::Only(SyntaxKind::Ident),
     before: &[],
     take: Take::Eat,
@@ -284,7 +296,7 @@ const ROW_24: Row = Row {
 };
 
 /// `| wrong identifier; eat; -> element.colon.rest2; pattern`
-const ROW_25: Row = Row {
+const ROW_26: Row = Row {
     condition: Condition::Always,
     before: &[Action::Wrong(Expectation::Identifier)],
     take: Take::Eat,
@@ -299,7 +311,7 @@ const ROW_25: Row = Row {
 };
 
 /// `| wrap Named; return`
-const ROW_26: Row = Row {
+const ROW_27: Row = Row {
     condition: Condition::Always,
     before: &[Action::Wrap(SyntaxKind::Named), Action::Return],
     take: Take::Nothing,
@@ -420,7 +432,46 @@ pub(crate) fn tuple_one(class: Class) -> &'static [Row]
         | Class::RightBracket
         | Class::RightParen
         | Class::Semicolon => &[ROW_12, ROW_13, ROW_14],
+        Class::Comma => &[ROW_12, ROW_13, ROW_16],
         _ => &[ROW_12, ROW_13, ROW_15],
+    }
+}
+
+/// What may follow the first item of a pattern if no comma does.
+pub(crate) fn tuple_more(class: Class) -> &'static [Row]
+    ensures { rows_of result.now ≡ tuple_more class }
+{
+    match class {
+        Class::End
+        | Class::RightBrace
+        | Class::RightBracket
+        | Class::RightParen
+        | Class::Semicolon => &[ROW_14],
+        Class::Label
+        | Class::Raw
+        | Class::Dollar
+        | Class::LeftBrace
+        | Class::LeftBracket
+        | Class::LeftParen
+        | Class::Dots
+        | Class::Underscore
+        | Class::Ident
+        | Class::Str
+        | Class::Literal
+        | Class::Constant
+        | Class::Let
+        | Class::Set
+        | Class::Show
+        | Class::Context
+        | Class::If
+        | Class::For
+        | Class::While
+        | Class::Break
+        | Class::Continue
+        | Class::Return
+        | Class::Import
+        | Class::Include => &[ROW_17],
+        _ => &[ROW_10],
     }
 }
 
@@ -457,7 +508,7 @@ pub(crate) fn tuple_item(class: Class) -> &'static [Row]
         | Class::Continue
         | Class::Return
         | Class::Import
-        | Class::Include => &[ROW_16],
+        | Class::Include => &[ROW_18],
         _ => &[ROW_10],
     }
 }
@@ -472,8 +523,8 @@ pub(crate) fn tuple_comma(class: Class) -> &'static [Row]
         | Class::RightBracket
         | Class::RightParen
         | Class::Semicolon => &[ROW_9],
-        Class::Comma => &[ROW_18],
-        _ => &[ROW_17],
+        Class::Comma => &[ROW_16],
+        _ => &[ROW_19],
     }
 }
 
@@ -482,8 +533,8 @@ pub(crate) fn tuple_close(class: Class) -> &'static [Row]
     ensures { rows_of result.now ≡ tuple_close class }
 {
     match class {
-        Class::RightParen => &[ROW_20],
-        _ => &[ROW_19],
+        Class::RightParen => &[ROW_21],
+        _ => &[ROW_20],
     }
 }
 
@@ -514,8 +565,8 @@ pub(crate) fn element(class: Class) -> &'static [Row]
         | Class::Continue
         | Class::Return
         | Class::Import
-        | Class::Include => &[ROW_21],
-        Class::Dots => &[ROW_22],
+        | Class::Include => &[ROW_22],
+        Class::Dots => &[ROW_23],
         _ => &[],
     }
 }
@@ -525,8 +576,8 @@ pub(crate) fn element_colon(class: Class) -> &'static [Row]
     ensures { rows_of result.now ≡ element_colon class }
 {
     match class {
-        Class::Colon => &[ROW_24, ROW_25],
-        _ => &[ROW_23],
+        Class::Colon => &[ROW_25, ROW_26],
+        _ => &[ROW_24],
     }
 }
 
@@ -534,26 +585,26 @@ pub(crate) fn element_colon(class: Class) -> &'static [Row]
 pub(crate) fn pattern_rest1(_class: Class) -> &'static [Row]
     ensures { rows_of result.now ≡ pattern_rest1 _class }
 {
-    &[ROW_23]
+    &[ROW_24]
 }
 
 /// The rest of a row of `pattern`, once the frame that it opened has returned.
 pub(crate) fn pattern_rest2(_class: Class) -> &'static [Row]
     ensures { rows_of result.now ≡ pattern_rest2 _class }
 {
-    &[ROW_23]
+    &[ROW_24]
 }
 
 /// The rest of a row of `element.colon`, once the frame that it opened has returned.
 pub(crate) fn element_colon_rest1(_class: Class) -> &'static [Row]
     ensures { rows_of result.now ≡ element_colon_rest1 _class }
 {
-    &[ROW_26]
+    &[ROW_27]
 }
 
 /// The rest of a row of `element.colon`, once the frame that it opened has returned.
 pub(crate) fn element_colon_rest2(_class: Class) -> &'static [Row]
     ensures { rows_of result.now ≡ element_colon_rest2 _class }
 {
-    &[ROW_26]
+    &[ROW_27]
 }

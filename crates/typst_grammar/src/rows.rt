@@ -306,6 +306,8 @@ pub enum State {
     TupleFirst,
     /// What may follow the first item of a pattern.
     TupleOne,
+    /// What may follow the first item of a pattern if no comma does.
+    TupleMore,
     /// An item of a pattern, if another one comes.
     TupleItem,
     /// The comma behind an item of a pattern.
@@ -655,6 +657,7 @@ pub fn rows(state: State, class: Class) -> &'static [Row]
         State::Tuple => patterns_rows::tuple(class),
         State::TupleFirst => patterns_rows::tuple_first(class),
         State::TupleOne => patterns_rows::tuple_one(class),
+        State::TupleMore => patterns_rows::tuple_more(class),
         State::TupleItem => patterns_rows::tuple_item(class),
         State::TupleComma => patterns_rows::tuple_comma(class),
         State::TupleClose => patterns_rows::tuple_close(class),
