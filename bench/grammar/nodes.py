@@ -72,7 +72,7 @@ def tree_of(path):
 NO_NAME = re.compile(r"expected (?:identifier|pattern), found keyword `(\w+)`")
 HINTS = {
     "unexpected end of block comment": ["consider escaping the `*` with a backslash or opening the block comment with `/*`"],
-    "the character `#` is not valid in code": ["the preceding hash is causing this to parse in code mode", "try escaping the preceding hash: `\\#`"],
+    "the character `#` is not valid in code": ["this is code already: try removing the hash", "to write a hash as text, escape it: `\\#`"],
     "the character `&` is not valid in code": ["in Typst, `and` is used for logical AND"],
     "the character `|` is not valid in code": ["in Typst, `or` is used for logical OR"],
 }

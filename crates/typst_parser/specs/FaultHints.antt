@@ -11,7 +11,7 @@ use Rattle.typst_grammar.specs.Expectations.{expectation_what}
 -- the hints at a character that isn't valid in code: `#`, `&` or `|`
 abbrev pub character_hints : List ℕ → List (List ℕ)
 character_hints text =
-    if is_byte 35 text then codes "the preceding hash is causing this to parse in code mode" ∷ codes "try escaping the preceding hash: `\\#`" ∷ []
+    if is_byte 35 text then codes "this is code already: try removing the hash" ∷ codes "to write a hash as text, escape it: `\\#`" ∷ []
     else if is_byte 38 text then codes "in Typst, `and` is used for logical AND" ∷ []
     else if is_byte 124 text then codes "in Typst, `or` is used for logical OR" ∷ []
     else []

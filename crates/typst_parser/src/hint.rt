@@ -39,8 +39,8 @@ fn character_hints(alloc: Global, text: &str) -> Result<Vec<String>, AllocError>
     match text.as_bytes() {
         b"#" => both(
             alloc,
-            "the preceding hash is causing this to parse in code mode",
-            "try escaping the preceding hash: `\\#`",
+            "this is code already: try removing the hash",
+            "to write a hash as text, escape it: `\\#`",
         ),
         b"&" => only(alloc, "in Typst, `and` is used for logical AND"),
         b"|" => only(alloc, "in Typst, `or` is used for logical OR"),
