@@ -89,6 +89,8 @@ class Maker:
             makers += [
                 lambda: f"*{self.word()} {self.word()}*",
                 lambda: f"_{self.word()} *{self.word()}*_",
+                lambda: f"_{self.word()} #{self.atom(depth - 1)}{self.chance.choice('.;!,')}_",
+                lambda: f"*#{self.atom(depth - 1)}{self.chance.choice('.;:?')}*",
                 lambda: f"[{self.line(depth - 1)}]",
                 lambda: f"@ref[{self.line(depth - 1)}]",
                 lambda: self.equation(depth - 1),
