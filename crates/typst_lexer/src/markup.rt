@@ -15,7 +15,7 @@ use crate::shared::{enter_comment, enter_escape, is_label_start};
 use crate::token::TokenKind;
 
 /// Whether nothing is before the place.
-fn is_start(behind: Behind) -> bool
+pub fn is_start(behind: Behind) -> bool
     ensures { result ≡ is_start behind }
 {
     matches!(behind, Behind::Start)
@@ -223,7 +223,7 @@ fn is_sign(c: char) -> bool
 }
 
 /// Whether text goes on over the character, whatever comes next.
-fn is_plain(c: char) -> bool
+pub fn is_plain(c: char) -> bool
     ensures { result ≡ is_plain c }
 {
     !(c.is_whitespace() || is_sign(c))
