@@ -1,5 +1,5 @@
 -- Where a token goes on over a byte of ASCII, or ends before it, without a look at the rules.
-use Rattle.std.proofs.Common.{◌≡◌, ℕ, ◌<◌, nat_lt, Bool, true, false, List, [], ◌∷◌, refl, ap, ◌∙◌, arith}
+use Rattle.std.proofs.Common.{◌≡◌, ℕ, ◌<◌, nat_lt, Bool, true, false, List, [], ◌∷◌, refl, sym, ap, ◌∙◌, arith}
 use Rattle.std.specs.Prelude.{◌&&◌, ◌||◌, ◌==◌, not, codes, Option, Some, None, if◌then◌else◌}
 use Rattle.std.specs.Char.{is_ascii_alphanumeric, is_ascii_digit, is_whitespace}
 use Rattle.std.specs.Char.Unicode.Rows.{in_ranges}
@@ -11,7 +11,7 @@ use Rattle.ucd_derived.specs.XidContinueRanges.{xid_continue_ranges}
 use Rattle.typst_lexer.specs.declared.place.Behind.{Behind}
 use Rattle.typst_lexer.specs.declared.place.Place.{Place}
 use Rattle.typst_lexer.specs.declared.place.Place.TheVariants as place
-use Rattle.typst_lexer.specs.Bytes.{behind_byte, ends_at, ends_before, goes_over, is_commented, is_quoted, is_text_end}
+use Rattle.typst_lexer.specs.Bytes.{behind_byte, ends_at, ends_before, goes_over, is_commented, is_quoted, is_raw, is_text_end}
 use Rattle.typst_lexer.specs.Characters.{begins_with, is_name, is_white}
 use Rattle.typst_lexer.specs.Classes.{begins_char, ends_line, first_char, is_blank, is_name_part, is_newline}
 use Rattle.typst_lexer.specs.Clusters.{joins, with_char}
@@ -52,6 +52,9 @@ name_low b h = grind (arith, nat_tests)
 low_from : (b : ℕ) → nat_lt b 128 ≡ true → b < 128
 low_from b h = grind (arith, nat_tests)
 
+zero_from : (n : ℕ) → (n == 0) ≡ true → n ≡ 0
+zero_from n h = grind (arith, nat_tests)
+
 name_over : (b : ℕ) (bs : List ℕ) (low : b < 128) → is_name b ≡ true → begins_char is_name_part (b ∷ bs) ≡ true
 name_over b bs low h = begins_is b bs low is_name_part ∙ name_part_is b low ∙ h
 
@@ -81,6 +84,11 @@ over_is place.Str b bs h =
 over_is place.LineComment b bs h =
     let low = low_from b (both _ _ h).0 in
     (low, skip _ _ _ (begins_is b bs low is_newline ∙ has_not is_commented is_newline b low h refl), has_not is_commented (λ c. c == 46) b low h refl, refl)
+over_is (place.RawText n m) b bs h =
+    let is = both (m == 0) (is_raw b) h in
+    let low = low_from b (both _ _ is.1).0 in
+    let tick : begins_with (codes "`") (b ∷ bs) ≡ false = has_not is_raw (λ c. begins_with (codes "`") (c ∷ bs)) b low is.1 refl in
+    (low, ap (λ (p : Place). Some p) (skip _ _ _ tick ∙ ap (λ (k : ℕ). place.RawText n k) (sym (zero_from m is.0))), has_not is_raw (λ c. c == 46) b low is.1 refl, refl)
 over_is _ b bs h = cc
 
 -- a token goes on over such a byte, and may end after it

@@ -1,6 +1,6 @@
 -- Runs over bytes that a token goes on over without a change.
-use Rattle.std.proofs.Common.{◌≡◌, ℕ, zero, suc, get_or, ◌+◌, ◌-◌, ◌<◌, ◌≤◌, Bool, true, List, length, take, drop, refl, sym, ap, ◌∙◌, arith}
-use Rattle.std.specs.Prelude.{Some, None, if◌then◌else◌}
+use Rattle.std.proofs.Common.{◌≡◌, ℕ, zero, suc, get_or, ◌+◌, ◌-◌, ◌<◌, ◌≤◌, Bool, true, false, List, length, take, drop, refl, sym, ap, ◌∙◌, arith}
+use Rattle.std.specs.Prelude.{◌&&◌, ◌==◌, Some, None, if◌then◌else◌}
 use Rattle.std.specs.List.{take_while}
 use Rattle.std.proofs.lemmas.List.{drop_more, get_or-drop}
 use Rattle.std.proofs.lemmas.List.Folds.{length-prefix_len}
@@ -10,7 +10,7 @@ use Rattle.typst_lexer.specs.declared.place.Behind.{Behind}
 use Rattle.typst_lexer.specs.declared.place.Place.{Place}
 use Rattle.typst_lexer.specs.declared.place.Place.TheVariants as place
 use Rattle.typst_lexer.specs.declared.place.Reading.{Reading}
-use Rattle.typst_lexer.specs.Bytes.{behind_byte, easy_len, ends_at, goes_over, is_commented, is_quoted}
+use Rattle.typst_lexer.specs.Bytes.{behind_byte, easy_len, ends_at, goes_over, is_commented, is_quoted, is_raw}
 use Rattle.typst_lexer.specs.Characters.{is_name, is_white}
 use Rattle.typst_lexer.specs.Letters.{is_letter}
 use Rattle.typst_lexer.specs.Machine.{accepts, may_end, stay}
@@ -30,6 +30,11 @@ easy_at place.Name bytes j h = passes is_name bytes j h
 easy_at place.FieldName bytes j h = passes is_name bytes j h
 easy_at place.Str bytes j h = passes is_quoted bytes j h
 easy_at place.LineComment bytes j h = passes is_commented bytes j h
+easy_at (place.RawText n m) bytes j h = by_run (m == 0) h
+  where
+    by_run : (v : Bool) → j < (if v then length (take_while is_raw bytes) else 0) → (v && is_raw (get_or bytes j 0)) ≡ true
+    by_run true h = passes is_raw bytes j h
+    by_run false h = absurd (omega (arith, h))
 easy_at _ bytes j h = absurd (omega (arith, h))
 
 -- the run with one byte more

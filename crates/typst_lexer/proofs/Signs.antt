@@ -14,8 +14,10 @@ use Rattle.typst_lexer.specs.declared.token.TokenKind.TheVariants as kinds
 use Rattle.typst_lexer.specs.Bytes.{is_alone, is_bracket}
 use Rattle.typst_lexer.specs.Characters.{begins, begins_with, is_name_start}
 use Rattle.typst_lexer.specs.Classes as classes
-use Rattle.typst_lexer.specs.Classes.{begins_char}
+use Rattle.typst_lexer.specs.Classes.{begins_char, is_blank, is_newline}
 use Rattle.typst_lexer.specs.Code.{enter_bracket, enter_code, enter_expression, enter_one, enter_operation, enter_operator, enter_operator_sign, enter_word, is_based, is_field, is_fraction, is_minus}
+use Rattle.typst_lexer.specs.Letters.{is_letter}
+use Rattle.typst_lexer.specs.Markup.{enter_content, enter_markup, is_link_start, is_ref_start, is_start, shorthand_len}
 use Rattle.typst_lexer.specs.Math.{enter_first, enter_math_sign, enter_shorthand, is_root, is_shorthand_of_four, is_shorthand_of_one, is_shorthand_of_three, is_shorthand_of_two}
 use Rattle.typst_lexer.specs.Shared.{enter_comment, is_label_start}
 use Rattle.typst_lexer.proofs.Ascii.{all_below, begins_is, has, has_not, pick, skip}
@@ -191,3 +193,50 @@ math_char (b ∷ bs) h =
 
     no_sign : (p : ℕ → Bool) → all_below (λ c. not (is_ascii_alphanumeric c) || not (p c)) 128 ≡ true → p b ≡ false
     no_sign p ok = has_not is_ascii_alphanumeric p b low h ok
+
+letter_low : (b : ℕ) → is_letter b ≡ true → b < 128
+letter_low b h = grind (arith, nat_tests)
+
+-- text that begins with a letter
+pub markup_text : (k : Behind) (w : List ℕ) → begins is_letter w ≡ true → enter_markup k w ≡ place.Text
+markup_text k [] h = cc
+markup_text k (b ∷ bs) h =
+    skip _ _ _ (and_left _ _ (begins_is b bs low is_newline ∙ no_text is_newline refl))
+    ∙ skip _ _ _ (begins_is b bs low is_blank ∙ no_text is_blank refl)
+    ∙ skip _ _ _ (and_right (is_start k) _ (no_text (λ c. begins_with (codes "#!") (c ∷ bs)) refl))
+    ∙ ap (λ (o : Option Place). or_place o (enter_content k (b ∷ bs))) no_mark
+    ∙ skip _ _ _ (no_text (λ c. begins_with (codes "`") (c ∷ bs)) refl)
+    ∙ skip _ _ _ (no_text (λ c. begins_with (codes "\\") (c ∷ bs)) refl)
+    ∙ skip _ _ _ (no_text (λ c. is_link_start (c ∷ bs)) refl)
+    ∙ skip _ _ _ (no_text (λ c. is_label_start (c ∷ bs)) refl)
+    ∙ skip _ _ _ (no_text (λ c. is_ref_start (c ∷ bs)) refl)
+    ∙ skip _ _ _ (no_text (λ c. nat_lt 0 (shorthand_len (c ∷ bs))) refl)
+    ∙ skip _ _ _ (and_left _ _ (no_text (λ c. begins_with (codes "*") (c ∷ bs)) refl))
+    ∙ skip _ _ _ (and_left _ _ (no_text (λ c. begins_with (codes "_") (c ∷ bs)) refl))
+    ∙ skip _ _ _ (no_text (λ c. begins_with (codes "#") (c ∷ bs)) refl)
+    ∙ skip _ _ _ (no_text (λ c. begins_with (codes "[") (c ∷ bs)) refl)
+    ∙ skip _ _ _ (no_text (λ c. begins_with (codes "]") (c ∷ bs)) refl)
+    ∙ skip _ _ _ (no_text (λ c. begins_with (codes "'") (c ∷ bs) || begins_with (codes "\"") (c ∷ bs)) refl)
+    ∙ skip _ _ _ (no_text (λ c. begins_with (codes "$") (c ∷ bs)) refl)
+    ∙ skip _ _ _ (no_text (λ c. begins_with (codes ":") (c ∷ bs)) refl)
+    ∙ skip _ _ _ (no_text (λ c. begins_with (codes "=") (c ∷ bs)) refl)
+    ∙ skip _ _ _ (and_left _ _ (no_text (λ c. begins_with (codes "-") (c ∷ bs)) refl))
+    ∙ skip _ _ _ (and_left _ _ (no_text (λ c. begins_with (codes "+") (c ∷ bs)) refl))
+    ∙ skip _ _ _ (and_left _ _ (no_text (λ c. begins_with (codes "/") (c ∷ bs)) refl))
+    ∙ skip _ _ _ (no_text is_ascii_digit refl)
+  where
+    low : b < 128
+    low = letter_low b h
+
+    no_text : (p : ℕ → Bool) → all_below (λ c. not (is_letter c) || not (p c)) 128 ≡ true → p b ≡ false
+    no_text p ok = has_not is_letter p b low h ok
+
+    no_mark : enter_comment (b ∷ bs) ≡ None
+    no_mark =
+        skip _ _ _ (no_text (λ c. begins_with (codes "//") (c ∷ bs)) refl)
+        ∙ skip _ _ _ (no_text (λ c. begins_with (codes "/*") (c ∷ bs)) refl)
+        ∙ skip _ _ _ (no_text (λ c. begins_with (codes "*/") (c ∷ bs)) refl)
+
+    and_right : (u v : Bool) → v ≡ false → (u && v) ≡ false
+    and_right true v e = e
+    and_right false v e = refl

@@ -35,6 +35,10 @@ is_quoted b = nat_lt b 128 && not ((b == 34) || (b == 92) || (b == 46))
 abbrev pub is_commented : ℕ → Bool
 is_commented b = nat_lt b 128 && not (is_newline b || (b == 46))
 
+-- a byte of raw text, but no dot
+abbrev pub is_raw : ℕ → Bool
+is_raw b = nat_lt b 128 && not ((b == 96) || (b == 46))
+
 -- A token inside of this goes on over the byte, and is inside of the same after it.
 abbrev pub goes_over : Place → ℕ → Bool
 goes_over place.Text b = is_letter b
@@ -43,6 +47,7 @@ goes_over place.Name b = is_name b
 goes_over place.FieldName b = is_name b
 goes_over place.Str b = is_quoted b
 goes_over place.LineComment b = is_commented b
+goes_over (place.RawText n run) b = (run == 0) && is_raw b
 goes_over _ b = false
 
 -- how many bytes from the front on a token inside of this goes over
@@ -53,6 +58,7 @@ easy_len place.Name bytes = length (take_while is_name bytes)
 easy_len place.FieldName bytes = length (take_while is_name bytes)
 easy_len place.Str bytes = length (take_while is_quoted bytes)
 easy_len place.LineComment bytes = length (take_while is_commented bytes)
+easy_len (place.RawText n run) bytes = if run == 0 then length (take_while is_raw bytes) else 0
 easy_len _ bytes = 0
 
 -- the sign or the white space before which text ends, whatever comes next

@@ -1,7 +1,7 @@
 //! What an ASCII byte decides at once, before a look at the rules: most bytes of a text are such bytes.
 ghost use Rattle.std.specs.Prelude.{◌≡◌, ◌≤◌, length};
 ghost use Rattle.std.specs.List.{take_while};
-ghost use Rattle.typst_lexer.specs.Bytes.{behind_byte, behind_first, easy_len, ends_at, ends_before, is_alone, is_bracket, is_commented, is_other, is_quoted, is_text_end, is_undotted};
+ghost use Rattle.typst_lexer.specs.Bytes.{behind_byte, behind_first, easy_len, ends_at, ends_before, is_alone, is_bracket, is_commented, is_other, is_quoted, is_raw, is_text_end, is_undotted};
 ghost use Rattle.typst_lexer.specs.Characters.{begins, is_name, is_white};
 ghost use Rattle.typst_lexer.specs.Classes.{is_blank, is_newline};
 ghost use Rattle.typst_lexer.specs.Letters.{is_letter};
@@ -57,6 +57,13 @@ fn is_letter(byte: u8) -> bool
     byte.is_ascii_alphabetic() && byte != b'h'
 }
 
+/// Whether such a byte is next.
+pub fn begins_letter(window: &[u8]) -> bool
+    ensures { result ≡ begins is_letter window.now }
+{
+    matches!(window, [byte, ..] if is_letter(*byte))
+}
+
 /// Whether a string goes on over the byte.
 fn is_quoted(byte: u8) -> bool
     ensures { result ≡ is_quoted byte }
@@ -69,6 +76,13 @@ fn is_commented(byte: u8) -> bool
     ensures { result ≡ is_commented byte }
 {
     byte < 128 && !(is_newline(byte as char) || byte == b'.')
+}
+
+/// Whether raw text goes on over the byte.
+fn is_raw(byte: u8) -> bool
+    ensures { result ≡ is_raw byte }
+{
+    byte < 128 && !(byte == b'`' || byte == b'.')
 }
 
 /// How many bytes from the front text goes over.
@@ -111,6 +125,14 @@ fn commented(bytes: &[u8]) -> usize
     bytes.iter().take_while(|byte| is_commented(**byte)).count()
 }
 
+/// How many bytes from the front raw text goes over.
+fn raw(bytes: &[u8]) -> usize
+    ensures value { result ≡ length (take_while is_raw bytes.now) }
+    ensures within { result ≤ length bytes.now }
+{
+    bytes.iter().take_while(|byte| is_raw(**byte)).count()
+}
+
 /// How many bytes from the front a token inside of this goes over, without a change.
 pub fn easy_len(place: Place, bytes: &[u8]) -> usize
     ensures value { result ≡ easy_len place bytes.now }
@@ -123,6 +145,7 @@ pub fn easy_len(place: Place, bytes: &[u8]) -> usize
         Place::FieldName => names(bytes),
         Place::Str => quoted(bytes),
         Place::LineComment => commented(bytes),
+        Place::RawText(_, 0) => raw(bytes),
         _ => 0,
     }
 }
