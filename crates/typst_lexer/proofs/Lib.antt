@@ -4,8 +4,13 @@ pub mod FirstTokens
 pub mod HexRuns
 pub mod MachineLaws
 pub mod Runs
-pub mod Letters
 pub mod WhiteRuns
+pub mod Ascii
+pub mod Simple
+pub mod Easy
+pub mod Leaps
+pub mod WhiteNext
+pub mod Signs
 pub mod Tokens
 pub mod Steps
 pub mod LineComments

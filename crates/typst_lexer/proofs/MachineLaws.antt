@@ -26,42 +26,57 @@ use Rattle.typst_lexer.specs.Characters.{goes_on, begins, begins_with}
 use Rattle.typst_lexer.specs.Classes.{begins_char, first_char, ends_line, is_newline, is_blank, is_label_part, is_name_part, is_name_start, is_at_blank}
 use Rattle.typst_lexer.specs.Shared.{enter_comment, enter_escape, is_label_start}
 use Rattle.typst_lexer.specs.Markup.{enter_content, enter_markup, enter_marker, enter_sign, digits_with, first_digit, heading, is_in_word, is_link, is_link_mark, is_link_start, is_ref_start, is_start, shorthand_len, stay_text, text_goes_on}
+use Rattle.typst_lexer.specs.White.{is_white}
 use Rattle.typst_lexer.specs.Machine.{accepts, begin, count, count_of, enter, may_end, reading, stay, stay_at, stay_inside}
 
 pub machine_sees : 0 < 10
 machine_sees = omega arith
 
 -- a token may end after its first character, and counts at most one
-abbrev Fresh : Place → Type 0
-Fresh p = (count_of p ≤ 1) × (may_end p ≡ true)
+abbrev Begun : Place → Type 0
+Begun p = (count_of p ≤ 1) × (may_end p ≡ true)
+
+choose_begun : (b : Bool) (x y : Place) → Begun x → Begun y → Begun (if b then x else y)
+choose_begun true x y p q = p
+choose_begun false x y p q = q
+
+-- the same of a token that is neither white space nor a comment
+abbrev pub Fresh : Place → Type 0
+Fresh p = (count_of p ≤ 1) × (may_end p ≡ true) × (is_white p ≡ false)
 
 choose : (b : Bool) (x y : Place) → Fresh x → Fresh y → Fresh (if b then x else y)
 choose true x y p q = p
 choose false x y p q = q
 
-none : (0 ≤ 1) × (true ≡ true)
-none = (omega arith, refl)
+white : (0 ≤ 1) × (true ≡ true)
+white = (omega arith, refl)
 
-one : (1 ≤ 1) × (true ≡ true)
-one = (omega arith, refl)
+open_comment : (1 ≤ 1) × (true ≡ true)
+open_comment = (omega arith, refl)
 
-abbrev IsFresh : Option Place → Type 0
-IsFresh None = Unit {0}
-IsFresh (Some p) = Fresh p
+none : (0 ≤ 1) × (true ≡ true) × (false ≡ false)
+none = (omega arith, refl, refl)
 
-if_some : (b : Bool) (p : Place) (o : Option Place) → Fresh p → IsFresh o → IsFresh (if b then Some p else o)
+one : (1 ≤ 1) × (true ≡ true) × (false ≡ false)
+one = (omega arith, refl, refl)
+
+abbrev IsBegun : Option Place → Type 0
+IsBegun None = Unit {0}
+IsBegun (Some p) = Begun p
+
+if_some : (b : Bool) (p : Place) (o : Option Place) → Begun p → IsBegun o → IsBegun (if b then Some p else o)
 if_some true p o f g = f
 if_some false p o f g = g
 
-or_else : (o : Option Place) (x : Place) → IsFresh o → Fresh x → Fresh (elim o as (λ _. Place) [ None ↦ x | Some p ↦ p ])
-or_else None x f g = g
+or_else : (o : Option Place) (x : Place) → IsBegun o → Fresh x → Begun (elim o as (λ _. Place) [ None ↦ x | Some p ↦ p ])
+or_else None x f g = (g.0, g.1)
 or_else (Some p) x f g = f
 
-comment_fresh : (w : List ℕ) → IsFresh (enter_comment w)
-comment_fresh w =
-    if_some (begins_with (codes "//") w) _ _ none
-    (if_some (begins_with (codes "/*") w) _ _ one
-    (if_some (begins_with (codes "*/") w) _ _ none tt))
+comment_begun : (w : List ℕ) → IsBegun (enter_comment w)
+comment_begun w =
+    if_some (begins_with (codes "//") w) _ _ white
+    (if_some (begins_with (codes "/*") w) _ _ open_comment
+    (if_some (begins_with (codes "*/") w) _ _ white tt))
 
 escape_fresh : (w : List ℕ) → Fresh (enter_escape w)
 escape_fresh w =
@@ -90,7 +105,7 @@ sign_fresh k w =
     (choose (begins_with (codes "$") w) _ _ none
     (choose (begins_with (codes ":") w) _ _ none (marker_fresh w))))))))
 
-content_fresh : (k : Behind) (w : List ℕ) → Fresh (enter_content k w)
+pub content_fresh : (k : Behind) (w : List ℕ) → Fresh (enter_content k w)
 content_fresh k w =
     choose (begins_with (codes "`") w) _ _ one
     (choose (begins_with (codes "\\") w) _ _ (escape_fresh w)
@@ -99,12 +114,12 @@ content_fresh k w =
     (choose (is_ref_start w) _ _ none
     (choose (nat_lt 0 (shorthand_len w)) _ _ none (sign_fresh k w))))))
 
-markup_fresh : (k : Behind) (w : List ℕ) → Fresh (enter_markup k w)
-markup_fresh k w =
-    choose (ends_line w) _ _ none
-    (choose (begins_char is_blank w) _ _ none
-    (choose (is_start k && begins_with (codes "#!") w) _ _ none
-    (or_else (enter_comment w) _ (comment_fresh w) (content_fresh k w))))
+markup_begun : (k : Behind) (w : List ℕ) → Begun (enter_markup k w)
+markup_begun k w =
+    choose_begun (ends_line w) _ _ white
+    (choose_begun (begins_char is_blank w) _ _ white
+    (choose_begun (is_start k && begins_with (codes "#!") w) _ _ white
+    (or_else (enter_comment w) _ (comment_begun w) (content_fresh k w))))
 
 bracket_fresh : (kind : TokenKind) (w : List ℕ) → Fresh (enter_bracket kind w)
 bracket_fresh kind w =
@@ -146,7 +161,7 @@ two_fresh kind w =
     (choose (begins_with (codes "..") w) _ _ none
     (choose (begins_with (codes "=>") w) _ _ none (one_fresh kind w))))))))))
 
-expression_fresh : (k : Behind) (w : List ℕ) → Fresh (enter_expression k w)
+pub expression_fresh : (k : Behind) (w : List ℕ) → Fresh (enter_expression k w)
 expression_fresh k w =
     choose (begins_with (codes "`") w) _ _ one
     (choose (is_label_start w) _ _ none
@@ -156,9 +171,9 @@ expression_fresh k w =
     (choose (begins_with (codes "\"") w) _ _ none
     (choose (begins_char is_name_start w) _ _ (choose (is_field k) _ _ none none) (two_fresh InvalidCharacter w)))))))
 
-code_fresh : (k : Behind) (w : List ℕ) → Fresh (enter_code k w)
-code_fresh k w =
-    choose (begins_char is_whitespace w) _ _ none (or_else (enter_comment w) _ (comment_fresh w) (expression_fresh k w))
+code_begun : (k : Behind) (w : List ℕ) → Begun (enter_code k w)
+code_begun k w =
+    choose_begun (begins_char is_whitespace w) _ _ white (or_else (enter_comment w) _ (comment_begun w) (expression_fresh k w))
 
 word_fresh : (w : List ℕ) → Fresh (enter_word w)
 word_fresh w =
@@ -170,14 +185,14 @@ word_fresh w =
     (choose (is_word_here (codes "else") w) _ _ none
     (choose (is_word_here (codes "as") w) _ _ none none))))))
 
-operation_fresh : (k : Behind) (w : List ℕ) → Fresh (enter_operation k w)
+pub operation_fresh : (k : Behind) (w : List ℕ) → Fresh (enter_operation k w)
 operation_fresh k w =
     choose (is_label_start w || begins is_ascii_digit w || is_fraction w) _ _ none
     (choose (begins_char is_name_start w) _ _ (choose (is_field k) _ _ none (word_fresh w)) (two_fresh Other w))
 
-operator_fresh : (k : Behind) (w : List ℕ) → Fresh (enter_operator k w)
-operator_fresh k w =
-    choose (begins_char is_whitespace w) _ _ none (or_else (enter_comment w) _ (comment_fresh w) (operation_fresh k w))
+operator_begun : (k : Behind) (w : List ℕ) → Begun (enter_operator k w)
+operator_begun k w =
+    choose_begun (begins_char is_whitespace w) _ _ white (or_else (enter_comment w) _ (comment_begun w) (operation_fresh k w))
 
 char_fresh : (c : ℕ) (w : List ℕ) → Fresh (enter_char c w)
 char_fresh c w = choose (is_math_name w) _ _ none (choose (is_numeric c) _ _ none none)
@@ -212,15 +227,15 @@ shorthand_fresh w =
     (choose (begins_with (codes "|]") w) _ _ none
     (choose (is_shorthand_of_one w) _ _ none (math_sign_fresh w))))))
 
-formula_fresh : (w : List ℕ) → Fresh (enter_formula w)
+pub formula_fresh : (w : List ℕ) → Fresh (enter_formula w)
 formula_fresh w =
     choose (begins_with (codes "\\") w) _ _ (escape_fresh w)
     (choose (begins_with (codes "\"") w) _ _ none
     (choose (begins_with (codes "'") w) _ _ none (shorthand_fresh w)))
 
-math_fresh : (w : List ℕ) → Fresh (enter_math w)
-math_fresh w =
-    choose (begins_char is_whitespace w) _ _ none (or_else (enter_comment w) _ (comment_fresh w) (formula_fresh w))
+math_begun : (w : List ℕ) → Begun (enter_math w)
+math_begun w =
+    choose_begun (begins_char is_whitespace w) _ _ white (or_else (enter_comment w) _ (comment_begun w) (formula_fresh w))
 
 name_fresh : (c : ℕ) (w : List ℕ) → Fresh (enter_name c w)
 name_fresh c w =
@@ -228,28 +243,28 @@ name_fresh c w =
     (choose (is_math_name w) _ _ none
     (choose (begins_char is_name_part (after_char w)) _ _ none (formula_fresh w)))
 
-value_fresh : (w : List ℕ) → Fresh (enter_value w)
+pub value_fresh : (w : List ℕ) → Fresh (enter_value w)
 value_fresh w =
     or_char (first_char w) _ (λ c. if is_name_start c then enter_name c w else enter_formula w) (formula_fresh w)
     (λ c. choose (is_name_start c) _ _ (name_fresh c w) (formula_fresh w))
 
-argument_fresh : (w : List ℕ) → Fresh (enter_argument w)
-argument_fresh w =
-    choose (begins_char is_whitespace w) _ _ none
-    (choose (is_spread w) _ _ none (or_else (enter_comment w) _ (comment_fresh w) (value_fresh w)))
+argument_begun : (w : List ℕ) → Begun (enter_argument w)
+argument_begun w =
+    choose_begun (begins_char is_whitespace w) _ _ white
+    (choose_begun (is_spread w) _ _ white (or_else (enter_comment w) _ (comment_begun w) (value_fresh w)))
 
-fresh : (mode : Mode) (k : Behind) (w : List ℕ) → Fresh (enter mode k w)
-fresh Markup k w = markup_fresh k w
-fresh Math k w = math_fresh w
-fresh Argument k w = argument_fresh w
-fresh Code k w = code_fresh k w
-fresh Operator k w = operator_fresh k w
+begun : (mode : Mode) (k : Behind) (w : List ℕ) → Begun (enter mode k w)
+begun Markup k w = markup_begun k w
+begun Math k w = math_begun w
+begun Argument k w = argument_begun w
+begun Code k w = code_begun k w
+begun Operator k w = operator_begun k w
 
 pub begin_accepts : (mode : Mode) (k : Behind) (w : List ℕ) → accepts (begin mode k w) ≡ true
-begin_accepts mode k w = (fresh mode k w).1
+begin_accepts mode k w = (begun mode k w).1
 
 pub begin_counts : (mode : Mode) (k : Behind) (w : List ℕ) → count (begin mode k w) ≤ 1
-begin_counts mode k w = (fresh mode k w).0
+begin_counts mode k w = (begun mode k w).0
 
 -- what a token is inside of next, if it goes on, counts at most n
 abbrev AtMost : ℕ → Option Place → Type 0

@@ -45,7 +45,7 @@ line_window : (t : List ℕ) → ends_line (take 10 t) ≡ ends_line t
 line_window t = ap (λ (v : Bool). v && not (begins_with (codes "\r\n") (take 10 t))) (char_window is_newline t) ∙ ap (λ (v : Bool). begins_char is_newline t && not v) (pair_window t)
 
 -- nothing begins where the text ends
-nothing_begins : (p : ℕ → Bool) → begins_char p [] ≡ false
+pub nothing_begins : (p : ℕ → Bool) → begins_char p [] ≡ false
 nothing_begins p = ap (λ (o : Option ℕ). option_map_or p (as_char o) false) (sym (first_code_is []))
 
 never : false ≡ true → ⊥
@@ -147,7 +147,7 @@ abbrev IsBlank : ℕ → ℕ → Run → Type 0
 IsBlank len n r = (r.len ≡ len) × (r.last.place ≡ place_for n)
 
 -- a newline is a blank
-line_is_blank : (o : Option ℕ) (v : Bool) → (option_map_or is_newline o false && v) ≡ true → option_map_or is_blank o false ≡ true
+pub line_is_blank : (o : Option ℕ) (v : Bool) → (option_map_or is_newline o false && v) ≡ true → option_map_or is_blank o false ≡ true
 line_is_blank None v e = cc
 line_is_blank (Some c) v e = or_true ((c == 32) || (c == 9)) (is_newline c) (left (is_newline c) v e)
   where

@@ -149,6 +149,10 @@ enter_char c w =
     else (if is_numeric c then place.MathNumber
     else place.Cluster (char_kind c) (cluster_of c))
 
+-- the same of the character that is next, if all of it is there
+abbrev pub enter_first : List ℕ → Place
+enter_first w = elim (first_char w) [ None ↦ place.Rest kinds.MathText 0 | Some c ↦ enter_char c w ]
+
 -- the kind of a dot
 abbrev pub dot_kind : List ℕ → TokenKind
 dot_kind w = if is_math_field w then kinds.Field else kinds.Dot

@@ -1,6 +1,8 @@
 -- Runs of a machine over a text, and the longest beginning of the text that the machine accepts.
-use Rattle.std.specs.Prelude.{ℕ, ◌+◌, suc, Bool, List, [], ◌∷◌, take, Option, Some, None, if◌then◌else◌}
+use Rattle.std.specs.Prelude.{ℕ, ◌+◌, ◌-◌, slice_index, suc, Bool, List, [], ◌∷◌, take, Option, Some, None, if◌then◌else◌}
+use Rattle.typst_lexer.specs.declared.place.Place.{Place}
 use Rattle.typst_lexer.specs.declared.place.Reading.{Reading}
+use Rattle.typst_lexer.specs.Bytes.{behind_byte}
 use Rattle.typst_lexer.specs.declared.head.Run.{Run}
 
 -- a run that ends where it begins
@@ -37,3 +39,11 @@ abbrev pub grown : (Reading → Bool) → Run → Reading → Run
 grown accepts r t =
     if accepts t then record { passed = r.passed + 1; len = r.passed + 1; last = t }
     else record { passed = r.passed + 1; len = r.len; last = r.last }
+
+-- A run over so many bytes. Before the last one it was inside of this, and is so after it.
+abbrev pub leapt : ℕ → Place → List ℕ → Run
+leapt passed inside bytes = record {
+  passed = passed;
+  len = passed;
+  last = record { place = inside; behind = behind_byte (slice_index bytes (passed - 1)) };
+}

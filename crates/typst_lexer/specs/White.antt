@@ -1,10 +1,15 @@
 -- White space and comments before a token.
-use Rattle.std.specs.Prelude.{ℕ, Bool, true, false, List, [], ◌∷◌, take}
+use Rattle.std.specs.Prelude.{ℕ, ◌&&◌, ◌||◌, Bool, true, false, List, [], ◌∷◌, codes, take, if◌then◌else◌}
+use Rattle.std.specs.Char.{is_whitespace}
 use Rattle.typst_lexer.specs.declared.mode.Mode.{Mode}
 use Rattle.typst_lexer.specs.declared.place.Behind.{Behind}
 use Rattle.typst_lexer.specs.declared.place.Place.{Place}
 use Rattle.typst_lexer.specs.declared.place.Place.TheVariants as place
+use Rattle.typst_lexer.specs.Characters.{begins_with}
+use Rattle.typst_lexer.specs.Classes.{begins_char, is_blank}
 use Rattle.typst_lexer.specs.Machine.{begin}
+use Rattle.typst_lexer.specs.Markup.{is_start}
+use Rattle.typst_lexer.specs.Spaces.{is_markup}
 
 -- a token that is inside of this after its first byte is white space or a comment
 abbrev pub is_white : Place → Bool
@@ -22,3 +27,13 @@ is_white _ = false
 abbrev pub begins_white : Mode → Behind → List ℕ → Bool
 begins_white m behind [] = false
 begins_white m behind (b ∷ bs) = is_white (begin m behind (take 10 (b ∷ bs))).place
+
+-- white space of a mode is next
+abbrev pub is_space_next : Mode → List ℕ → Bool
+is_space_next m w = if is_markup m then begins_char is_blank w else begins_char is_whitespace w
+
+-- white space or a comment is next, as the beginning of the token tells
+abbrev pub is_white_next : Mode → Behind → List ℕ → Bool
+is_white_next m k w =
+    is_space_next m w || begins_with (codes "//") w || begins_with (codes "/*") w
+    || (is_start k && is_markup m && begins_with (codes "#!") w)

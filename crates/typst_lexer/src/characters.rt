@@ -4,7 +4,7 @@ ghost use Rattle.std.specs.Char.{is_ascii_alphanumeric, is_ascii_digit};
 ghost use Rattle.typst_lexer.specs.Characters.{begins, begins_with_word, goes_on, is_blank_or_end, is_label, is_link, is_link_mark, is_name, is_name_start, is_white};
 
 /// Whether the byte is white space.
-fn is_white(byte: u8) -> bool
+pub fn is_white(byte: u8) -> bool
     ensures { result ≡ is_white byte }
 {
     byte == b' ' || byte == b'\t' || byte == b'\n' || byte == b'\r'

@@ -25,7 +25,7 @@ pub fn first_char(text: &[u8]) -> Option<char>
 }
 
 /// Whether the character is a newline.
-fn is_newline(c: char) -> bool
+pub fn is_newline(c: char) -> bool
     ensures { result ≡ is_newline c }
 {
     c == '\n'
@@ -38,7 +38,7 @@ fn is_newline(c: char) -> bool
 }
 
 /// Whether the character is a blank of markup.
-fn is_blank(c: char) -> bool
+pub fn is_blank(c: char) -> bool
     ensures { result ≡ is_blank c }
 {
     c == ' ' || c == '\t' || is_newline(c)

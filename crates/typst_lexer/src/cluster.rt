@@ -2,6 +2,7 @@
 ghost use Rattle.std.specs.Prelude.{◌≡◌, true};
 ghost use Rattle.ucd_breaks.specs.declared.GraphemeClusterBreak.{GraphemeClusterBreak};
 ghost use Rattle.unicode_segmentation.specs.Grapheme.{break_by_pair, is_consonant, is_extend, is_regional, is_zwj};
+ghost use Rattle.typst_lexer.specs.Bytes.{is_simple};
 ghost use Rattle.typst_lexer.specs.Clusters.{cluster_of, extends_linker, is_linker, joins, joins_by_context, with_char};
 
 use ucd_breaks::GraphemeClusterBreak;
@@ -153,8 +154,8 @@ fn break_by_pair(last: GraphemeClusterBreak, next: GraphemeClusterBreak) -> Opti
     }
 }
 
-/// The cluster of a single character.
-pub fn cluster_of(c: char) -> Cluster
+/// The cluster of a single character, by its properties.
+fn cluster_by_tables(c: char) -> Cluster
     ensures { result ≡ cluster_of c }
 {
     let last = GraphemeClusterBreak::for_char(c);
@@ -164,6 +165,30 @@ pub fn cluster_of(c: char) -> Cluster
         pictograph: is_extended_pictographic(c),
         joiner: false,
         half_flag: is_regional(last),
+    }
+}
+
+/// Whether the character is one of ASCII that is no control character. It has no properties that a cluster needs.
+fn is_simple(c: char) -> bool
+    ensures { result ≡ is_simple c }
+{
+    c >= ' ' && c <= '~'
+}
+
+/// The cluster of a single character.
+pub fn cluster_of(c: char) -> Cluster
+    ensures { result ≡ cluster_of c }
+{
+    if is_simple(c) {
+        Cluster {
+            last: GraphemeClusterBreak::Other,
+            linker: false,
+            pictograph: false,
+            joiner: false,
+            half_flag: false,
+        }
+    } else {
+        cluster_by_tables(c)
     }
 }
 

@@ -1,12 +1,13 @@
 //! Which token of code begins at a place, and how it goes on.
-ghost use Rattle.std.specs.Prelude.{◌≡◌, ◌≤◌, ◌<◌, length};
+ghost use Rattle.std.specs.Prelude.{◌≡◌, ◌≤◌, ◌<◌, length, if◌then◌else◌};
 ghost use Rattle.std.specs.Char.{is_whitespace};
 ghost use Rattle.std.specs.List.{take_while};
 ghost use Rattle.typst_lexer.specs.Characters.{begins};
 ghost use Rattle.typst_lexer.specs.Classes.{begins_char, is_name_part};
 ghost use Rattle.typst_lexer.specs.Code.{after_exponent, begins_field_name, enter_bracket, enter_code, enter_dot, enter_expression, enter_one, enter_operation, enter_operator, enter_operator_sign, enter_suffix, enter_word, is_based, is_field, is_fraction, is_minus, is_long_unit, is_short_unit, is_suffix, is_word_here, stay_based, stay_exponent, stay_fraction, stay_integer, stay_letters, stay_power, stay_sign, stay_string, stay_unit, stay_while};
 
-use crate::characters::{begins_digit, behind};
+use crate::bytes::begins_bracket;
+use crate::characters::{begins_digit, begins_name_start as begins_ascii_name, behind};
 use crate::classes::{begins_name_part, begins_name_start, begins_space, first_char};
 use crate::names::is;
 use crate::place::{Behind, Place};
@@ -57,7 +58,7 @@ fn is_fraction(window: &[u8]) -> bool
 }
 
 /// Whether the byte may be in the suffix of a number.
-fn is_suffix(byte: u8) -> bool
+pub fn is_suffix(byte: u8) -> bool
     ensures { result ≡ is_suffix byte }
 {
     byte.is_ascii_alphanumeric() || byte == b'%'
@@ -375,8 +376,32 @@ fn enter_expression(before: Behind, window: &[u8]) -> Place
     }
 }
 
+/// What a name is inside of after its first character.
+fn enter_name(before: Behind) -> Place
+    ensures { result ≡ (if is_field before then Place.FieldName else Place.Name) }
+{
+    if is_field(before) {
+        Place::FieldName
+    } else {
+        Place::Name
+    }
+}
+
 /// What a token of code is inside of after its first character.
 pub fn enter_code(before: Behind, window: &[u8]) -> Place
+    ensures { result ≡ enter_code before window.now }
+{
+    if begins_ascii_name(window) {
+        return enter_name(before);
+    }
+    if begins_bracket(window) {
+        return enter_bracket(TokenKind::InvalidCharacter, window);
+    }
+    enter_code_by_rules(before, window)
+}
+
+/// The same by all rules.
+fn enter_code_by_rules(before: Behind, window: &[u8]) -> Place
     ensures { result ≡ enter_code before window.now }
 {
     if begins_space(window) {
@@ -434,8 +459,32 @@ fn enter_operation(before: Behind, window: &[u8]) -> Place
     }
 }
 
+/// What a token that begins a name is inside of after its first character, where only an operator may come.
+fn enter_operator_name(before: Behind, window: &[u8]) -> Place
+    ensures { result ≡ (if is_field before then Place.Rest TokenKind.Other 0 else enter_word window.now) }
+{
+    if is_field(before) {
+        Place::Rest(TokenKind::Other, 0)
+    } else {
+        enter_word(window)
+    }
+}
+
 /// What a token is inside of after its first character, where only an operator may come.
 pub fn enter_operator(before: Behind, window: &[u8]) -> Place
+    ensures { result ≡ enter_operator before window.now }
+{
+    if begins_ascii_name(window) {
+        return enter_operator_name(before, window);
+    }
+    if begins_bracket(window) {
+        return enter_bracket(TokenKind::Other, window);
+    }
+    enter_operator_by_rules(before, window)
+}
+
+/// The same by all rules.
+fn enter_operator_by_rules(before: Behind, window: &[u8]) -> Place
     ensures { result ≡ enter_operator before window.now }
 {
     if begins_space(window) {

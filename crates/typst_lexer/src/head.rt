@@ -1,21 +1,23 @@
 //! The first token of a text, in each mode.
-ghost use Rattle.std.specs.Prelude.{true, false, if◌then◌else◌, nat_le, ℕ, ◌≡◌, ◌+◌, ◌^◌, ◌<◌, ◌≤◌, List, length, take};
+ghost use Rattle.std.specs.Prelude.{true, false, if◌then◌else◌, nat_le, ℕ, ◌≡◌, ◌+◌, ◌^◌, ◌<◌, ◌≤◌, List, length, take, drop, slice_index};
 ghost use Rattle.std.specs.Str.{IsCharBoundary};
 ghost use Rattle.typst_lexer.specs.declared.mode.Mode.{Mode};
 ghost use Rattle.typst_lexer.specs.declared.place.Behind.{Behind};
 ghost use Rattle.std.specs.Char.{is_whitespace};
 ghost use Rattle.typst_lexer.specs.declared.token.TokenKind.{TokenKind};
+ghost use Rattle.typst_lexer.specs.Bytes.{easy_len, ends_at};
 ghost use Rattle.typst_lexer.specs.Characters.{begins, goes_on};
 ghost use Rattle.typst_lexer.specs.Classes.{begins_char, is_blank};
 ghost use Rattle.typst_lexer.specs.Spaces.{is_markup, newlines, run_len};
 ghost use Rattle.typst_lexer.specs.FirstToken.{first, run_of};
 ghost use Rattle.typst_lexer.specs.Machine.{accepts};
-ghost use Rattle.typst_lexer.specs.Runs.{grown};
+ghost use Rattle.typst_lexer.specs.Runs.{grown, leapt};
 
 use crate::AHEAD;
+use crate::bytes::{behind_byte, easy_len, ends_at};
 use crate::machine::{accepts, begin, kind_of, stay};
 use crate::mode::Mode;
-use crate::place::{Behind, Reading};
+use crate::place::{Behind, Place, Reading};
 use crate::token::TokenKind;
 use crate::window::window;
 
@@ -65,6 +67,39 @@ fn grown(run: Run, state: Reading) -> Run
     }
 }
 
+/// Whether a token inside of this ends before the byte at a place in any case.
+fn ends_here(inside: Place, at: usize, bytes: &[u8]) -> bool
+    requires { at < length bytes.now }
+    ensures { result ≡ ends_at inside (slice_index bytes.now at) }
+{
+    ends_at(inside, bytes[at])
+}
+
+/// How many bytes from a place on a token inside of this goes over, without a change.
+fn easy_from(inside: Place, at: usize, bytes: &[u8]) -> usize
+    requires { at ≤ length bytes.now }
+    ensures value { result ≡ easy_len inside (drop at bytes.now) }
+    ensures within { at + result ≤ length bytes.now }
+{
+    easy_len(inside, &bytes[at..])
+}
+
+/// The run over so many bytes, of which a token inside of this went over the last one without a change.
+fn leapt(passed: usize, inside: Place, bytes: &[u8]) -> Run
+    requires some { 0 < passed }
+    requires within { passed ≤ length bytes.now }
+    ensures { result ≡ leapt passed inside bytes.now }
+{
+    Run {
+        passed,
+        len: passed,
+        last: Reading {
+            place: inside,
+            behind: behind_byte(bytes[passed - 1]),
+        },
+    }
+}
+
 /// Goes over a text as long as the machine finds a next state.
 fn run_of(mode: Mode, behind: Behind, bytes: &[u8]) -> Run
     requires { 0 < length bytes.now }
@@ -79,11 +114,20 @@ fn run_of(mode: Mode, behind: Behind, bytes: &[u8]) -> Run
         last: state,
     };
     while run.passed < bytes.len() {
-        match stay(state, window(bytes, run.passed, AHEAD)) {
-            Some(next) => state = next,
-            None => return run,
+        if ends_here(state.place, run.passed, bytes) {
+            return run;
         }
-        run = grown(run, state);
+        let easy = easy_from(state.place, run.passed, bytes);
+        if easy > 0 {
+            run = leapt(run.passed + easy, state.place, bytes);
+            state = run.last;
+        } else {
+            match stay(state, window(bytes, run.passed, AHEAD)) {
+                Some(next) => state = next,
+                None => return run,
+            }
+            run = grown(run, state);
+        }
     }
     run
 }

@@ -32,6 +32,7 @@ pub use token::{Token, TokenKind};
 pub use white::begins_white;
 
 mod arguments;
+mod bytes;
 mod characters;
 mod classes;
 mod cluster;

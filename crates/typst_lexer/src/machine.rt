@@ -1,10 +1,9 @@
 //! The machine of the lexer: how a byte begins or continues a token.
 ghost use Rattle.std.specs.Prelude.{◌≡◌, ◌<◌, ◌≤◌};
-ghost use Rattle.typst_lexer.specs.Characters.{begins};
-ghost use Rattle.typst_lexer.specs.Letters.{is_letter};
 ghost use Rattle.typst_lexer.specs.Machine.{accepts, begin, behind_char, count_of, enter, is_dot, kind_of, may_end, reading, stay, stay_at, stay_inside};
 
 use crate::arguments::{enter_argument, stay_argument, stay_argument_name};
+use crate::bytes::{begins_undotted, behind_first};
 use crate::characters::begins_inside_char;
 use crate::classes::begins_wordy;
 use crate::code::{
@@ -28,7 +27,7 @@ use crate::shared::{
 use crate::token::TokenKind;
 
 /// What a token is inside of after its first character.
-fn enter(mode: Mode, before: Behind, window: &[u8]) -> Place
+pub fn enter(mode: Mode, before: Behind, window: &[u8]) -> Place
     ensures { result ≡ enter mode before window.now }
 {
     match mode {
@@ -167,8 +166,8 @@ fn is_dot(behind: Behind) -> bool
     matches!(behind, Behind::Dot | Behind::Dots)
 }
 
-/// What is directly before the place after the first character.
-fn behind_char(before: Behind, window: &[u8]) -> Behind
+/// What is directly before the place after the first character, by all rules.
+fn behind_by_rules(before: Behind, window: &[u8]) -> Behind
     ensures { result ≡ behind_char before window.now }
 {
     if window.starts_with(b".") {
@@ -184,6 +183,16 @@ fn behind_char(before: Behind, window: &[u8]) -> Behind
     } else {
         Behind::Other
     }
+}
+
+/// What is directly before the place after the first character.
+fn behind_char(before: Behind, window: &[u8]) -> Behind
+    ensures { result ≡ behind_char before window.now }
+{
+    if begins_undotted(window) {
+        return behind_first(window);
+    }
+    behind_by_rules(before, window)
 }
 
 /// The state after a byte.
@@ -205,22 +214,8 @@ pub fn begin(mode: Mode, before: Behind, window: &[u8]) -> Reading
     reading(enter(mode, before, window), before, window)
 }
 
-/// Whether text goes on over the byte in any case.
-fn is_letter(byte: u8) -> bool
-    ensures { result ≡ is_letter byte }
-{
-    byte.is_ascii_alphabetic() && byte != b'h'
-}
-
-/// Whether such a byte is next.
-fn begins_letter(window: &[u8]) -> bool
-    ensures { result ≡ begins is_letter window.now }
-{
-    matches!(window, [byte, ..] if is_letter(*byte))
-}
-
-/// The state after one more byte by all rules, or `None` if the byte belongs to the next token.
-fn stay_by_rules(state: Reading, window: &[u8]) -> Option<Reading>
+/// The state after one more byte, or `None` if the byte belongs to the next token.
+pub fn stay(state: Reading, window: &[u8]) -> Option<Reading>
     requires { count_of state.place < usize.MAX }
     ensures { result ≡ stay state window.now }
 {
@@ -230,33 +225,4 @@ fn stay_by_rules(state: Reading, window: &[u8]) -> Option<Reading>
         stay_at(state.place, window)?
     };
     Some(reading(place, state.behind, window))
-}
-
-/// The state after text and a byte that it goes on over in any case, or by all rules.
-fn stay_in_text(behind: Behind, window: &[u8]) -> Option<Reading>
-    ensures { result ≡ stay (record { place = Place.Text; behind = behind }) window.now }
-{
-    if begins_letter(window) {
-        return Some(Reading {
-            place: Place::Text,
-            behind: Behind::Word,
-        });
-    }
-    let state = Reading {
-        place: Place::Text,
-        behind,
-    };
-    stay_by_rules(state, window)
-}
-
-/// The state after one more byte, or `None` if the byte belongs to the next token. Most bytes of a text are letters,
-/// and need no look at the rules.
-pub fn stay(state: Reading, window: &[u8]) -> Option<Reading>
-    requires { count_of state.place < usize.MAX }
-    ensures { result ≡ stay state window.now }
-{
-    match state.place {
-        Place::Text => stay_in_text(state.behind, window),
-        _ => stay_by_rules(state, window),
-    }
 }

@@ -5,6 +5,7 @@ ghost use Rattle.typst_lexer.specs.Characters.{begins};
 ghost use Rattle.typst_lexer.specs.Classes.{begins_char};
 ghost use Rattle.typst_lexer.specs.Markup.{digits_with, enter_content, enter_markup, enter_marker, enter_sign, first_digit, heading, is_at_sign, is_hyphen, is_in_word, is_link, is_link_mark, is_letter_h, is_link_start, is_period, is_plain, is_ref_start, is_sign, is_slash, is_space_in_text, is_start, is_word, shorthand_len, stay_large, stay_link, stay_number, stay_ref, stay_space, stay_text, text_goes_on};
 
+use crate::bytes::begins_letter;
 use crate::characters::{begins_digit, behind};
 use crate::classes::{
     begins_alphanumeric, begins_blank, begins_label_part, begins_name_part, begins_numeric,
@@ -15,7 +16,7 @@ use crate::shared::{enter_comment, enter_escape, is_label_start};
 use crate::token::TokenKind;
 
 /// Whether nothing is before the place.
-fn is_start(behind: Behind) -> bool
+pub fn is_start(behind: Behind) -> bool
     ensures { result ≡ is_start behind }
 {
     matches!(behind, Behind::Start)
@@ -223,7 +224,7 @@ fn is_sign(c: char) -> bool
 }
 
 /// Whether text goes on over the character, whatever comes next.
-fn is_plain(c: char) -> bool
+pub fn is_plain(c: char) -> bool
     ensures { result ≡ is_plain c }
 {
     !(c.is_whitespace() || is_sign(c))
@@ -403,6 +404,16 @@ fn enter_content(before: Behind, window: &[u8]) -> Place
 
 /// What a token of markup is inside of after its first character.
 pub fn enter_markup(before: Behind, window: &[u8]) -> Place
+    ensures { result ≡ enter_markup before window.now }
+{
+    if begins_letter(window) {
+        return Place::Text;
+    }
+    enter_markup_by_rules(before, window)
+}
+
+/// The same by all rules.
+fn enter_markup_by_rules(before: Behind, window: &[u8]) -> Place
     ensures { result ≡ enter_markup before window.now }
 {
     if ends_line(window) {

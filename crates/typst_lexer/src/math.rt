@@ -1,9 +1,10 @@
 //! Which token of math begins at a place, and how it goes on.
 ghost use Rattle.std.specs.Prelude.{◌≡◌, ◌≤◌, ◌<◌};
 ghost use Rattle.typst_lexer.specs.Classes.{begins_char};
-ghost use Rattle.typst_lexer.specs.Math.{after_char, char_kind, char_len, dot_kind, enter_char, enter_formula, enter_math, enter_math_sign, enter_shorthand, is_arrow_to_left, is_arrow_to_right, is_closing, is_math_field, is_math_name, is_math_part, is_math_start, is_opening, is_root, is_shorthand_of_four, is_shorthand_of_one, is_shorthand_of_three, is_shorthand_of_two, longer_kind, name_with, stay_cluster, stay_math_fraction, stay_math_name, stay_math_number, stay_primes};
+ghost use Rattle.typst_lexer.specs.Math.{after_char, char_kind, char_len, dot_kind, enter_char, enter_first, enter_formula, enter_math, enter_math_sign, enter_shorthand, is_arrow_to_left, is_arrow_to_right, is_closing, is_math_field, is_math_name, is_math_part, is_math_start, is_opening, is_root, is_shorthand_of_four, is_shorthand_of_one, is_shorthand_of_three, is_shorthand_of_two, longer_kind, name_with, stay_cluster, stay_math_fraction, stay_math_name, stay_math_number, stay_primes};
 
-use crate::characters::behind;
+use crate::bytes::begins_alone;
+use crate::characters::{begins_alphanumeric as begins_ascii_alphanumeric, behind};
 use crate::classes::{begins_numeric, begins_space, first_char};
 use crate::cluster::{Cluster, cluster_of, joins, with_char};
 use crate::place::Place;
@@ -366,8 +367,28 @@ fn enter_char(c: char, window: &[u8]) -> Place
     }
 }
 
+/// What a name, a number or another character that is next is inside of after its first character.
+fn enter_first(window: &[u8]) -> Place
+    ensures { result ≡ enter_first window.now }
+{
+    match first_char(window) {
+        None => Place::Rest(TokenKind::MathText, 0),
+        Some(c) => enter_char(c, window),
+    }
+}
+
 /// What a token is inside of after its first character, if it is a sign, or no shorthand.
 fn enter_math_sign(window: &[u8]) -> Place
+    ensures { result ≡ enter_math_sign window.now }
+{
+    if begins_ascii_alphanumeric(window) {
+        return enter_first(window);
+    }
+    enter_math_sign_by_rules(window)
+}
+
+/// The same by all rules.
+fn enter_math_sign_by_rules(window: &[u8]) -> Place
     ensures { result ≡ enter_math_sign window.now }
 {
     if window.starts_with(b".") {
@@ -397,15 +418,22 @@ fn enter_math_sign(window: &[u8]) -> Place
     } else if window.starts_with(b"!") {
         Place::Rest(TokenKind::Bang, 0)
     } else {
-        match first_char(window) {
-            None => Place::Rest(TokenKind::MathText, 0),
-            Some(c) => enter_char(c, window),
-        }
+        enter_first(window)
     }
 }
 
 /// What a token is inside of after its first character, if it is a shorthand or a sign.
 fn enter_shorthand(window: &[u8]) -> Place
+    ensures { result ≡ enter_shorthand window.now }
+{
+    if begins_alone(window) {
+        return enter_math_sign(window);
+    }
+    enter_shorthand_by_rules(window)
+}
+
+/// The same by all rules.
+fn enter_shorthand_by_rules(window: &[u8]) -> Place
     ensures { result ≡ enter_shorthand window.now }
 {
     if is_shorthand_of_four(window) {

@@ -1,37 +1,48 @@
 //! White space and comments before a token.
 ghost use Rattle.std.specs.Prelude.{◌≡◌};
-ghost use Rattle.typst_lexer.specs.White.{begins_white, is_white};
+ghost use Rattle.typst_lexer.specs.Spaces.{is_markup};
+ghost use Rattle.typst_lexer.specs.White.{begins_white, is_space_next, is_white_next};
 
 use crate::AHEAD;
-use crate::machine::begin;
+use crate::classes::{begins_blank, begins_space};
+use crate::markup::is_start;
 use crate::mode::Mode;
-use crate::place::{Behind, Place};
+use crate::place::Behind;
 use crate::window::window;
 
-/// Whether a token that is inside of this after its first byte is white space or a comment.
-fn is_white(place: Place) -> bool
-    ensures { result ≡ is_white place }
+/// Whether a mode is that of markup.
+fn is_markup(mode: Mode) -> bool
+    ensures { result ≡ is_markup mode }
 {
-    matches!(
-        place,
-        Place::Space
-            | Place::Line
-            | Place::Parbreak
-            | Place::LineComment
-            | Place::Shebang
-            | Place::BlockComment(_)
-            | Place::CommentMark(_)
-            | Place::Blank
-    )
+    matches!(mode, Mode::Markup)
 }
 
+/// Whether white space of a mode is next.
+fn is_space_next(mode: Mode, window: &[u8]) -> bool
+    ensures { result ≡ is_space_next mode window.now }
+{
+    if is_markup(mode) {
+        begins_blank(window)
+    } else {
+        begins_space(window)
+    }
+}
+
+/// Whether white space or a comment is next.
+fn is_white_next(mode: Mode, behind: Behind, window: &[u8]) -> bool
+    ensures { result ≡ is_white_next mode behind window.now }
+{
+    is_space_next(mode, window)
+        || window.starts_with(b"//")
+        || window.starts_with(b"/*")
+        || is_start(behind) && is_markup(mode) && window.starts_with(b"#!")
+}
+
+#[tactic(auto, using(crate::proofs::WhiteNext::white_is))]
 /// Whether the first token of a text is white space or a comment, in a mode, given what is directly before the text. It
 /// looks at ten bytes.
 pub fn begins_white(mode: Mode, behind: Behind, text: &[u8]) -> bool
     ensures { result ≡ begins_white mode behind text.now }
 {
-    match text {
-        [] => false,
-        [_, ..] => is_white(begin(mode, behind, window(text, 0, AHEAD)).place),
-    }
+    is_white_next(mode, behind, window(text, 0, AHEAD))
 }

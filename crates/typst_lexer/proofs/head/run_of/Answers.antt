@@ -1,9 +1,11 @@
-use Rattle.std.proofs.Common.{◌≡◌, ℕ, ◌+◌, ◌≤◌, List, take, drop, refl, sym, ap, subst, ◌∙◌, arith}
+use Rattle.std.proofs.Common.{◌≡◌, ℕ, ◌+◌, ◌≤◌, List, length, take, drop, refl, sym, ap, subst, ◌∙◌, arith}
 use Rattle.std.specs.Prelude.{Some, None}
 use Rattle.typst_lexer.specs.declared.head.Run.{Run}
+use Rattle.typst_lexer.specs.declared.place.Reading.{Reading}
 use Rattle.typst_lexer.specs.FirstToken.{run_of}
 use Rattle.typst_lexer.specs.Machine.{accepts, begin, count, stay}
 use Rattle.typst_lexer.proofs.FirstTokens.{run_within}
+use Rattle.typst_lexer.proofs.Leaps.{leaps, stops}
 use Rattle.typst_lexer.proofs.MachineLaws.{begin_accepts, begin_counts, stay_counts_more}
 use Rattle.typst_lexer.specs.Runs.{run}
 use Rattle.typst_lexer.proofs.Runs.{Ends, grown_ends, grown_passed, joined_run, run_at_end, run_first, run_goes_on, run_stop}
@@ -26,7 +28,7 @@ pub loop-run-preserved : goal.loop-run-preserved
 loop-run-preserved c =
     let bs : List ℕ = c.args.bytes.now in
     let is : stay c.loop-run.state (take 10 (drop c.loop-run.run.passed bs)) ≡ Some c.in-Some.next =
-    ap (stay c.loop-run.state) (sym c.window-in-loop-run.ensures) ∙ sym c.stay.ensures ∙ c.in-Some.is in
+    ap (stay c.loop-run.state) (sym c.window-else-easy-gt0.ensures) ∙ sym c.stay.ensures ∙ c.in-Some.is in
     let passed : c.grown-run.result.passed ≡ c.loop-run.run.passed + 1 =
     ap (λ (r : Run). r.passed) c.grown-run.ensures ∙ grown_passed stay accepts c.loop-run.run c.in-Some.next in
     record {
@@ -38,11 +40,39 @@ loop-run-preserved c =
           ∙ c.loop-run.invariant.so_far;
     }
 
+pub loop-run-preserved-then-easy-gt0 : goal.loop-run-preserved-then-easy-gt0
+loop-run-preserved-then-easy-gt0 c =
+    let bs : List ℕ = c.args.bytes.now in
+    let s : Reading = c.loop-run.state in
+    let less : count s ≤ c.loop-run.run.passed + c.easy_from-easy.result = omega (arith, c.loop-run.invariant.counted) in
+    record {
+      within = subst (λ (r : Run). r.passed ≤ length bs) (sym c.leapt-run.ensures) c.easy_from-easy.ensures.within;
+      counted = subst (λ (r : Run). count r.last ≤ r.passed) (sym c.leapt-run.ensures) less;
+      ends = subst (λ (r : Run). Ends stay accepts r r.last) (sym c.leapt-run.ensures) (λ _. (refl, refl));
+      so_far =
+          leaps s.place s.behind bs c.loop-run.run c.leapt-run.result c.easy_from-easy.result c.if-easy-gt0.true
+          (omega (arith, c.easy_from-easy.ensures.value)) c.easy_from-easy.ensures.within c.loop-run.invariant.ends c.leapt-run.ensures
+          ∙ c.loop-run.invariant.so_far;
+    }
+
+pub returns-then-ends_here-clause-run : goal.returns-then-ends_here-clause-run
+returns-then-ends_here-clause-run c =
+    let bs : List ℕ = c.args.bytes.now in
+    let s : Reading = c.loop-run.state in
+    let is : stay s (take 10 (drop c.loop-run.run.passed bs)) ≡ None =
+    stops s.place s.behind bs c.loop-run.run.passed c.loop-run-test.true (sym c.ends_here.ensures ∙ c.if-ends_here.true) in
+    sym (run_stop stay accepts 10 c.loop-run.run s bs c.loop-run-test.true is c.loop-run.invariant.ends) ∙ c.loop-run.invariant.so_far
+
+pub returns-then-ends_here-clause-len : goal.returns-then-ends_here-clause-len
+returns-then-ends_here-clause-len c =
+    let same : c.loop-run.run.len ≡ (run_of c.args.mode c.args.behind c.args.bytes.now).len = ap (λ (r : Run). r.len) (returns-then-ends_here-clause-run c) in
+    omega (arith, same, run_within c.args.mode c.args.behind c.args.bytes.now)
+
 pub returns-in-None-clause-run : goal.returns-in-None-clause-run
 returns-in-None-clause-run c =
     let bs : List ℕ = c.args.bytes.now in
     let is : stay c.loop-run.state (take 10 (drop c.loop-run.run.passed bs)) ≡ None =
-    ap (stay c.loop-run.state) (sym c.window-in-loop-run.ensures) ∙ sym c.stay.ensures ∙ c.in-None.is in
+    ap (stay c.loop-run.state) (sym c.window-else-easy-gt0.ensures) ∙ sym c.stay.ensures ∙ c.in-None.is in
     sym (run_stop stay accepts 10 c.loop-run.run c.loop-run.state bs c.loop-run-test.true is c.loop-run.invariant.ends) ∙ c.loop-run.invariant.so_far
 
 pub returns-clause-run : goal.returns-clause-run
