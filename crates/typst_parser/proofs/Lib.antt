@@ -1,6 +1,7 @@
 mod Boundaries
 mod Changes
 mod Chars
+mod Columns
 mod Cutting
 mod Fars
 mod Finding
