@@ -5,6 +5,7 @@ mod Columns
 mod Cutting
 mod Fars
 mod Finding
+mod Fresh
 pub mod FirstBlocks
 mod Good
 mod Growing
