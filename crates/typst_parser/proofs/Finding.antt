@@ -1,10 +1,12 @@
 -- What the search for names that come again does, in the words of the definitions.
-use Rattle.std.proofs.Common.{◌≡◌, ℕ, zero, suc, ◌+◌, ◌-◌, ◌≤◌, ◌<◌, min, List, [], ◌∷◌, ◌++◌, length, map, take, drop, reverse, get_or, Option, refl, sym, ap, ◌∙◌, add-one, append_assoc, arith}
-use Rattle.std.proofs.lemmas.List.{append-nil, drop-drop, length-reverse, length-take, take_more}
+use Rattle.std.proofs.Common.{◌≡◌, ℕ, zero, suc, ◌+◌, ◌-◌, ◌≤◌, ◌<◌, min, false, List, [], ◌∷◌, ◌++◌, length, take, drop, reverse, get_or, Option, Some, None, refl, sym, ap, ◌∙◌, add-one, append_assoc, arith}
+use Rattle.std.proofs.lemmas.List.{append-nil, drop-drop, length-reverse, length-take, reverse-reverse, take_more}
+use Rattle.std.specs.List.{list_any}
+use Rattle.std.specs.Option.{is_some}
 use Rattle.std.proofs.Math.Seq.{drop-cons, drop-nil}
 use Rattle.typst_parser.specs.Events.{but_last, bytes_of, kind_of, last_some}
-use Rattle.typst_parser.specs.Unique.{child_roles, fault_among, fault_gone, fault_put, faulted_back, faults_of, Found, found_back, found_in, roles_below}
-use Rattle.typst_parser.specs.Roles.{first_role, others_role}
+use Rattle.typst_parser.specs.Unique.{child_roles, fault_gone, fault_put, faulted_back, faults_of, Found, found_back, found_in, made_unique, roles_below}
+use Rattle.typst_parser.specs.Roles.{first_role, others_role, root_role}
 use Rattle.typst_parser.specs.Spans.{children_of}
 use Rattle.typst_parser.specs.declared.event.Event.{Event}
 use Rattle.typst_parser.specs.declared.fault.Fault.{Fault}
@@ -115,3 +117,16 @@ past_all (x ∷ xs) (suc n) low = past_all xs n (omega arith)
 pub take_all : (faults : List (Option Fault)) (at end : ℕ) (before taken whole : List Event) → length faults ≤ at → taken ++ faulted_back 0 end (drop at faults) before ≡ whole → taken ++ before ≡ whole
 take_all faults at end before taken whole low so_far =
     ap (λ es. taken ++ es) (sym (faulted_end end before) ∙ sym (ap (λ fs. faulted_back 0 end fs before) (past_all faults at low))) ∙ so_far
+
+-- without a fault all stays as it is
+no_faults : (end : ℕ) (faults : List (Option Fault)) (back : List Event) → list_any is_some faults ≡ false → faulted_back 0 end faults back ≡ back
+unfolding faulted_back
+no_faults end [] back none = refl
+no_faults end (f ∷ faults) [] none = refl
+no_faults end (None ∷ faults) (e ∷ back) none = ap (λ es. e ∷ es) (no_faults end faults back none)
+no_faults end (Some f ∷ faults) (e ∷ back) none = cc
+
+pub faultless : (what : Unique) (text : List ℕ) (es : List Event) (faults : List (Option Fault)) → faults ≡ faults_of (found_back what (root_role what ∷ []) text (reverse es))
+    → list_any is_some faults ≡ false → es ≡ made_unique what text es
+faultless what text es faults is none =
+    sym (ap (λ fs. reverse (faulted_back 0 (length text) fs (reverse es))) (sym is) ∙ ap reverse (no_faults (length text) faults (reverse es) none) ∙ reverse-reverse es)

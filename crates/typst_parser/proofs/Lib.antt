@@ -1,9 +1,11 @@
 mod Boundaries
 mod Changes
 mod Chars
+mod Columns
 mod Cutting
 mod Fars
 mod Finding
+mod Fresh
 pub mod FirstBlocks
 mod Good
 mod Growing

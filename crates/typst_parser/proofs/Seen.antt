@@ -5,7 +5,6 @@ use Rattle.std.specs.Cmp.{nat_eq_equiv}
 use Rattle.std.specs.Cmp.Lexicographic.{pointwise}
 use Rattle.std.specs.HashSet.{HashSet}
 use Rattle.std.proofs.lemmas.Cmp.{nat_list_eq_equiv}
-use Rattle.std.proofs.lemmas.Grind.{reverse_onto}
 use Rattle.std.proofs.lemmas.List.{reverse-append}
 use Rattle.std.proofs.Math.Seq.{drop-cons}
 use Rattle.typst_parser.specs.FoundViews.{found_of}
@@ -27,7 +26,7 @@ names_alike (Some x) (Some y) = nat_list_eq_equiv.symm x.now y.now
 keys_alike : (f q : CodeFound) → key_eq (f.list, f.name) (q.list, q.name) ≡ is_same (found_of q) (found_of f)
 keys_alike f q = λ i. nat_eq_equiv.symm f.list q.list i && names_alike f.name q.name i
 
-after_alike : {S : Type 0} (s : HashSet Key S) (f q : CodeFound) → seen_after s f q ≡ is_same (found_of q) (found_of f) || is_seen s q
+pub after_alike : {S : Type 0} (s : HashSet Key S) (f q : CodeFound) → seen_after s f q ≡ is_same (found_of q) (found_of f) || is_seen s q
 after_alike s f q = go (key_eq (f.list, f.name) (q.list, q.name)) (is_same (found_of q) (found_of f)) (is_seen s q) (keys_alike f q) where
   go : (a b c : Bool) → a ≡ b → (if a then true else c) ≡ (b || c)
   go true b c is = λ i. is i || c

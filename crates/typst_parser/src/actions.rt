@@ -1,7 +1,7 @@
 //! What actions do with the stack.
-ghost use Rattle.std.specs.Prelude.{◌≡◌, ◌+◌, ◌<◌, ◌^◌, OnOk};
+ghost use Rattle.std.specs.Prelude.{◌≡◌, ◌+◌, ◌<◌, ◌^◌, take, OnOk};
 ghost use Rattle.typst_parser.specs.Actions.{act, acts, as_unclosed, called, changed, column_of, expected_once, flushed, inherited, is_error_kind, joined, opened_frame, rejoined, returned, wrapped};
-ghost use Rattle.typst_parser.specs.Frames.{settled};
+ghost use Rattle.typst_parser.specs.Frames.{events_end, settled};
 ghost use Rattle.typst_parser.specs.Lists.{changed_at};
 ghost use Rattle.typst_parser.specs.Mistakes.{mistaken};
 ghost use Rattle.typst_parser.specs.Retag.{retagged};
@@ -123,6 +123,7 @@ impl Stack {
     }
 
     /// Puts white space before the next token into its frame now.
+    #[inline(never)]
     fn flush(&mut self) -> Result<(), AllocError>
         ensures { OnOk result (stack_of self.new ≡ flushed (stack_of self.old)) }
     {
@@ -173,6 +174,7 @@ impl Stack {
     }
 
     /// Makes the last tree of the innermost frame an error, unless it is one. So many bytes come up to its end.
+    #[inline(never)]
     fn mistake(&mut self, end: usize, what: Expectation) -> Result<(), AllocError>
         ensures { OnOk result (stack_of self.new ≡ changed (mistaken what end) (settled (stack_of self.old))) }
     {
@@ -184,6 +186,7 @@ impl Stack {
     }
 
     /// Makes the first leaf of the innermost frame an error.
+    #[inline(never)]
     fn unclose(&mut self) -> Result<(), AllocError>
         ensures { OnOk result
             (let s = settled (stack_of self.old) in stack_of self.new ≡ changed (changed_at as_unclosed s.top.start) s) }
@@ -196,6 +199,7 @@ impl Stack {
     }
 
     /// Changes the last tree of the innermost frame by a map.
+    #[inline(never)]
     fn retag(&mut self, alloc: Global, text: &[u8], map: Map) -> Result<(), AllocError>
         ensures { OnOk result (stack_of self.new ≡ changed (retagged map text.now) (settled (stack_of self.old))) }
     {
@@ -207,6 +211,7 @@ impl Stack {
     }
 
     /// Makes names that come again in the last tree of the innermost frame errors.
+    #[inline(never)]
     fn make_unique(&mut self, alloc: Global, text: &[u8], what: Unique) -> Result<(), AllocError>
         ensures { OnOk result (stack_of self.new ≡ changed (made_unique what text.now) (settled (stack_of self.old))) }
     {
@@ -217,7 +222,16 @@ impl Stack {
         Ok(())
     }
 
-    /// Does what an action says, behind a text. A tree has at most so many levels.
+    /// The text up to where the events end.
+    fn before<'a>(&self, text: &'a [u8]) -> &'a [u8]
+        ensures { result.now ≡ take (events_end (stack_of self.now)) text.now }
+    {
+        part(text, 0, self.events_end())
+    }
+
+    /// Does what an action says, in a text. A tree has at most so many levels. Actions are many, so the common ones are
+    /// inlined, and those that walk over events are calls.
+    #[inline(always)]
     fn act(
         &mut self,
         alloc: Global,
@@ -225,7 +239,8 @@ impl Stack {
         action: Action,
         most: usize,
     ) -> Result<(), AllocError>
-        ensures { OnOk result (stack_of self.new ≡ act most text.now action (stack_of self.old)) }
+        ensures { OnOk result
+            (let s = stack_of self.old in stack_of self.new ≡ act most (take (events_end s) text.now) action s) }
     {
         match action {
             Action::Goto(state) => self.top.state = state,
@@ -238,15 +253,16 @@ impl Stack {
             Action::Up => self.top.number = self.top.number.saturating_add(1),
             Action::Down => self.top.number = self.top.number.saturating_sub(1),
             Action::Expected(what) => self.expect(what),
-            Action::Wrong(what) => self.mistake(text.len(), what)?,
+            Action::Wrong(what) => self.mistake(self.before(text).len(), what)?,
             Action::Unclosed => self.unclose()?,
-            Action::Retag(map) => self.retag(alloc, text, map)?,
-            Action::Unique(what) => self.make_unique(alloc, text, what)?,
+            Action::Retag(map) => self.retag(alloc, self.before(text), map)?,
+            Action::Unique(what) => self.make_unique(alloc, self.before(text), what)?,
         }
         Ok(())
     }
 
     /// Does what some actions say, one after the other, in a text. A tree has at most so many levels.
+    #[inline(always)]
     pub(crate) fn acts(
         &mut self,
         alloc: Global,
@@ -257,8 +273,7 @@ impl Stack {
         ensures { OnOk result (stack_of self.new ≡ acts most text.now actions.now (stack_of self.old)) }
     {
         for action in actions {
-            let before = part(text, 0, self.events_end());
-            self.act(alloc, before, *action, most)?;
+            self.act(alloc, text, *action, most)?;
         }
         Ok(())
     }

@@ -112,6 +112,7 @@ pub(crate) fn class_of(kind: TokenKind) -> Class
 }
 
 /// Why a token is an error, if it is one.
+#[inline(always)]
 pub(crate) fn fault_of(kind: TokenKind) -> Option<Fault>
     ensures { result ≡ fault_of kind }
 {

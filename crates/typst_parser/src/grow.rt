@@ -87,7 +87,7 @@ pub(crate) fn grow(
     ensures trees { IfOk result (λ trees. trees.items ≡ grown text.now events.now) }
     ensures overflow { IsErrOf result Overflow → ¬ (SumsFit (grown text.now events.now)) }
 {
-    let mut trees = Vec::new(alloc);
+    let mut trees = Vec::with_capacity(alloc, events.len())?;
     let mut rest = text;
     for event in events {
         let (piece, more) = rest.split_at(event.len());

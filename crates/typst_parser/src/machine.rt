@@ -80,12 +80,13 @@ impl Stack {
         self.settle()?;
         self.place()?;
         push_token(alloc, &mut self.events, take, kind, bytes)?;
-        self.top = self.top.grown(1);
+        self.top.grow(1);
         self.advance(bytes);
         Ok(())
     }
 
     /// Takes the next token, as a row says, or ends the block at the end of the text.
+    #[inline(never)]
     fn eat(&mut self, alloc: Global, text: &[u8], take: Take) -> Result<(), AllocError>
         ensures { OnOk result (stack_of self.new ≡ eaten text.now take (stack_of self.old)) }
     {

@@ -15,6 +15,9 @@ use typst_base::SyntaxKind;
 use typst_grammar::maps::changes;
 use typst_grammar::{Change, Effect, Expectation, Map, Test};
 
+/// For how many maps a walk has room from the start: most trees that it changes need no more.
+const ROOM: usize = 16;
+
 /// The last bytes of a text.
 fn last_bytes(text: &[u8], len: usize) -> &[u8]
     ensures { result.now ≡ last_some len text.now }
@@ -279,12 +282,14 @@ pub(crate) fn retag(
     if is_idle(map, events) {
         return Ok(());
     }
+    let len = span(events, 1);
     let mut walk = Walk {
         events: mem::replace(events, Vec::new(alloc)),
-        maps: vec![in alloc; Some(map)]?,
-        done: Vec::new(alloc),
+        maps: Vec::with_capacity(alloc, ROOM)?,
+        done: Vec::with_capacity(alloc, len)?,
         end: text.len(),
     };
+    walk.maps.push(Some(map))?;
     walk.run(text)?;
     walk.done.reverse();
     walk.events.append(&mut walk.done)?;

@@ -16,7 +16,7 @@ use typst_lexer::Behind;
 pub(crate) const LEAST: usize = 2;
 
 /// For how many events a stack has room from the start: most lines of a text have no more.
-const ROOM: usize = 16;
+const ROOM: usize = 64;
 
 /// An open frame: where in the syntax it is, and which trees are its own.
 #[derive(Clone, Copy)]
@@ -88,14 +88,12 @@ impl Frame {
         }
     }
 
-    /// The frame with so many trees more.
-    pub(crate) fn grown(self, trees: usize) -> Frame
-        ensures { result ≡ grown trees self }
+    /// Gives the frame so many trees more.
+    #[inline(always)]
+    pub(crate) fn grow(&mut self, trees: usize)
+        ensures { self.new ≡ grown trees self.old }
     {
-        Frame {
-            trees: self.trees.saturating_add(trees),
-            ..self
-        }
+        self.trees = self.trees.saturating_add(trees);
     }
 }
 
@@ -105,7 +103,7 @@ fn count_at(frames: &mut Vec<Frame>, index: usize, trees: usize)
     ensures { frames.new.items ≡ changed_at (grown trees) index frames.old.items }
 {
     if let Some(frame) = frames.get_mut(index) {
-        *frame = frame.grown(trees);
+        frame.grow(trees);
     }
 }
 
@@ -156,16 +154,18 @@ impl Stack {
 
     /// Puts an event that is a tree behind all others, into the innermost frame. White space before the next token goes
     /// behind it.
+    #[inline(never)]
     pub(crate) fn push(&mut self, event: Event) -> Result<(), AllocError>
         ensures { OnOk result (stack_of self.new ≡ pushed event (stack_of self.old)) }
     {
         self.events.push(event)?;
-        self.top = self.top.grown(1);
+        self.top.grow(1);
         self.judge = self.below.len();
         Ok(())
     }
 
     /// Makes what is missing an error.
+    #[inline(always)]
     pub(crate) fn settle(&mut self) -> Result<(), AllocError>
         ensures { OnOk result (stack_of self.new ≡ settled (stack_of self.old)) }
     {
@@ -187,7 +187,7 @@ impl Stack {
         if self.judge < self.below.len() {
             count_at(&mut self.below, self.judge, trees);
         } else {
-            self.top = self.top.grown(trees);
+            self.top.grow(trees);
         }
     }
 
@@ -197,7 +197,9 @@ impl Stack {
     {
         let trees = self.white.len();
         self.count(trees);
-        self.events.append(&mut self.white)?;
+        if trees > 0 {
+            self.events.append(&mut self.white)?;
+        }
         Ok(())
     }
 

@@ -12,6 +12,7 @@ use typst_grammar::{Expectation, Take};
 use typst_lexer::TokenKind;
 
 /// The kind of the leaf that a token becomes. For a token that becomes no leaf it is `Text`.
+#[inline(always)]
 pub(crate) fn leaf_kind(kind: TokenKind) -> SyntaxKind
     ensures { result ≡ leaf_kind kind }
 {

@@ -1,13 +1,15 @@
 //! Names that come again in the last tree, and second sinks.
 ghost use Rattle.std.specs.Option.{option_map};
-ghost use Rattle.std.specs.Prelude.{◌≡◌, ◌++◌, ◌≤◌, ◌<◌, [], ◌∷◌, drop, length, map, reverse, slice_index_or, IfOk, OnOk};
+ghost use Rattle.std.specs.Prelude.{◌≡◌, ◌++◌, ◌≤◌, ◌<◌, [], ◌∷◌, drop, length, map, min, reverse, slice_index_or, true, IfOk, OnOk, OnSome};
 ghost use Rattle.typst_parser.specs.Faults.{name_in};
-ghost use Rattle.typst_parser.specs.FoundViews.{found_of};
+ghost use Rattle.typst_parser.specs.FoundViews.{IsNext, found_of, left_of};
 ghost use Rattle.typst_parser.specs.Seen.{fault_if_seen, fault_seen, is_seen, seen_after, seen_with};
 ghost use Rattle.typst_parser.specs.declared.event.Event.{Event as AnyEvent};
 ghost use Rattle.typst_parser.specs.declared.unique.Found.{Found as AnyFound};
 ghost use Rattle.typst_parser.specs.Unique.{bound_found, child_roles, fault_gone, fault_put, faulted_back, faults_of, found_back, found_in, made_unique, name_found};
-ghost use Rattle.typst_parser.specs.Roles.{root_role};
+ghost use Rattle.typst_parser.specs.Events.{kind_of};
+ghost use Rattle.typst_parser.specs.Roles.{first_role, others_role, root_role};
+ghost use Rattle.typst_parser.specs.Spans.{children_of};
 
 use crate::event::Event;
 use crate::fault::Fault;
@@ -17,6 +19,9 @@ use std::alloc::{AllocError, Global};
 use std::collections::HashSet;
 use typst_base::SyntaxKind;
 use typst_grammar::Unique;
+
+/// For how many roles a search has room from the start: most lists have no more items.
+const ROOM: usize = 16;
 
 /// A name or a sink that was found.
 #[derive(Clone, Copy)]
@@ -67,6 +72,7 @@ fn value_of(text: &[u8]) -> &[u8]
 }
 
 /// What is found in a tree of this role and kind, with this text if it is a leaf.
+#[inline(always)]
 fn found_in<'a>(what: Unique, role: Role, kind: SyntaxKind, text: &'a [u8]) -> Option<Found<'a>>
     ensures { option_map found_of result ≡ found_in what role kind text.now }
 {
@@ -109,12 +115,94 @@ fn push_roles(
     Ok(())
 }
 
+/// Puts the roles of the children of an event on top of others. It is behind so many events.
+#[inline(always)]
+fn push_below(
+    roles: &mut Vec<Role>,
+    role: Role,
+    event: Event,
+    left: usize,
+) -> Result<(), AllocError>
+    ensures { OnOk result (reverse roles.new.items
+        ≡ child_roles (first_role role (kind_of event) left) (others_role role (kind_of event) left) (min (children_of event) left)
+        ++ reverse roles.old.items) }
+{
+    let children = event.children().min(left);
+    if children == 0 {
+        return Ok(());
+    }
+    let first = first_role(role, event.kind(), left);
+    let others = others_role(role, event.kind(), left);
+    push_roles(roles, first, others, children)
+}
+
 /// The event at a place.
 fn event_at(events: &[Event], at: usize) -> Event
     requires { at < length events.now }
     ensures { (other : AnyEvent) → result ≡ slice_index_or events.now at other }
 {
     events[at]
+}
+
+/// A search through the events of the last tree, from the last one back.
+#[derive(Drop)]
+pub struct Search<'a> {
+    // The roles of the last trees of the events that aren't passed yet, that of the last tree at the end.
+    roles: Vec<Role>,
+    // How many these events are.
+    left: usize,
+    // The text up to their end.
+    text: &'a [u8],
+}
+
+impl<'a> Search<'a> {
+    /// The beginning of a search. The text ends with the last tree.
+    fn new(
+        alloc: Global,
+        what: Unique,
+        text: &'a [u8],
+        events: &[Event],
+    ) -> Result<Search<'a>, AllocError>
+        ensures left { IfOk result (λ search. left_of what events.now search
+            ≡ found_back what (root_role what ∷ []) text.now (reverse events.now)) }
+        ensures within { IfOk result (λ search. search.left ≤ length events.now) }
+    {
+        let mut roles = Vec::with_capacity(alloc, ROOM)?;
+        roles.push(root_role(what))?;
+        Ok(Search {
+            roles,
+            left: events.len(),
+            text,
+        })
+    }
+
+    /// What is found at the next event, unless none is left.
+    #[inline(always)]
+    fn next(
+        &mut self,
+        what: Unique,
+        events: &[Event],
+    ) -> Result<Option<Option<Found<'a>>>, AllocError>
+        requires { self.old.left ≤ length events.now }
+        ensures next { IfOk result (IsNext (left_of what events.now self.old) (left_of what events.now self.new)) }
+        ensures fewer { IfOk result (λ next. OnSome next (self.new.left < self.old.left)) }
+        ensures within { self.new.left ≤ self.old.left }
+    {
+        let Some(role) = self.roles.pop() else {
+            return Ok(None);
+        };
+        if self.left == 0 {
+            return Ok(None);
+        }
+        self.left -= 1;
+        let event = event_at(events, self.left);
+        let (before, piece) = self
+            .text
+            .split_at(self.text.len().saturating_sub(event.len()));
+        self.text = before;
+        push_below(&mut self.roles, role, event, self.left)?;
+        Ok(Some(found_in(what, role, event.kind(), piece)))
+    }
 }
 
 /// What is found at each event of the last tree, the last event first.
@@ -128,21 +216,9 @@ fn find<'a>(
         ≡ found_back what (root_role what ∷ []) text.now (reverse events.now)) }
 {
     let mut found = Vec::new(alloc);
-    let mut roles = vec![in alloc; root_role(what)]?;
-    let mut left = events.len();
-    let mut rest = text;
-    while let Some(role) = roles.pop() {
-        if left == 0 {
-            return Ok(found);
-        }
-        left -= 1;
-        let event = event_at(events, left);
-        let (before, piece) = rest.split_at(rest.len().saturating_sub(event.len()));
-        found.push(found_in(what, role, event.kind(), piece))?;
-        let first = first_role(role, event.kind(), left);
-        let others = others_role(role, event.kind(), left);
-        push_roles(&mut roles, first, others, event.children().min(left))?;
-        rest = before;
+    let mut search = Search::new(alloc, what, text, events)?;
+    while let Some(one) = search.next(what, events)? {
+        found.push(one)?;
     }
     Ok(found)
 }
@@ -163,6 +239,7 @@ fn see<'a>(seen: &mut Seen<'a>, one: Found<'a>) -> Result<Option<Fault>, AllocEr
 }
 
 /// Why it is an error, if something was found and was seen. From then on it is seen.
+#[inline(always)]
 fn see_any<'a>(seen: &mut Seen<'a>, one: Option<Found<'a>>) -> Result<Option<Fault>, AllocError>
     ensures fault { IfOk result (λ fault. fault ≡ fault_if_seen seen.old one.entry) }
     ensures seen { OnOk result ((q : AnyFound) → is_seen seen.new q ≡ seen_with seen.old one.entry q) }
@@ -171,6 +248,25 @@ fn see_any<'a>(seen: &mut Seen<'a>, one: Option<Found<'a>>) -> Result<Option<Fau
         Some(one) => see(seen, one),
         None => Ok(None),
     }
+}
+
+/// Whether no name comes again in the last tree, and no second sink.
+fn are_unique(
+    alloc: Global,
+    what: Unique,
+    text: &[u8],
+    events: &[Event],
+) -> Result<bool, AllocError>
+    ensures { IfOk result (λ unique. unique ≡ true → events.now ≡ made_unique what text.now events.now) }
+{
+    let mut seen = HashSet::new(alloc);
+    let mut search = Search::new(alloc, what, text, events)?;
+    while let Some(one) = search.next(what, events)? {
+        if see_any(&mut seen, one)?.is_some() {
+            return Ok(false);
+        }
+    }
+    Ok(true)
 }
 
 /// Why each event's tree is an error, if what was found at it comes before in the text.
@@ -249,6 +345,9 @@ pub(crate) fn make_unique(
 ) -> Result<(), AllocError>
     ensures { OnOk result (events.new.items ≡ made_unique what text.now events.old.items) }
 {
+    if are_unique(alloc, what, text, events)? {
+        return Ok(());
+    }
     let found = find(alloc, what, text, events)?;
     let faults = faults_of(alloc, &found)?;
     let mut taken = take_faulted(alloc, events, &faults, text.len())?;

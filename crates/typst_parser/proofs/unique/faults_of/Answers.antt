@@ -1,4 +1,4 @@
-use Rattle.std.proofs.Common.{rules, ◌≡◌, ℕ, suc, ◌-◌, ◌<◌, ◌++◌, ◌∷◌, [], ap, drop, length, reverse, subst, sym, ◌∙◌, arith}
+use Rattle.std.proofs.Common.{◌≡◌, suc, ◌-◌, ◌<◌, ap, drop, length, reverse, subst, sym, ◌∙◌, arith}
 use Rattle.typst_parser.specs.Unique.{faults_of}
 use Rattle.typst_parser.proofs.Seen.{Saw, more_faults, saw_next, views}
 use Rattle.typst_parser.proofs.unique.faults_of.Goals as goal

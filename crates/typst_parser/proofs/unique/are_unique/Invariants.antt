@@ -1,0 +1,15 @@
+use Rattle.std.proofs.Common.{◌≤◌, ◌∷◌, [], length, reverse}
+use Rattle.typst_parser.specs.FoundViews.{left_of}
+use Rattle.typst_parser.specs.Unique.{found_back}
+use Rattle.typst_parser.specs.Roles.{root_role}
+use Rattle.typst_parser.proofs.Fresh.{IsFresh}
+use Rattle.typst_parser.proofs.unique.are_unique.Given as goal
+
+abbrev pub invariant-loop-search : goal.invariant-loop-search
+invariant-loop-search l = record {
+  within : l.search.left ≤ length l.events;
+  fresh : IsFresh l.seen (left_of l.what l.events l.search) (found_back l.what (root_role l.what ∷ []) l.text (reverse l.events));
+}
+
+abbrev pub decreases-loop-search : goal.decreases-loop-search
+decreases-loop-search l = l.search.left
