@@ -9,7 +9,7 @@ from dataclasses import dataclass, field
 from functools import cached_property
 
 from grammar.nodes import Node
-from grammar.raw import raw
+from grammar.raw import is_name_part, raw
 
 NEWLINES = set("\n\x0b\x0c\r\x85\u2028\u2029")
 WHITE = NEWLINES | set("\t \xa0\u1680\u202f\u205f\u3000") | {chr(code) for code in range(0x2000, 0x200B)}
@@ -61,7 +61,7 @@ def begins_name(c):
 
 
 def is_in_name(c):
-    return c != "" and (c in "_-" or ("a" + c).isidentifier())
+    return c != "" and is_name_part(c)
 
 
 def begins_math_name(c):

@@ -10,6 +10,10 @@ def is_name_start(c):
     return c == "_" or c.isidentifier()
 
 
+def is_name_part(c):
+    return c == "-" or ("a" + c).isidentifier()
+
+
 def is_blank(line):
     return line.strip() == ""
 
@@ -51,7 +55,7 @@ def lines_of_one(body):
 def lines_of_block(body):
     """The children between two runs of backticks."""
     if body and is_name_start(body[0]):
-        tag = re.compile(r"[\w-]*").match(body).end()
+        tag = next((at for at, c in enumerate(body) if not is_name_part(c)), len(body))
         yield Node("RawLang", body[:tag])
         body = body[tag:]
     lines, ends = lines_of(body)
