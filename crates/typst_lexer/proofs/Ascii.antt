@@ -16,6 +16,7 @@ use Rattle.typst_lexer.specs.Bytes.{behind_byte, behind_first, is_undotted}
 use Rattle.typst_lexer.specs.Characters.{goes_on, is_code, begins, begins_with}
 use Rattle.typst_lexer.specs.Classes.{begins_char, char_of, first_char, is_alphanumeric, is_wordy}
 use Rattle.typst_lexer.specs.FirstCodes.{code_of_two}
+use Rattle.typst_lexer.specs.Letters as letters
 use Rattle.typst_lexer.specs.Machine.{behind_char, stay, stay_at}
 use Rattle.typst_lexer.proofs.FirstCodes.{first_code_is}
 use Rattle.typst_lexer.proofs.WhiteRuns.{at}
@@ -132,6 +133,14 @@ module _ (b : ℕ) (bs : List ℕ) (low : b < 128) where
 pub behind_is_first : (k : Behind) (w : List ℕ) → begins is_undotted w ≡ true → behind_char k w ≡ behind_first w
 behind_is_first k [] h = cc
 behind_is_first k (b ∷ bs) h = let is = both (nat_lt b 128) (not (b == 46)) h in behind_is b bs (low b is.0) k (not_true (b == 46) is.1)
+  where
+    low : (b : ℕ) → nat_lt b 128 ≡ true → b < 128
+    low b e = grind (arith, nat_tests)
+
+-- a class of characters, tried on a byte of ASCII
+pub low_begins : (p : ℕ → Bool) (w : List ℕ) → begins letters.is_low w ≡ true → begins p w ≡ begins_char p w
+low_begins p [] h = cc
+low_begins p (b ∷ bs) h = sym (begins_is b bs (low b h) p)
   where
     low : (b : ℕ) → nat_lt b 128 ≡ true → b < 128
     low b e = grind (arith, nat_tests)

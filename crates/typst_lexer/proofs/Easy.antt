@@ -134,7 +134,7 @@ ends_is : (p : Place) (b : ℕ) (bs : List ℕ) → b < 128 → ends_before p b 
 ends_is place.Space b bs low h = space_ends b bs _ _ low h
 ends_is place.Line b bs low h = space_ends b bs _ _ low h
 ends_is place.Parbreak b bs low h = space_ends b bs _ _ low h
-ends_is place.Text b bs low h = skip _ _ _ (text_ends b bs low h)
+ends_is place.Text b bs low h = skip _ _ _ (text_ends b bs low (both _ _ h).1)
 ends_is place.Blank b bs low h = skip _ _ _ (begins_is b bs low is_whitespace ∙ not_true _ h)
 ends_is place.Integer b bs low h = none_from _ (has (λ c. not (is_suffix c || (c == 46))) (λ c. is_none (stay_integer (c ∷ bs))) b low h refl)
 ends_is place.Name b bs low h = ends_name b bs _ low h

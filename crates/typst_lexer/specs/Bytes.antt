@@ -74,7 +74,7 @@ abbrev pub ends_before : Place → ℕ → Bool
 ends_before place.Space b = not (is_blank b)
 ends_before place.Line b = not (is_blank b)
 ends_before place.Parbreak b = not (is_blank b)
-ends_before place.Text b = is_text_end b
+ends_before place.Text b = not (is_letter b) && is_text_end b
 ends_before place.Blank b = not (is_whitespace b)
 ends_before place.Integer b = not (is_suffix b || (b == 46))
 ends_before place.Name b = not (is_name b)

@@ -176,7 +176,7 @@ fn ends_before(place: Place, byte: u8) -> bool
 {
     match place {
         Place::Space | Place::Line | Place::Parbreak => !is_blank(byte as char),
-        Place::Text => is_text_end(byte),
+        Place::Text => !is_letter(byte) && is_text_end(byte),
         Place::Blank => !(byte as char).is_whitespace(),
         Place::Integer => !(is_suffix(byte) || byte == b'.'),
         Place::Name | Place::FieldName => !is_name(byte),

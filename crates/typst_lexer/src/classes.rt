@@ -2,6 +2,8 @@
 ghost use Rattle.std.specs.Prelude.{◌≡◌, Some, None, if◌then◌else◌};
 ghost use Rattle.std.specs.Char.{is_whitespace};
 ghost use Rattle.std.specs.Char.Unicode.Numeric.{is_numeric};
+ghost use Rattle.typst_lexer.specs.Characters.{begins};
+ghost use Rattle.typst_lexer.specs.Letters.{is_low};
 ghost use Rattle.typst_lexer.specs.Classes.{begins_char, char_of, ends_line, first_char, is_alphanumeric, is_at_blank, is_blank, is_label_part, is_name_part, is_name_start, is_newline, is_unspaced, is_wordy};
 
 use crate::words::first_code;
@@ -89,30 +91,67 @@ fn is_wordy(c: char) -> bool
     is_alphanumeric(c) && ((c as u32) < 128 || !is_unspaced(Script::for_char(c)))
 }
 
+/// Whether the text begins with a byte of ASCII, which is a character by itself.
+fn begins_low(text: &[u8]) -> bool
+    ensures { result ≡ begins is_low text.now }
+{
+    matches!(text, [byte, ..] if *byte < 128)
+}
+
+/// Whether the text begins with a byte that is a newline.
+fn begins_newline_byte(text: &[u8]) -> bool
+    ensures { result ≡ begins is_newline text.now }
+{
+    matches!(text, [byte, ..] if is_newline(*byte as char))
+}
+
 /// Whether the text begins with a newline.
 pub fn begins_newline(text: &[u8]) -> bool
     ensures { result ≡ begins_char is_newline text.now }
 {
+    if begins_low(text) {
+        return begins_newline_byte(text);
+    }
     match first_char(text) {
         Some(c) => is_newline(c),
         None => false,
     }
 }
 
+/// Whether the text begins with a byte that is a blank of markup.
+fn begins_blank_byte(text: &[u8]) -> bool
+    ensures { result ≡ begins is_blank text.now }
+{
+    matches!(text, [byte, ..] if is_blank(*byte as char))
+}
+
 /// Whether the text begins with a blank of markup.
 pub fn begins_blank(text: &[u8]) -> bool
     ensures { result ≡ begins_char is_blank text.now }
 {
+    if begins_low(text) {
+        return begins_blank_byte(text);
+    }
     match first_char(text) {
         Some(c) => is_blank(c),
         None => false,
     }
 }
 
+/// Whether the text begins with a byte that is white space.
+fn begins_space_byte(text: &[u8]) -> bool
+    ensures { result ≡ begins is_whitespace text.now }
+{
+    matches!(text, [byte, ..] if (*byte as char).is_whitespace())
+}
+
 /// Whether the text begins with white space.
 pub fn begins_space(text: &[u8]) -> bool
     ensures { result ≡ begins_char is_whitespace text.now }
 {
+    if begins_low(text) {
+        return begins_space_byte(text);
+    }
     match first_char(text) {
         Some(c) => c.is_whitespace(),
         None => false,
