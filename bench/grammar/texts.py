@@ -225,7 +225,9 @@ class Maker:
         if depth <= 0:
             return base()
         inner = lambda: self.math(depth - 1)  # noqa: E731
-        names = lambda: [f"{name}: {inner()}" for name in self.chance.sample(["a", "row-gap", "_x"], 1)]  # noqa: E731
+        # A comment alone is no value.
+        value = lambda: f"{base()}{self.maybe(lambda: ' ' + inner())}"  # noqa: E731
+        names = lambda: [f"{name}: {value()}" for name in self.chance.sample(["a", "row-gap", "_x"], 1)]  # noqa: E731
         return self.one(
             base,
             base,
