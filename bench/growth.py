@@ -31,27 +31,27 @@ BOUNDS = {
     "script: find, run": (1_900, 1_900),
     "script: replace, run": (5_300, 5_400),
     # Texts. An edit is made and taken back: in the middle, or in turns at both ends, with the blocks between them.
-    "text: letter": (74_000, 138_000),
-    "text: letter far": (80_000, 232_000),
-    "text: letter list": (50_000, 131_000),
+    "text: letter": (54_200, 120_000),
+    "text: letter far": (60_300, 214_000),
+    "text: letter list": (38_300, 121_000),
     "text: lines letter": (2_000, 3_600),
     "text: byte_to_line": (210, 250),
     "text: line_column_to_byte": (170, 170),
     "text: place_of": (550, 590),
 }
 # The most instructions for each line of a text that is parsed: of paragraphs, of one block, and of items without blank lines.
-PER_LINE = {"text: parse": (16_500, 16_500), "text: parse block": (21_700, 21_700), "text: parse list": (19_400, 19_400)}
+PER_LINE = {"text: parse": (12_000, 12_000), "text: parse block": (15_400, 15_400), "text: parse list": (14_200, 14_200)}
 # The same for each piece of a text of one line that repeats it: brackets that nothing closes, operators, fields, calls, names.
 PER_PIECE = {
-    "text: parse round": (4_100, 3_800),
-    "text: parse square": (1_460, 1_430),
-    "text: parse curly": (3_700, 3_450),
-    "text: parse dollars": (3_320, 3_300),
-    "text: parse minus": (570, 560),
-    "text: parse fields": (4_850, 4_880),
-    "text: parse calls": (80_600, 87_600),
-    "text: parse items": (2_850, 2_600),
-    "text: parse keys": (12_950, 12_850),
+    "text: parse round": (3_050, 2_910),
+    "text: parse square": (1_110, 1_100),
+    "text: parse curly": (2_760, 2_560),
+    "text: parse dollars": (2_670, 2_650),
+    "text: parse minus": (80, 70),
+    "text: parse fields": (3_980, 3_990),
+    "text: parse calls": (68_500, 70_600),
+    "text: parse items": (2_110, 1_870),
+    "text: parse keys": (9_460, 9_470),
 }
 # The most instructions for each level of a chain, whose leaf a reconciliation changes: at so many levels.
 LEVELS, PER_LEVEL = (30, 480), {"text: reconcile chain": (1_500, 1_300)}
