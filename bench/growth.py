@@ -31,27 +31,27 @@ BOUNDS = {
     "script: find, run": (1_900, 1_900),
     "script: replace, run": (5_300, 5_400),
     # Texts. An edit is made and taken back: in the middle, or in turns at both ends, with the blocks between them.
-    "text: letter": (54_200, 120_000),
-    "text: letter far": (60_300, 214_000),
-    "text: letter list": (38_300, 121_000),
+    "text: letter": (60_200, 133_000),
+    "text: letter far": (67_000, 232_000),
+    "text: letter list": (42_500, 131_000),
     "text: lines letter": (2_000, 3_600),
     "text: byte_to_line": (210, 250),
     "text: line_column_to_byte": (170, 170),
     "text: place_of": (550, 590),
 }
 # The most instructions for each line of a text that is parsed: of paragraphs, of one block, and of items without blank lines.
-PER_LINE = {"text: parse": (12_000, 12_000), "text: parse block": (15_400, 15_400), "text: parse list": (14_200, 14_200)}
+PER_LINE = {"text: parse": (12_500, 12_500), "text: parse block": (16_000, 16_000), "text: parse list": (14_800, 14_800)}
 # The same for each piece of a text of one line that repeats it: brackets that nothing closes, operators, fields, calls, names.
 PER_PIECE = {
-    "text: parse round": (3_050, 2_910),
-    "text: parse square": (1_110, 1_100),
-    "text: parse curly": (2_760, 2_560),
-    "text: parse dollars": (2_670, 2_650),
+    "text: parse round": (3_240, 3_100),
+    "text: parse square": (1_180, 1_170),
+    "text: parse curly": (2_940, 2_720),
+    "text: parse dollars": (2_850, 2_830),
     "text: parse minus": (80, 70),
-    "text: parse fields": (3_980, 3_990),
-    "text: parse calls": (68_500, 70_600),
-    "text: parse items": (2_110, 1_870),
-    "text: parse keys": (9_460, 9_470),
+    "text: parse fields": (4_240, 4_250),
+    "text: parse calls": (73_000, 75_200),
+    "text: parse items": (2_250, 1_990),
+    "text: parse keys": (10_100, 10_100),
 }
 # The most instructions for each level of a chain, whose leaf a reconciliation changes: at so many levels.
 LEVELS, PER_LEVEL = (30, 480), {"text: reconcile chain": (1_500, 1_300)}
