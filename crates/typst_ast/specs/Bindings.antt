@@ -10,7 +10,7 @@ use Rattle.typst_ast.specs.declared.pattern.Pattern.TheVariants.{Normal, Placeho
 use Rattle.typst_atoms.specs.Bindings.{names_bound, names_of_items}
 use Rattle.typst_node.specs.Children.{first_child}
 use Rattle.typst_atoms.specs.Classes.{is_pattern_kind}
-use Rattle.typst_atoms.specs.View.{node_of as atom_node}
+use Rattle.typst_atoms.specs.View.{atom_node}
 use Rattle.typst_node.specs.Tree.{Tree}
 
 -- the nodes of the names that an expression binds as a pattern: an identifier binds itself, even as a placeholder

@@ -35,7 +35,7 @@ use Rattle.typst_ast.specs.EqualViews.{args_eq, array_items_eq, destructuring_it
 use Rattle.typst_ast.specs.ExprTable.{expr_kind, expr_node}
 use Rattle.typst_ast.specs.View.{node_of}
 use Rattle.typst_atoms.specs.SameViews.{same_by_node_alike, same_views_alike}
-use Rattle.typst_atoms.specs.View.{node_of as atom_node}
+use Rattle.typst_atoms.specs.View.{atom_node}
 use Rattle.typst_node.specs.Equal.{tree_eq, tree_same}
 
 pub patterns_alike : (v w : Pattern) → patterns_eq v w ≡ true → of_patterns.hash_input v ≡ of_patterns.hash_input w

@@ -25,7 +25,7 @@ use Rattle.typst_ast.specs.declared.lets.LetBindingKind.TheVariants.{Normal as L
 use Rattle.typst_ast.specs.declared.math_args.MathArgItem.{MathArgItem}
 use Rattle.typst_ast.specs.declared.math_args.MathArgItem.TheVariants.{Arg as MathArgItem_Arg, Space as MathArgItem_Space, Comma as MathArgItem_Comma, Semicolon as MathArgItem_Semicolon, LeftParen as MathArgItem_LeftParen, RightParen as MathArgItem_RightParen}
 use Rattle.typst_atoms.specs.SameViews.{same_parts, same_views_equivalence}
-use Rattle.typst_atoms.specs.View.{node_of as atom_node}
+use Rattle.typst_atoms.specs.View.{atom_node}
 use Rattle.typst_base.specs.declared.kind.SyntaxKind.{SyntaxKind}
 use Rattle.typst_base.specs.declared.kind.SyntaxKind.TheVariants as kinds
 use Rattle.typst_node.specs.Tree.{Tree}

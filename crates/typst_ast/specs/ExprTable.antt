@@ -5,7 +5,7 @@ use Rattle.typst_ast.specs.View.{node_of}
 use Rattle.typst_ast.specs.declared.expr.Expr.{Expr}
 use Rattle.typst_ast.specs.declared.expr.Expr.TheVariants.{Text, Space, Linebreak, Parbreak, Escape, Shorthand, SmartQuote, Strong, Emph, Raw, Link, Label, Ref, Heading, ListItem, EnumItem, TermItem, Equation, Math, MathText, MathIdent, MathFieldAccess, MathShorthand, MathAlignPoint, MathCall, MathDelimited, MathAttach, MathPrimes, MathFrac, MathRoot, None as NoneKind, Auto, Ident, Bool as BoolKind, Int, Float, Numeric, Str, CodeBlock, ContentBlock, Parenthesized, Array, Dict, Unary, Binary, FieldAccess, FuncCall, Closure, LetBinding, SetRule, ShowRule, Contextual, Conditional, WhileLoop, ForLoop, ModuleImport, ModuleInclude, LoopBreak, LoopContinue, FuncReturn, DestructAssignment}
 use Rattle.typst_atoms.specs.OfKind.{kind_from_test}
-use Rattle.typst_atoms.specs.View.{node_of as atom_node}
+use Rattle.typst_atoms.specs.View.{atom_node}
 use Rattle.typst_base.specs.declared.kind.SyntaxKind.{SyntaxKind}
 use Rattle.typst_base.specs.declared.kind.SyntaxKind.TheVariants as kinds
 use Rattle.typst_node.specs.Tree.{Tree}

@@ -3,7 +3,7 @@ use Rattle.std.specs.Prelude.{Bool, ◌||◌, Option, Some, None, ◌≡◌}
 use Rattle.typst_ast.specs.declared.imports.Imports.{Imports}
 use Rattle.typst_ast.specs.declared.imports.Imports.TheVariants.{Wildcard, Items}
 use Rattle.typst_atoms.specs.Kinds.{is_kind}
-use Rattle.typst_atoms.specs.View.{node_of as atom_node}
+use Rattle.typst_atoms.specs.View.{atom_node}
 use Rattle.typst_base.specs.declared.kind.SyntaxKind.{SyntaxKind}
 use Rattle.typst_base.specs.declared.kind.SyntaxKind.TheVariants as kinds
 use Rattle.typst_node.specs.Tree.{Tree}

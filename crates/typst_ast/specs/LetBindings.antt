@@ -8,7 +8,7 @@ use Rattle.typst_node.specs.Children.{first_child, second_child}
 use Rattle.typst_atoms.specs.Classes.{is_pattern_kind}
 use Rattle.typst_atoms.specs.ExprKinds.{is_expr_kind}
 use Rattle.typst_atoms.specs.Kinds.{is_kind}
-use Rattle.typst_atoms.specs.View.{node_of as atom_node}
+use Rattle.typst_atoms.specs.View.{atom_node}
 use Rattle.typst_base.specs.declared.kind.SyntaxKind.{SyntaxKind}
 use Rattle.typst_base.specs.declared.kind.SyntaxKind.TheVariants as kinds
 use Rattle.typst_node.specs.Tree.{Tree}

@@ -5,7 +5,7 @@ use Rattle.typst_ast.specs.declared.math_args.MathArg.{MathArg}
 use Rattle.typst_ast.specs.declared.math_args.MathArgItem.{MathArgItem}
 use Rattle.typst_ast.specs.declared.math_args.MathArgItem.TheVariants.{Arg, Space, Comma, Semicolon, LeftParen, RightParen}
 use Rattle.typst_atoms.specs.Classes.{is_arg_kind}
-use Rattle.typst_atoms.specs.View.{node_of as atom_node}
+use Rattle.typst_atoms.specs.View.{atom_node}
 use Rattle.typst_base.specs.declared.kind.SyntaxKind.{SyntaxKind}
 use Rattle.typst_base.specs.declared.kind.SyntaxKind.TheVariants as kinds
 use Rattle.typst_node.specs.Tree.{Tree}

@@ -6,7 +6,7 @@ use Rattle.typst_ast.specs.declared.pattern.Pattern.{Pattern}
 use Rattle.typst_ast.specs.declared.pattern.Pattern.TheVariants.{Normal, Placeholder, Parenthesized, Destructuring}
 use Rattle.typst_atoms.specs.Kinds.{is_kind}
 use Rattle.typst_atoms.specs.OfKind.{kind_from_test}
-use Rattle.typst_atoms.specs.View.{node_of as atom_node}
+use Rattle.typst_atoms.specs.View.{atom_node}
 use Rattle.typst_base.specs.declared.kind.SyntaxKind.{SyntaxKind}
 use Rattle.typst_base.specs.declared.kind.SyntaxKind.TheVariants as kinds
 use Rattle.typst_node.specs.Tree.{Tree}

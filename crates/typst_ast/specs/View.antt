@@ -2,7 +2,7 @@
 use Rattle.std.specs.Prelude.{Option, true}
 use Rattle.std.specs.Option.{option_copied}
 use Rattle.typst_ast.specs.declared.view.View.{View}
-use Rattle.typst_atoms.specs.View.{node_of as atom_node}
+use Rattle.typst_atoms.specs.View.{atom_node}
 use Rattle.typst_atoms.specs.declared.view.View.{View as Atom}
 use Rattle.typst_base.specs.declared.kind.SyntaxKind.{SyntaxKind}
 use Rattle.typst_node.specs.Tree.{Tree}

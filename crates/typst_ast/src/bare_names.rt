@@ -6,7 +6,7 @@ ghost use Rattle.typst_ast.specs.View.{node_of};
 ghost use Rattle.typst_node.specs.Children.{last_child};
 ghost use Rattle.typst_atoms.specs.Kinds.{is_kind};
 ghost use Rattle.typst_atoms.specs.Texts.{text_in};
-ghost use Rattle.typst_atoms.specs.View.{node_of as atom_node};
+ghost use Rattle.typst_atoms.specs.View.{atom_node};
 ghost use Rattle.typst_base.specs.declared.kind.SyntaxKind.TheVariants as kinds;
 
 use crate::expr::Expr;

@@ -3,7 +3,7 @@ ghost use Rattle.std.specs.Prelude.{◌≡◌, map, option_to_list, IfOk};
 ghost use Rattle.typst_ast.specs.BindingRule.{ByRule};
 ghost use Rattle.typst_ast.specs.Bindings.{destructuring_names, destructuring_names_by, expr_names, let_names, let_names_by, pattern_names, pattern_names_by};
 ghost use Rattle.typst_ast.specs.View.{node_of};
-ghost use Rattle.typst_atoms.specs.View.{node_of as atom_node};
+ghost use Rattle.typst_atoms.specs.View.{atom_node};
 
 use crate::expr::Expr;
 use crate::lets::LetBindingKind;

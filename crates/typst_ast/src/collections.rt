@@ -9,7 +9,7 @@ ghost use Rattle.typst_atoms.specs.Classes.{is_destructuring_item_kind, is_patte
 ghost use Rattle.typst_atoms.specs.ExprKinds.{is_expr_kind};
 ghost use Rattle.typst_node.specs.Items.{nodes_ahead, nodes_left};
 ghost use Rattle.typst_atoms.specs.Kinds.{is_kind};
-ghost use Rattle.typst_atoms.specs.View.{node_of as atom_node};
+ghost use Rattle.typst_atoms.specs.View.{atom_node};
 ghost use Rattle.typst_base.specs.declared.kind.SyntaxKind.TheVariants as kinds;
 
 use crate::array_item::ArrayItem;

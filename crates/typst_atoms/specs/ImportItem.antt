@@ -3,7 +3,7 @@ use Rattle.std.specs.Prelude.{Option, IfSome, ◌≡◌}
 use Rattle.typst_node.specs.Children.{first_child, last_child}
 use Rattle.typst_atoms.specs.Kinds.{is_kind}
 use Rattle.typst_atoms.specs.OfKind.{kind_from_test}
-use Rattle.typst_atoms.specs.View.{node_of}
+use Rattle.typst_atoms.specs.View.{atom_node}
 use Rattle.typst_atoms.specs.declared.import_items.ImportItem.{ImportItem}
 use Rattle.typst_atoms.specs.declared.import_items.ImportItem.TheVariants.{Simple, Renamed}
 use Rattle.typst_base.specs.declared.kind.SyntaxKind.{SyntaxKind}
@@ -13,8 +13,8 @@ use Rattle.typst_node.specs.Views.{node_kind}
 
 -- the node of the item; a placeholder has none
 abbrev pub import_item_node : ImportItem → Option Tree
-import_item_node (Simple v) = node_of v
-import_item_node (Renamed v) = node_of v
+import_item_node (Simple v) = atom_node v
+import_item_node (Renamed v) = atom_node v
 
 -- the kind of the item, with or without a node
 abbrev pub import_item_kind : ImportItem → SyntaxKind
@@ -27,10 +27,10 @@ import_item_kind_is_node_kind (Renamed v) = kind_from_test kinds.RenamedImportIt
 
 -- the node of the path: the item itself, or a renamed item's first child that is a path
 abbrev pub item_path : ImportItem → Option Tree
-item_path (Simple v) = node_of v
-item_path (Renamed v) = first_child (is_kind kinds.ImportItemPath) (node_of v)
+item_path (Simple v) = atom_node v
+item_path (Renamed v) = first_child (is_kind kinds.ImportItemPath) (atom_node v)
 
 -- the node of the item's name at the place of the import: the path's last identifier, or the new name of a renamed item
 abbrev pub item_bound_name : ImportItem → Option Tree
-item_bound_name (Simple v) = last_child (is_kind kinds.Ident) (node_of v)
-item_bound_name (Renamed v) = last_child (is_kind kinds.Ident) (node_of v)
+item_bound_name (Simple v) = last_child (is_kind kinds.Ident) (atom_node v)
+item_bound_name (Renamed v) = last_child (is_kind kinds.Ident) (atom_node v)

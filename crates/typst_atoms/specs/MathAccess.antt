@@ -1,7 +1,7 @@
 -- A `MathAccess` in contracts.
 use Rattle.std.specs.Prelude.{true, Option, IfSome, ◌≡◌}
 use Rattle.typst_atoms.specs.OfKind.{kind_from_test}
-use Rattle.typst_atoms.specs.View.{node_of}
+use Rattle.typst_atoms.specs.View.{atom_node}
 use Rattle.typst_atoms.specs.declared.math_access.MathAccess.{MathAccess}
 use Rattle.typst_atoms.specs.declared.math_access.MathAccess.TheVariants.{MathIdent, MathFieldAccess}
 use Rattle.typst_base.specs.declared.kind.SyntaxKind.{SyntaxKind}
@@ -11,8 +11,8 @@ use Rattle.typst_node.specs.Views.{node_kind, IsViewOf}
 
 -- the node of the access; a placeholder has none
 abbrev pub math_access_node : MathAccess → Option Tree
-math_access_node (MathIdent v) = node_of v
-math_access_node (MathFieldAccess v) = node_of v
+math_access_node (MathIdent v) = atom_node v
+math_access_node (MathFieldAccess v) = atom_node v
 
 -- the kind of the access, with or without a node
 abbrev pub math_access_kind : MathAccess → SyntaxKind

@@ -5,9 +5,9 @@ use Rattle.typst_atoms.specs.declared.view.View.{View}
 use Rattle.typst_node.specs.Tree.{Tree}
 
 -- the node of a view; a placeholder has none
-abbrev pub node_of : {M : _} {g : _} → View M g → Option Tree
-node_of v = option_copied v.node
+abbrev pub atom_node : {M : _} {g : _} → View M g → Option Tree
+atom_node v = option_copied v.node
 
 -- an optional view of one kind: there is one exactly if the node is there, and then it is the view of that node
 abbrev pub IsOptionalView : {M : _} {g : _} → Option Tree → Option (View M g) → Type 0
-IsOptionalView tree view = MatchOption view (tree ≡ None) (λ v. (tree ≢ None) × (node_of v ≡ tree))
+IsOptionalView tree view = MatchOption view (tree ≡ None) (λ v. (tree ≢ None) × (atom_node v ≡ tree))

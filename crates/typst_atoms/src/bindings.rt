@@ -5,7 +5,7 @@ ghost use Rattle.std.specs.Option.{option_copied};
 ghost use Rattle.typst_atoms.specs.Bindings.{names_among, names_bound, names_of_item};
 ghost use Rattle.typst_node.specs.Children.{all_in, first_child, last_child};
 ghost use Rattle.typst_atoms.specs.Classes.{is_destructuring_item_kind, is_pattern_kind};
-ghost use Rattle.typst_atoms.specs.View.{node_of};
+ghost use Rattle.typst_atoms.specs.View.{atom_node};
 
 use crate::casts::try_cast_first;
 use crate::classes::is_pattern;
@@ -34,8 +34,8 @@ fn last_pattern<'a>(node: Option<&'a SyntaxNode>) -> Option<&'a SyntaxNode>
 
 /// Adds the name, if there is one.
 pub fn push_name<'a>(names: &mut Vec<Ident<'a>>, name: Option<Ident<'a>>) -> Result<(), AllocError>
-    ensures { IfOk result (λ _. map node_of names.new.items
-        ≡ map node_of names.old.items ++ map node_of (option_to_list name.entry)) }
+    ensures { IfOk result (λ _. map atom_node names.new.items
+        ≡ map atom_node names.old.items ++ map atom_node (option_to_list name.entry)) }
 {
     if let Some(name) = name {
         names.push(name)?;
@@ -52,8 +52,8 @@ pub fn push_pattern<'a>(
     names: &mut Vec<Ident<'a>>,
     pattern: Option<&'a SyntaxNode>,
 ) -> Result<(), AllocError>
-    ensures { IfOk result (λ _. map node_of names.new.items
-        ≡ map node_of names.old.items ++ map Some (names_bound (option_copied pattern.entry))) }
+    ensures { IfOk result (λ _. map atom_node names.new.items
+        ≡ map atom_node names.old.items ++ map Some (names_bound (option_copied pattern.entry))) }
 {
     match pattern {
         Some(node) => match node.kind() {
@@ -69,8 +69,8 @@ pub fn push_pattern<'a>(
 /// Adds the names that an item of a destructuring binds. A node that is not an item binds none.
 #[cycle(bindings)]
 fn push_item<'a>(names: &mut Vec<Ident<'a>>, item: &'a SyntaxNode) -> Result<(), AllocError>
-    ensures { IfOk result (λ _. map node_of names.new.items
-        ≡ map node_of names.old.items ++ map Some (names_of_item names_bound item.now)) }
+    ensures { IfOk result (λ _. map atom_node names.new.items
+        ≡ map atom_node names.old.items ++ map Some (names_of_item names_bound item.now)) }
 {
     match item.kind() {
         SyntaxKind::Named => push_pattern(names, last_pattern(Some(item))),
@@ -85,8 +85,8 @@ fn push_item<'a>(names: &mut Vec<Ident<'a>>, item: &'a SyntaxNode) -> Result<(),
 /// It takes time in proportion to the nodes below, and memory for the names.
 #[cycle(bindings)]
 pub fn push_items<'a>(names: &mut Vec<Ident<'a>>, nodes: &'a [SyntaxNode]) -> Result<(), AllocError>
-    ensures { IfOk result (λ _. map node_of names.new.items
-        ≡ map node_of names.old.items ++ map Some (names_among names_bound nodes.now)) }
+    ensures { IfOk result (λ _. map atom_node names.new.items
+        ≡ map atom_node names.old.items ++ map Some (names_among names_bound nodes.now)) }
 {
     for node in nodes {
         push_item(names, node)?;

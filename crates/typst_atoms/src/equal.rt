@@ -3,7 +3,7 @@ ghost use Rattle.std.specs.Prelude.{◌≡◌, ◌↔◌, IsTrue};
 ghost use Rattle.typst_atoms.specs.ImportItem.{import_item_kind, import_item_node};
 ghost use Rattle.typst_atoms.specs.MathAccess.{math_access_kind, math_access_node};
 ghost use Rattle.typst_atoms.specs.SameViews.{by_node_input, same_by_node, same_by_node_alike, same_by_node_equivalence, same_by_node_laws, same_views, same_views_alike, same_views_equivalence, same_views_laws, view_input};
-ghost use Rattle.typst_atoms.specs.View.{node_of};
+ghost use Rattle.typst_atoms.specs.View.{atom_node};
 
 use crate::import_items::ImportItem;
 use crate::marker::Kind;
@@ -15,26 +15,26 @@ use std::hash::{Hash, Hasher};
 /// Two views of one kind are equal if they are of the same tree, spans and bounds included, or if both are
 /// placeholders. A comparison takes time at most in proportion to the smaller tree, and no memory.
 impl<'a, M: Kind> PartialEq for View<'a, M> {
-    ghost eq = { same_by_node node_of };
+    ghost eq = { same_by_node atom_node };
 
-    ghost laws = { same_by_node_laws node_of };
+    ghost laws = { same_by_node_laws atom_node };
 
     fn eq(&self, other: &Self) -> bool
-        ensures is { result ≡ same_by_node node_of self.now other.now }
-        ensures same { IsTrue result ↔ (node_of self.now ≡ node_of other.now) }
+        ensures is { result ≡ same_by_node atom_node self.now other.now }
+        ensures same { IsTrue result ↔ (atom_node self.now ≡ atom_node other.now) }
     {
         are_same_nodes(self.node(), other.node())
     }
 }
 
 impl<'a, M: Kind> Eq for View<'a, M> {
-    ghost laws = { same_by_node_equivalence node_of };
+    ghost laws = { same_by_node_equivalence atom_node };
 }
 
 impl<'a, M: Kind> Hash for View<'a, M> {
-    ghost hash_input = { by_node_input node_of };
+    ghost hash_input = { by_node_input atom_node };
 
-    ghost respects_eq = { same_by_node_alike node_of };
+    ghost respects_eq = { same_by_node_alike atom_node };
 
     fn hash<H: Hasher>(&self, state: &mut H) {
         feed_node(self.node(), state);

@@ -4,7 +4,7 @@ ghost use Rattle.std.specs.Str.{chars};
 ghost use Rattle.typst_atoms.specs.CodePoints.{first_or_nul};
 ghost use Rattle.typst_atoms.specs.Escapes.{escaped_char, without_backslash};
 ghost use Rattle.typst_atoms.specs.Texts.{text_in};
-ghost use Rattle.typst_atoms.specs.View.{node_of};
+ghost use Rattle.typst_atoms.specs.View.{atom_node};
 
 use crate::hex::hex_value;
 use crate::views::Escape;
@@ -26,7 +26,7 @@ fn behind_backslash(text: &str) -> &str
 impl<'a> Escape<'a> {
     /// The escaped character. It is U+0000 if the text names no character.
     pub fn get(self) -> char
-        ensures { result ≡ escaped_char (text_in (node_of self.entry)) }
+        ensures { result ≡ escaped_char (text_in (atom_node self.entry)) }
     {
         let rest = behind_backslash(self.leaf_text());
         match rest.strip_prefix("u{") {

@@ -4,7 +4,7 @@ ghost use Rattle.typst_node.specs.Children.{all_children, children_in, last_chil
 ghost use Rattle.typst_atoms.specs.ImportItem.{item_path, item_bound_name};
 ghost use Rattle.typst_node.specs.Items.{nodes_ahead, nodes_left};
 ghost use Rattle.typst_atoms.specs.Kinds.{is_kind, is_import_item_kind};
-ghost use Rattle.typst_atoms.specs.View.{node_of};
+ghost use Rattle.typst_atoms.specs.View.{atom_node};
 ghost use Rattle.typst_base.specs.declared.kind.SyntaxKind.TheVariants as kinds;
 
 use crate::casts::cast_all;
@@ -16,8 +16,8 @@ impl<'a> ImportItems<'a> {
     /// The items in order. They can be read from both ends.
     pub fn iter(self) -> Items<'a, ImportItem<'a>>
         ensures left { nodes_left is_import_item_kind result
-            ≡ all_children is_import_item_kind (node_of self.entry) }
-        ensures ahead { nodes_ahead result ≡ children_in (node_of self.entry) }
+            ≡ all_children is_import_item_kind (atom_node self.entry) }
+        ensures ahead { nodes_ahead result ≡ children_in (atom_node self.entry) }
     {
         cast_all(self.node())
     }
@@ -35,7 +35,7 @@ pub enum ImportItem<'a> {
 impl<'a> ImportItem<'a> {
     /// The path to the item.
     pub fn path(self) -> ImportItemPath<'a>
-        ensures { node_of result ≡ item_path self.entry }
+        ensures { atom_node result ≡ item_path self.entry }
     {
         match self {
             ImportItem::Simple(path) => path,
@@ -45,14 +45,14 @@ impl<'a> ImportItem<'a> {
 
     /// The item's own name, which is the name in its path.
     pub fn original_name(self) -> Ident<'a>
-        ensures { node_of result ≡ last_child (is_kind kinds.Ident) (item_path self.entry) }
+        ensures { atom_node result ≡ last_child (is_kind kinds.Ident) (item_path self.entry) }
     {
         self.path().name()
     }
 
     /// The name of the item at the place of the import: a renamed item's new name, or else its own name.
     pub fn bound_name(self) -> Ident<'a>
-        ensures { node_of result ≡ item_bound_name self.entry }
+        ensures { atom_node result ≡ item_bound_name self.entry }
     {
         match self {
             ImportItem::Simple(path) => path.name(),

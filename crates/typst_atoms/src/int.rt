@@ -2,7 +2,7 @@
 ghost use Rattle.std.specs.Prelude.{◌≡◌};
 ghost use Rattle.typst_atoms.specs.Ints.{IsIntReading, base_of, digits_of};
 ghost use Rattle.typst_atoms.specs.Texts.{text_in};
-ghost use Rattle.typst_atoms.specs.View.{node_of};
+ghost use Rattle.typst_atoms.specs.View.{atom_node};
 
 use crate::views::Int;
 
@@ -26,7 +26,7 @@ impl<'a> Int<'a> {
     /// The integer's value, or 0 if the text is no integer that an `i64` holds. The text is an optional sign and
     /// digits, in base 16 after `0x`, 8 after `0o`, 2 after `0b`, and 10 otherwise.
     pub fn get(self) -> i64
-        ensures { IsIntReading (text_in (node_of self.entry)) result }
+        ensures { IsIntReading (text_in (atom_node self.entry)) result }
     {
         let (digits, base) = digits_and_base(self.leaf_text());
         match i64::from_str_radix(digits, base) {

@@ -4,7 +4,7 @@ ghost use Rattle.typst_node.specs.Children.{first_child, last_child};
 ghost use Rattle.typst_atoms.specs.Kinds.{is_kind, is_math_access_kind};
 ghost use Rattle.typst_atoms.specs.MathAccess.{IsMathAccessOf};
 ghost use Rattle.typst_atoms.specs.Texts.{text_in};
-ghost use Rattle.typst_atoms.specs.View.{node_of};
+ghost use Rattle.typst_atoms.specs.View.{atom_node};
 ghost use Rattle.typst_base.specs.declared.kind.SyntaxKind.TheVariants as kinds;
 
 use crate::casts::{cast_first, cast_last};
@@ -75,14 +75,14 @@ impl<'a> AstNode<'a> for MathAccess<'a> {
 impl<'a> of::MathIdent<'a> {
     /// The identifier.
     pub fn get(self) -> &'a str
-        ensures { result.now ≡ text_in (node_of self.entry) }
+        ensures { result.now ≡ text_in (atom_node self.entry) }
     {
         self.leaf_text()
     }
 
     /// The identifier.
     pub fn as_str(self) -> &'a str
-        ensures { result.now ≡ text_in (node_of self.entry) }
+        ensures { result.now ≡ text_in (atom_node self.entry) }
     {
         self.get()
     }
@@ -91,14 +91,14 @@ impl<'a> of::MathIdent<'a> {
 impl<'a> of::MathFieldAccess<'a> {
     /// The target whose field is accessed.
     pub fn target(self) -> MathAccess<'a>
-        ensures { IsMathAccessOf (first_child is_math_access_kind (node_of self.entry)) result }
+        ensures { IsMathAccessOf (first_child is_math_access_kind (atom_node self.entry)) result }
     {
         cast_first(self.node())
     }
 
     /// The field's name.
     pub fn field(self) -> of::MathIdent<'a>
-        ensures { node_of result ≡ last_child (is_kind kinds.MathIdent) (node_of self.entry) }
+        ensures { atom_node result ≡ last_child (is_kind kinds.MathIdent) (atom_node self.entry) }
     {
         cast_last(self.node())
     }

@@ -2,7 +2,7 @@
 ghost use Rattle.std.specs.Prelude.{◌≡◌};
 ghost use Rattle.typst_atoms.specs.MathTexts.{IsMathTextOf, is_numeric};
 ghost use Rattle.typst_atoms.specs.Texts.{text_in};
-ghost use Rattle.typst_atoms.specs.View.{node_of};
+ghost use Rattle.typst_atoms.specs.View.{atom_node};
 
 use crate::views::MathText;
 use ucd_category::GeneralCategory;
@@ -31,7 +31,7 @@ fn is_numeric(c: char) -> bool
 impl<'a> MathText<'a> {
     /// The text as a number, if its first character is one by Unicode's general categories, or else as a grapheme.
     pub fn get(self) -> MathTextKind<'a>
-        ensures { IsMathTextOf (text_in (node_of self.entry)) result }
+        ensures { IsMathTextOf (text_in (atom_node self.entry)) result }
     {
         let text = self.leaf_text();
         match text.chars().next() {

@@ -2,7 +2,7 @@
 ghost use Rattle.std.specs.Prelude.{◌≡◌};
 ghost use Rattle.typst_atoms.specs.Numerics.{is_unit_byte, unit_text, number_text, IsUnitOf};
 ghost use Rattle.typst_atoms.specs.Texts.{text_in};
-ghost use Rattle.typst_atoms.specs.View.{node_of};
+ghost use Rattle.typst_atoms.specs.View.{atom_node};
 
 use crate::views::{Float, Numeric};
 
@@ -63,8 +63,8 @@ fn unit_of(text: &str) -> Unit
 impl<'a> Numeric<'a> {
     /// The number as it is written, and its unit. The unit's text is the longest ending of `a` to `z` and `%`.
     pub fn get(self) -> (&'a str, Unit)
-        ensures number { result.0.now ≡ number_text (text_in (node_of self.entry)) }
-        ensures unit { IsUnitOf (unit_text (text_in (node_of self.entry))) result.1 }
+        ensures number { result.0.now ≡ number_text (text_in (atom_node self.entry)) }
+        ensures unit { IsUnitOf (unit_text (text_in (atom_node self.entry))) result.1 }
     {
         let text = self.leaf_text();
         let number = number_text(text);
@@ -75,7 +75,7 @@ impl<'a> Numeric<'a> {
 impl<'a> Float<'a> {
     /// The number as it is written.
     pub fn get(self) -> &'a str
-        ensures { result.now ≡ text_in (node_of self.entry) }
+        ensures { result.now ≡ text_in (atom_node self.entry) }
     {
         self.leaf_text()
     }

@@ -7,7 +7,7 @@ ghost use Rattle.typst_node.specs.Items.{nodes_ahead, nodes_left};
 ghost use Rattle.typst_atoms.specs.Kinds.{is_kind};
 ghost use Rattle.typst_atoms.specs.Raws.{is_fenced, lang_node, trimmed_chars, trimmed_in, AnyByRecursion, IsBlock, IsInline};
 ghost use Rattle.typst_atoms.specs.Texts.{text_in};
-ghost use Rattle.typst_atoms.specs.View.{node_of, IsOptionalView};
+ghost use Rattle.typst_atoms.specs.View.{atom_node, IsOptionalView};
 ghost use Rattle.typst_base.specs.declared.kind.SyntaxKind.TheVariants as kinds;
 
 use crate::casts::{cast_all, try_cast_first};
@@ -81,15 +81,15 @@ impl<'a> Raw<'a> {
     /// The lines of the text. They can be read from both ends.
     pub fn lines(self) -> Items<'a, Text<'a>>
         ensures left { nodes_left (is_kind kinds.Text) result
-            ≡ all_children (is_kind kinds.Text) (node_of self.entry) }
-        ensures ahead { nodes_ahead result ≡ children_in (node_of self.entry) }
+            ≡ all_children (is_kind kinds.Text) (atom_node self.entry) }
+        ensures ahead { nodes_ahead result ≡ children_in (atom_node self.entry) }
     {
         cast_all(self.node())
     }
 
     /// Whether the delimiter has at least three bytes.
     fn is_fenced(self) -> bool
-        ensures { result ≡ is_fenced (node_of self.entry) }
+        ensures { result ≡ is_fenced (atom_node self.entry) }
     {
         let delimiter = first_of_kind(self.node(), SyntaxKind::RawDelim);
         delimiter.is_some_and(|delimiter| delimiter.len() >= 3)
@@ -97,7 +97,7 @@ impl<'a> Raw<'a> {
 
     /// The language tag, which only a text between delimiters of at least three backticks can have.
     pub fn lang(self) -> Option<RawLang<'a>>
-        ensures { IsOptionalView (lang_node (node_of self.entry)) result }
+        ensures { IsOptionalView (lang_node (atom_node self.entry)) result }
     {
         if self.is_fenced() {
             try_cast_first(self.node())
@@ -110,8 +110,8 @@ impl<'a> Raw<'a> {
     /// `is_newline` tells which characters are newlines.
     pub fn block<F: Fn(char) -> bool>(self, is_newline: F) -> bool
         requires { F.IsAlwaysCallable is_newline }
-        ensures { MatchBool result (IsBlock (λ c b. F.post is_newline c b) (node_of self.entry))
-            (IsInline (λ c b. F.post is_newline c b) (node_of self.entry)) }
+        ensures { MatchBool result (IsBlock (λ c b. F.post is_newline c b) (atom_node self.entry))
+            (IsInline (λ c b. F.post is_newline c b) (atom_node self.entry)) }
     {
         self.is_fenced() && any_trimmed_char(children(self.node()), &is_newline)
     }
@@ -120,7 +120,7 @@ impl<'a> Raw<'a> {
 impl<'a> RawLang<'a> {
     /// The language tag.
     pub fn get(self) -> &'a str
-        ensures { result.now ≡ text_in (node_of self.entry) }
+        ensures { result.now ≡ text_in (atom_node self.entry) }
     {
         self.leaf_text()
     }

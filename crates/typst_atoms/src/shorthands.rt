@@ -2,7 +2,7 @@
 ghost use Rattle.std.specs.Prelude.{◌≡◌, [], ◌∷◌};
 ghost use Rattle.typst_atoms.specs.Shorthands.{char_for, markup_shorthands, math_shorthands, texts_and_chars};
 ghost use Rattle.typst_atoms.specs.Texts.{text_in};
-ghost use Rattle.typst_atoms.specs.View.{node_of};
+ghost use Rattle.typst_atoms.specs.View.{atom_node};
 
 use crate::views::{MathShorthand, Shorthand};
 
@@ -134,7 +134,7 @@ impl<'a> Shorthand<'a> {
 
     /// The character that the shorthand stands for. It is U+0000 if the text is no shorthand.
     pub fn get(self) -> char
-        ensures { result ≡ char_for markup_shorthands (text_in (node_of self.entry)) }
+        ensures { result ≡ char_for markup_shorthands (text_in (atom_node self.entry)) }
     {
         markup_char(self.leaf_text().as_bytes())
     }
@@ -192,7 +192,7 @@ impl<'a> MathShorthand<'a> {
 
     /// The character that the shorthand stands for. It is U+0000 if the text is no shorthand.
     pub fn get(self) -> char
-        ensures { result ≡ char_for math_shorthands (text_in (node_of self.entry)) }
+        ensures { result ≡ char_for math_shorthands (text_in (atom_node self.entry)) }
     {
         math_char(self.leaf_text().as_bytes())
     }

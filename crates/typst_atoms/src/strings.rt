@@ -3,7 +3,7 @@ ghost use Rattle.std.specs.Prelude.{◌≡◌, ◌≤◌, length, IfOk, ◌++◌
 ghost use Rattle.std.specs.Str.{chars};
 ghost use Rattle.typst_atoms.specs.Strings.{simple_escape, escape_len, escape_char, char_or, unescaped, IsStringBody, IsStringValue};
 ghost use Rattle.typst_atoms.specs.Texts.{text_in};
-ghost use Rattle.typst_atoms.specs.View.{node_of};
+ghost use Rattle.typst_atoms.specs.View.{atom_node};
 ghost use lib.Utf8.{encodes};
 
 use crate::hex::{hex_len, hex_value_of};
@@ -132,7 +132,7 @@ impl<'a> Str<'a> {
     /// Everything else stands for itself. It takes memory in proportion to the text.
     pub fn get(self, alloc: Global) -> Result<String, AllocError>
         ensures { IfOk result
-            (λ value. IsStringValue (text_in (node_of self.entry)) (string_bytes value)) }
+            (λ value. IsStringValue (text_in (atom_node self.entry)) (string_bytes value)) }
     {
         let body = string_body(self.leaf_text());
         if !body.as_bytes().contains(&b'\\') {

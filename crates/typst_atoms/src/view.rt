@@ -91,12 +91,12 @@ impl<'a, M: Kind> AstNode<'a> for View<'a, M> {
 
 impl<'a, M: Kind> View<'a, M> {
     ghost use Rattle.typst_atoms.specs.Texts.{text_in};
-    ghost use Rattle.typst_atoms.specs.View.{node_of};
+    ghost use Rattle.typst_atoms.specs.View.{atom_node};
 
     /// The view of a node, if `SyntaxNode::is` has told that the node is of the view's kind.
     pub fn of_kind(node: &'a SyntaxNode) -> Self
         requires { node_kind node.now ≡ M.KIND }
-        ensures { node_of result ≡ Some node.now }
+        ensures { atom_node result ≡ Some node.now }
     {
         View {
             node: Some(node),
@@ -106,14 +106,14 @@ impl<'a, M: Kind> View<'a, M> {
 
     /// The node, or `None` for a placeholder.
     pub(crate) fn node(self) -> Option<&'a SyntaxNode>
-        ensures { option_copied result ≡ node_of self.entry }
+        ensures { option_copied result ≡ atom_node self.entry }
     {
         self.node
     }
 
     /// The node's leaf text. It is empty for a placeholder.
     pub(crate) fn leaf_text(self) -> &'a str
-        ensures { result.now ≡ text_in (node_of self.entry) }
+        ensures { result.now ≡ text_in (atom_node self.entry) }
     {
         leaf_text(self.node)
     }

@@ -1,6 +1,6 @@
 -- How deep the trees of blocks nest.
 use Rattle.std.proofs.Common.{ℕ, List, arith}
-use Rattle.typst_parser.specs.Depth.{AreWithin}
+use Rattle.typst_node.specs.Depth.{AreWithin}
 use Rattle.typst_parser.proofs.FirstBlocks.{block_levels}
 use Rattle.typst_language.specs.Block.{first, language}
 

@@ -1,6 +1,6 @@
 //! The parser of blocks.
 ghost use Rattle.std.specs.Prelude.{ℕ, ◌≡◌, List};
-ghost use Rattle.typst_parser.specs.Depth.{AreWithin};
+ghost use Rattle.typst_node.specs.Depth.{AreWithin};
 ghost use Rattle.typst_parser.specs.View.{table_of};
 ghost use Rattle.typst_language.specs.Block.{first, language};
 

@@ -2,6 +2,7 @@ pub mod Tree
 pub mod Preorder
 pub mod Text
 pub mod Count
+pub mod Depth
 pub mod Diagnosis
 pub mod Labels
 pub mod Numbered

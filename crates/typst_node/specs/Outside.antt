@@ -43,3 +43,12 @@ place_before p r t u q = place_beside p r.window t u q
 -- each node of the new tree u outside the window's subtrees has the label that it had at its place in the old tree t
 abbrev pub KeepsOutside : List ℕ → Renumbered → Tree → Tree → Type 0
 KeepsOutside p r t u = KeepsBeside p r.window t u
+
+-- After a change of the children in a range at the path p, the node at the path a of the old tree t is at the path b of
+-- the new tree u: b leads to a node outside the subtrees of these children, and a is its place in the old tree.
+abbrev pub GoesOnBeside : List ℕ → Range ℕ → Tree → Tree → List ℕ → List ℕ → Type 0
+GoesOnBeside p range t u a b = IsPath b u × ¬ (IsInWindow p range.start range.end b) × (place_beside p range t u b ≡ a)
+
+-- the path b leads to a node of the new tree u, and its label is that of the node at the path a of the old tree t
+abbrev pub KeepsLabel : List ℕ → List ℕ → Tree → Tree → Type 0
+KeepsLabel a b t u = IsPath b u × ((tree_at b u).label ≡ (tree_at a t).label)

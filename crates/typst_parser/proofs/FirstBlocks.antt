@@ -5,7 +5,7 @@ use Rattle.std.proofs.lemmas.List.{length-take}
 use Rattle.std.specs.Str.{IsCharBoundary, IsUtf8}
 use Rattle.typst_node.specs.Text.{text_of_all}
 use Rattle.typst_node.specs.Tree.{Tree}
-use Rattle.typst_parser.specs.Depth.{AreWithin}
+use Rattle.typst_node.specs.Depth.{AreWithin}
 use Rattle.typst_parser.specs.Events.{bytes, bytes_of, CanBeCut}
 use Rattle.typst_parser.specs.FirstBlock.{at_end, block_of, first_block}
 use Rattle.typst_parser.specs.Frames.{is_looking}

@@ -6,7 +6,7 @@ use Rattle.std.proofs.Math.Seq.{drop-cons, take-add}
 use Rattle.typst_node.specs.Count.{SumsFit}
 use Rattle.typst_node.specs.Text.{text_of_all}
 use Rattle.typst_node.specs.Tree.{Tree, Forest, none, tree, forest, inner_tree, leaf_tree}
-use Rattle.typst_parser.specs.Depth.{AreForestWithin, AreWithin}
+use Rattle.typst_node.specs.Depth.{AreForestWithin, AreWithin}
 use Rattle.typst_parser.specs.Events.{but_last, CanBeCutFrom, bytes, bytes_of, greatest, last_some, levels, levels_after, levels_onto, trees, trees_after, trees_onto}
 use Rattle.typst_parser.specs.Growth.{faulty_tree, grown, grown_onto, node_tree, proper, with_event}
 use Rattle.typst_parser.specs.declared.event.Event.{Event}

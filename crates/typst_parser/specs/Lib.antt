@@ -1,7 +1,6 @@
 pub mod Actions
 pub mod Classes
 pub mod Columns
-pub mod Depth
 pub mod Events
 pub mod FaultHints
 pub mod Faults

@@ -4,7 +4,7 @@ ghost use Rattle.std.specs.Str.{IsUtf8, IsCharBoundary};
 ghost use Rattle.typst_node.specs.Count.{SumsFit};
 ghost use Rattle.typst_node.specs.Text.{text_of_all};
 ghost use Rattle.typst_node.specs.declared.node.build.InnerError.TheVariants.{Overflow};
-ghost use Rattle.typst_parser.specs.Depth.{AreWithin};
+ghost use Rattle.typst_node.specs.Depth.{AreWithin};
 ghost use Rattle.typst_parser.specs.FirstBlock.{first_block};
 ghost use Rattle.typst_parser.specs.Rows.{Table as AnyTable};
 ghost use Rattle.typst_parser.specs.View.{IsBlock, table_of};

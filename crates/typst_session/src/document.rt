@@ -11,7 +11,7 @@ ghost use Rattle.typst_lines.specs.TextLines.{lines};
 ghost use Rattle.typst_node.specs.Numbered.{IsNumbered};
 ghost use Rattle.typst_node.specs.Text.{text};
 ghost use Rattle.typst_source.specs.Blocks.{document};
-ghost use Rattle.typst_source.specs.Depth.{AreWithin};
+ghost use Rattle.typst_node.specs.Depth.{AreWithin};
 ghost use Rattle.typst_source.specs.Edited.{IsEdited, IsRefusedBy};
 ghost use Rattle.typst_source.specs.Fits.{FitsText};
 ghost use Rattle.typst_session.specs.Documents.{IsDocumentOf, WhyNoDocument};

@@ -2,7 +2,7 @@
 use Rattle.std.proofs.Common.{ℕ, zero, suc, List, [], ◌∷◌, ◌++◌, drop, length}
 use Rattle.typst_node.specs.Tree.{Tree}
 use Rattle.typst_source.specs.Blocks.{Block, document, first_blocks, trees_of}
-use Rattle.typst_source.specs.Depth.{AreWithin}
+use Rattle.typst_node.specs.Depth.{AreWithin}
 
 join : (n : ℕ) (ts us : List Tree) → AreWithin n ts → AreWithin n us → AreWithin n (ts ++ us)
 join n [] us p q = q

@@ -7,6 +7,7 @@ use Rattle.typst_node.specs.Labels.{number}
 use Rattle.typst_node.specs.Text.{text}
 use Rattle.typst_node.specs.Plain.{plain}
 use Rattle.typst_node.specs.Numbered.{IsNumbered, IsNumberedFor}
+use Rattle.typst_node.specs.Outside.{KeepsLabel}
 use Rattle.typst_node.specs.Paths.{IsPath, tree_at}
 use Rattle.typst_source.specs.Blocks.{Block, document}
 use Rattle.typst_source.specs.Runs.{IsServed, IsRun, if_edited, edited_text}
@@ -14,7 +15,7 @@ use Rattle.typst_node.specs.Moves.{NumberMoves}
 use Rattle.typst_node.specs.Reconciled.{LeafKeepsNumbers}
 use Rattle.typst_node.specs.declared.node.reconcile.Touched.{Touched}
 use Rattle.typst_node.specs.declared.node.reconcile.Touched.TheVariants.{Leaf, Window}
-use Rattle.typst_source.specs.Kept.{GoesOn, NumberGoesOn, StaysThrough, NumberStaysThrough, KeepsLabel, IsLeafTouched}
+use Rattle.typst_source.specs.Kept.{GoesOn, NumberGoesOn, StaysThrough, NumberStaysThrough, IsLeafTouched}
 use Rattle.typst_source.specs.declared.runs.TextEdit.{TextEdit}
 use Rattle.typst_source.specs.declared.runs.Outcome.{Outcome}
 use Rattle.typst_source.specs.declared.runs.Outcome.TheVariants.{Edited, Misfit, Refused}

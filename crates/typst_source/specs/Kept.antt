@@ -7,7 +7,7 @@ use Rattle.typst_node.specs.Paths.{IsPath, tree_at}
 use Rattle.typst_node.specs.Edit.{Edit}
 use Rattle.typst_node.specs.Moves.{NumberMoves, followed}
 use Rattle.typst_node.specs.Following.{IsGone, place_after}
-use Rattle.typst_node.specs.Outside.{IsInWindow, place_beside}
+use Rattle.typst_node.specs.Outside.{GoesOnBeside}
 use Rattle.typst_node.specs.Reconciled.{IsEditReconciled, touched_children}
 use Rattle.typst_node.specs.declared.node.reconcile.Touched.{Touched}
 use Rattle.typst_node.specs.declared.node.reconcile.Touched.TheVariants.{Leaf, Window}
@@ -20,13 +20,10 @@ use Rattle.typst_source.specs.declared.runs.TextEdit.{TextEdit}
 use Rattle.typst_source.specs.declared.runs.Outcome.{Outcome}
 use Rattle.typst_source.specs.declared.runs.Outcome.TheVariants.{Edited, Misfit, Refused}
 
--- An edit that was done takes the path p to the path q. The path q leads to a node outside the subtrees of
--- the touched children, and p is that node's place in the old tree. Any other edit leaves the path as it is.
+-- An edit that was done takes the path p to the path q, which leads outside the subtrees of the touched children. Any
+-- other edit leaves the path as it is.
 abbrev pub GoesOn : TextEdit → Outcome → Tree → Tree → List ℕ → List ℕ → Type 0
-GoesOn edit (Edited done) old new p q =
-    IsPath q new
-    × ¬ (IsInWindow done.path.items (touched_children done.touched).start (touched_children done.touched).end q)
-    × (place_beside done.path.items (touched_children done.touched) old new q ≡ p)
+GoesOn edit (Edited done) old new p q = GoesOnBeside done.path.items (touched_children done.touched) old new p q
 GoesOn edit Misfit old new p q = q ≡ p
 GoesOn edit (Refused error) old new p q = q ≡ p
 
@@ -78,10 +75,6 @@ NumberStaysThrough first old edits outcomes new p q = GoesThrough NumberGoesOn f
 -- the node at the path p of the first tree goes on over each edit, and is at q at the end
 abbrev pub IsTakenThrough : (List ℕ → Block) → Tree → List TextEdit → List Outcome → Tree → List ℕ → List ℕ → Type 0
 IsTakenThrough first old edits outcomes new p q = GoesThrough (IsTakenTo first) first old edits outcomes new p q
-
--- the path q leads to a node of the new tree, and its label is that of the node at p in the old tree
-abbrev pub KeepsLabel : List ℕ → List ℕ → Tree → Tree → Type 0
-KeepsLabel p q old new = IsPath q new × ((tree_at q new).label ≡ (tree_at p old).label)
 
 -- the number that follows from a number by the moves of an edit that was done; any other edit leaves it as it is
 abbrev pub followed_by : Outcome → ℕ → Option ℕ

@@ -1,5 +1,4 @@
 pub mod Blocks
-pub mod Depth
 pub mod Parsed
 pub mod Reparsed
 pub mod Extents

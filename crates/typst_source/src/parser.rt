@@ -5,7 +5,7 @@ ghost use Rattle.typst_node.specs.Count.{SumsFit};
 ghost use Rattle.typst_node.specs.Text.{text_of_all};
 ghost use Rattle.typst_node.specs.declared.node.build.InnerError.TheVariants.{Overflow};
 ghost use Rattle.typst_source.specs.Blocks.{Block, blocks, document, AreBlocks};
-ghost use Rattle.typst_source.specs.Depth.{AreWithin};
+ghost use Rattle.typst_node.specs.Depth.{AreWithin};
 ghost use Rattle.typst_source.specs.Parsed.{IsParsedBlock};
 
 use std::alloc::Global;

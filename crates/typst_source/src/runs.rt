@@ -3,11 +3,12 @@ ghost use Rattle.std.specs.Prelude.{ℕ, ◌≡◌, List, Some, IfOk, OnOk, OnEr
 ghost use Rattle.typst_linked.specs.Search.{with_number};
 ghost use Rattle.typst_node.specs.Labels.{number};
 ghost use Rattle.typst_node.specs.Numbered.{IsNumberedFor};
+ghost use Rattle.typst_node.specs.Outside.{KeepsLabel};
 ghost use Rattle.typst_node.specs.Paths.{IsPath, tree_at};
 ghost use Rattle.typst_node.specs.Plain.{plain};
 ghost use Rattle.typst_node.specs.Text.{text};
 ghost use Rattle.typst_source.specs.Blocks.{document};
-ghost use Rattle.typst_source.specs.Kept.{AllAreFoundOrGone, IsFoundAt, IsTakenThrough, KeepsLabel, NumberStaysThrough, StaysThrough};
+ghost use Rattle.typst_source.specs.Kept.{AllAreFoundOrGone, IsFoundAt, IsTakenThrough, NumberStaysThrough, StaysThrough};
 ghost use Rattle.typst_source.specs.Runs.{IsServed, IsRun, edited_text};
 
 use crate::edited::Edited;

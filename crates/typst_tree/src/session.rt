@@ -3,11 +3,12 @@ ghost use Rattle.std.specs.Prelude.{◌≡◌, ◌≢◌, ◌↔◌, ℕ, List, 
 ghost use Rattle.typst_linked.specs.Search.{with_number};
 ghost use Rattle.typst_node.specs.Labels.{number};
 ghost use Rattle.typst_node.specs.Numbered.{IsNumbered, IsNumberedFor};
+ghost use Rattle.typst_node.specs.Outside.{KeepsLabel};
 ghost use Rattle.typst_node.specs.Paths.{IsPath, tree_at};
 ghost use Rattle.typst_node.specs.Plain.{plain};
 ghost use Rattle.typst_tree.specs.Step.{Step};
 ghost use Rattle.typst_tree.specs.Found.{TellsPlace};
-ghost use Rattle.typst_tree.specs.Kept.{StaysThrough, KeepsLabel};
+ghost use Rattle.typst_tree.specs.Kept.{StaysThrough};
 ghost use Rattle.typst_tree.specs.Reads.{ReadsAs};
 ghost use Rattle.typst_tree.specs.Run.{Answers, Run, edited_by};
 ghost use Rattle.typst_tree.specs.declared.session.Request.TheVariants.{Find, Replace};

@@ -5,7 +5,7 @@ use Rattle.typst_atoms.proofs.BoundNames.{count_children, count_first_child, cou
 use Rattle.typst_atoms.specs.Bindings.{count_in, names_bound, names_of_item}
 use Rattle.typst_atoms.specs.Classes.{is_destructuring_item_kind, is_pattern_kind}
 use Rattle.typst_node.specs.Children.{all_in}
-use Rattle.typst_atoms.specs.View.{node_of}
+use Rattle.typst_atoms.specs.View.{atom_node}
 use Rattle.typst_node.proofs.Trees.{count_at, drop_next}
 use Rattle.typst_node.specs.Count.{count, count_of_all}
 use Rattle.typst_node.specs.Tree.{Tree}
@@ -33,19 +33,19 @@ push_items-push_item-requires t c =
 -- the names that are added are those of the rule
 pub push_pattern-returns-in-Ident : goal.push_pattern-returns-in-Ident
 push_pattern-returns-in-Ident t c =
-    let P : List (Option Tree) → Type 0 = λ ns. IfOk c.push_name.result (λ _. map node_of c.push_name.new.names.items ≡ map node_of c.args.names.now.items ++ ns) in
+    let P : List (Option Tree) → Type 0 = λ ns. IfOk c.push_name.result (λ _. map atom_node c.push_name.new.names.items ≡ map atom_node c.args.names.now.items ++ ns) in
     let own = names_of_ident c.in-Some.node.now (sym c.kind.ensures.kind ∙ c.in-Ident.is) in
     subst P (ap (λ (o : Option Tree). o ∷ []) c.of_kind.ensures ∙ sym (ap (map Some) (ap names_bound (ap option_copied c.in-Some.is) ∙ own))) c.push_name.ensures
 
 pub push_pattern-returns-in-Parenthesized : goal.push_pattern-returns-in-Parenthesized
 push_pattern-returns-in-Parenthesized t c =
-    let P : List (Option Tree) → Type 0 = λ ns. IfOk c.push_pattern.result (λ _. map node_of c.push_pattern.new.names.items ≡ map node_of c.args.names.now.items ++ ns) in
+    let P : List (Option Tree) → Type 0 = λ ns. IfOk c.push_pattern.result (λ _. map atom_node c.push_pattern.new.names.items ≡ map atom_node c.args.names.now.items ++ ns) in
     let group = names_of_group c.in-Some.node.now (sym c.kind.ensures.kind ∙ c.in-Parenthesized.is) in
     subst P (ap (λ (o : Option Tree). map Some (names_bound o)) c.first_pattern.ensures ∙ sym (ap (map Some) (ap names_bound (ap option_copied c.in-Some.is) ∙ group))) c.push_pattern.ensures
 
 pub push_pattern-returns-in-Destructuring : goal.push_pattern-returns-in-Destructuring
 push_pattern-returns-in-Destructuring t c =
-    let P : List (Option Tree) → Type 0 = λ ns. IfOk c.push_items.result (λ _. map node_of c.push_items.new.names.items ≡ map node_of c.args.names.now.items ++ ns) in
+    let P : List (Option Tree) → Type 0 = λ ns. IfOk c.push_items.result (λ _. map atom_node c.push_items.new.names.items ≡ map atom_node c.args.names.now.items ++ ns) in
     let parts = names_of_parts c.in-Some.node.now (sym c.kind.ensures.kind ∙ c.in-Destructuring.is) in
     subst P
     (ap (λ (ts : List Tree). map Some (flat_map (names_of_item names_bound) (all_in is_destructuring_item_kind ts))) c.child_slice.ensures.children
@@ -55,17 +55,17 @@ push_pattern-returns-in-Destructuring t c =
 pub push_pattern-returns-in_default : goal.push_pattern-returns-in_default
 push_pattern-returns-in_default t c =
     let nothing = names_otherwise c.in-Some.node.now c.kind.result c.kind.ensures.kind c.in_default.not-Ident c.in_default.not-Parenthesized c.in_default.not-Destructuring in
-    sym (append-nil (map node_of c.args.names.now.items))
-    ∙ ap (λ (ns : List (Option Tree)). map node_of c.args.names.now.items ++ ns) (sym (ap (map Some) (ap names_bound (ap option_copied c.in-Some.is) ∙ nothing)))
+    sym (append-nil (map atom_node c.args.names.now.items))
+    ∙ ap (λ (ns : List (Option Tree)). map atom_node c.args.names.now.items ++ ns) (sym (ap (map Some) (ap names_bound (ap option_copied c.in-Some.is) ∙ nothing)))
 
 pub push_pattern-returns-in-None : goal.push_pattern-returns-in-None
 push_pattern-returns-in-None t c =
-    sym (append-nil (map node_of c.args.names.now.items))
-    ∙ ap (λ (ns : List (Option Tree)). map node_of c.args.names.now.items ++ ns) (sym (ap (map Some) (ap names_bound (ap option_copied c.in-None.is) ∙ names_of_none)))
+    sym (append-nil (map atom_node c.args.names.now.items))
+    ∙ ap (λ (ns : List (Option Tree)). map atom_node c.args.names.now.items ++ ns) (sym (ap (map Some) (ap names_bound (ap option_copied c.in-None.is) ∙ names_of_none)))
 
 pub push_items-loop-node-preserved : goal.push_items-loop-node-preserved
 push_items-loop-node-preserved t c =
-    items_step_behind (map node_of c.loop-node.names.items) (drop c.loop-node.node-index c.args.nodes.now) (drop (c.loop-node.node-index + 1) c.args.nodes.now) c.node-item.result _ _
+    items_step_behind (map atom_node c.loop-node.names.items) (drop c.loop-node.node-index c.args.nodes.now) (drop (c.loop-node.node-index + 1) c.args.nodes.now) c.node-item.result _ _
     (drop_next c.args.nodes.now c.loop-node.node-index c.node-item.result (omega arith) ∙ ap (λ (u : Tree). u ∷ drop (c.loop-node.node-index + 1) c.args.nodes.now) (sym c.node-item.is))
     c.in_ok-push_item.ensures
     c.loop-node.invariant

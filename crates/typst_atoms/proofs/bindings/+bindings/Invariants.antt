@@ -4,7 +4,7 @@ use Rattle.std.specs.Option.{option_copied}
 use Rattle.typst_atoms.specs.Bindings.{count_in, names_bound, names_of_item}
 use Rattle.typst_atoms.specs.Classes.{is_destructuring_item_kind}
 use Rattle.typst_node.specs.Children.{all_in}
-use Rattle.typst_atoms.specs.View.{node_of}
+use Rattle.typst_atoms.specs.View.{atom_node}
 use Rattle.typst_node.specs.Count.{count, count_of_all}
 use Rattle.typst_atoms.proofs.bindings.+bindings.Given as goal
 
@@ -19,5 +19,5 @@ decreases-push_items l = 3 * count_of_all l.nodes.now + 2
 
 abbrev pub invariant-push_items-loop-node : goal.invariant-push_items-loop-node
 invariant-push_items-loop-node l =
-    map node_of l.names.items ++ map Some (flat_map (names_of_item names_bound) (all_in is_destructuring_item_kind (drop l.node-index l.nodes)))
-    ≡ map node_of l.initial.names.items ++ map Some (flat_map (names_of_item names_bound) (all_in is_destructuring_item_kind l.nodes))
+    map atom_node l.names.items ++ map Some (flat_map (names_of_item names_bound) (all_in is_destructuring_item_kind (drop l.node-index l.nodes)))
+    ≡ map atom_node l.initial.names.items ++ map Some (flat_map (names_of_item names_bound) (all_in is_destructuring_item_kind l.nodes))
