@@ -8,5 +8,6 @@ AreForestWithin depth none = Unit {0}
 AreForestWithin zero (tree l c r) = ⊥
 AreForestWithin (suc depth) (tree l c r) = AreForestWithin depth c × AreForestWithin (suc depth) r
 
+-- The trees of a list nest at most `depth` deep.
 abbrev pub AreWithin : ℕ → List Tree → Type 0
 AreWithin depth ts = AreForestWithin depth (forest ts)
