@@ -23,6 +23,7 @@ arg_kind (Pos v) = expr_kind v
 arg_kind (Named v) = kinds.Named
 arg_kind (Spread v) = kinds.Spread
 
+-- If the argument has a node, its kind is that of the node, as `AstNode` requires.
 pub arg_kind_is_node_kind : (v : Arg) → IfSome (arg_node v) (λ t. arg_kind v ≡ node_kind t)
 arg_kind_is_node_kind (Pos v) = expr_kind_is_node_kind v
 arg_kind_is_node_kind (Named v) = kind_from_test kinds.Named v.node v.of_kind

@@ -20,6 +20,7 @@ abbrev pub array_item_kind : ArrayItem → SyntaxKind
 array_item_kind (Pos v) = expr_kind v
 array_item_kind (Spread v) = kinds.Spread
 
+-- If the item has a node, its kind is that of the node, as `AstNode` requires.
 pub array_item_kind_is_node_kind : (v : ArrayItem) → IfSome (array_item_node v) (λ t. array_item_kind v ≡ node_kind t)
 array_item_kind_is_node_kind (Pos v) = expr_kind_is_node_kind v
 array_item_kind_is_node_kind (Spread v) = kind_from_test kinds.Spread v.node v.of_kind

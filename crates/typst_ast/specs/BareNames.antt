@@ -14,10 +14,11 @@ use Rattle.typst_base.specs.declared.kind.SyntaxKind.TheVariants as kinds
 use Rattle.typst_node.specs.Tree.{Tree}
 use Rattle.typst_node.specs.Views.{kind_or}
 
--- the source of an import, and its kind; without a source the kind is that of `none`
+-- the source of an import
 abbrev pub import_source : Option Tree → Option Tree
 import_source import = first_child is_expr_kind import
 
+-- the kind of an import's source; without a source it is that of `none`
 abbrev pub import_kind : Option Tree → SyntaxKind
 import_kind import = kind_or kinds.None (import_source import)
 

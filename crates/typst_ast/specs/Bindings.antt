@@ -20,9 +20,11 @@ expr_names _ = []
 
 -- What a view binds, if `names` says what a node binds as a pattern.
 module _ (names : Option Tree → List Tree) where
+  -- the nodes of the names that the parts of a destructuring bind, by `names`
   abbrev pub destructuring_names_by : Option Tree → List (Option Tree)
   destructuring_names_by parts = map Some (names_of_items names parts)
 
+  -- the nodes of the names that a pattern binds, by `names`
   abbrev pub pattern_names_by : Pattern → List (Option Tree)
   pattern_names_by (Normal v) = expr_names v
   pattern_names_by (Placeholder v) = []
@@ -38,8 +40,10 @@ module _ (names : Option Tree → List Tree) where
 abbrev pub destructuring_names : Option Tree → List (Option Tree)
 destructuring_names = destructuring_names_by names_bound
 
+-- the nodes of the names that a pattern binds
 abbrev pub pattern_names : Pattern → List (Option Tree)
 pattern_names = pattern_names_by names_bound
 
+-- the nodes of the names that a let binding binds
 abbrev pub let_names : LetBindingKind → List (Option Tree)
 let_names = let_names_by names_bound

@@ -22,6 +22,7 @@ destructuring_item_kind (PatternItem v) = pattern_kind v
 destructuring_item_kind (Named v) = kinds.Named
 destructuring_item_kind (Spread v) = kinds.Spread
 
+-- If the item has a node, its kind is that of the node, as `AstNode` requires.
 pub destructuring_item_kind_is_node_kind : (v : DestructuringItem) → IfSome (destructuring_item_node v) (λ t. destructuring_item_kind v ≡ node_kind t)
 destructuring_item_kind_is_node_kind (PatternItem v) = pattern_kind_is_node_kind v
 destructuring_item_kind_is_node_kind (Named v) = kind_from_test kinds.Named v.node v.of_kind

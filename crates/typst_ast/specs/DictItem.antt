@@ -21,6 +21,7 @@ dict_item_kind (Named v) = kinds.Named
 dict_item_kind (Keyed v) = kinds.Keyed
 dict_item_kind (Spread v) = kinds.Spread
 
+-- If the item has a node, its kind is that of the node, as `AstNode` requires.
 pub dict_item_kind_is_node_kind : (v : DictItem) → IfSome (dict_item_node v) (λ t. dict_item_kind v ≡ node_kind t)
 dict_item_kind_is_node_kind (Named v) = kind_from_test kinds.Named v.node v.of_kind
 dict_item_kind_is_node_kind (Keyed v) = kind_from_test kinds.Keyed v.node v.of_kind

@@ -1,4 +1,5 @@
 -- Equality of views: they have the same variant and the same node, spans and bounds included.
+-- The lemmas stand here since the laws of a trait cite them.
 use Rattle.std.specs.Prelude.{◌≡◌, ◌==◌, ◌&&◌, ⊤, ℕ, Bool, Option, Some, None}
 use Rattle.std.specs.Bool.{beq}
 use Rattle.std.specs.Cmp.{IsEquivalence, IsPartialEquivalence, and_equiv, bool_eq_equiv, nat_eq_equiv, on_equiv, partial_equiv_from_equiv}
@@ -35,7 +36,8 @@ use Rattle.typst_node.specs.Tree.{Tree}
 abbrev pub AreSameExprs : Expr → Expr → Type 0
 AreSameExprs v w = (expr_kind v ≡ expr_kind w) × (expr_node v ≡ expr_node w)
 
--- Two views of several kinds are the same: they have the same variant with the same content.
+-- Two patterns are the same: they have the same variant with the same content. The same holds for the other views of
+-- several kinds.
 abbrev pub AreSamePatterns : Pattern → Pattern → Type 0
 AreSamePatterns (Pattern_Normal v) (Pattern_Normal w) = AreSameExprs v w
 AreSamePatterns (Pattern_Placeholder v) (Pattern_Placeholder w) = atom_node v ≡ atom_node w
@@ -43,45 +45,53 @@ AreSamePatterns (Pattern_Parenthesized v) (Pattern_Parenthesized w) = node_of v 
 AreSamePatterns (Pattern_Destructuring v) (Pattern_Destructuring w) = node_of v ≡ node_of w
 AreSamePatterns _ _ = ⊥
 
+-- two arguments are the same
 abbrev pub AreSameArgs : Arg → Arg → Type 0
 AreSameArgs (Arg_Pos v) (Arg_Pos w) = AreSameExprs v w
 AreSameArgs (Arg_Named v) (Arg_Named w) = node_of v ≡ node_of w
 AreSameArgs (Arg_Spread v) (Arg_Spread w) = node_of v ≡ node_of w
 AreSameArgs _ _ = ⊥
 
+-- two parameters are the same
 abbrev pub AreSameParams : Param → Param → Type 0
 AreSameParams (Param_Pos v) (Param_Pos w) = AreSamePatterns v w
 AreSameParams (Param_Named v) (Param_Named w) = node_of v ≡ node_of w
 AreSameParams (Param_Spread v) (Param_Spread w) = node_of v ≡ node_of w
 AreSameParams _ _ = ⊥
 
+-- two items of arrays are the same
 abbrev pub AreSameArrayItems : ArrayItem → ArrayItem → Type 0
 AreSameArrayItems (ArrayItem_Pos v) (ArrayItem_Pos w) = AreSameExprs v w
 AreSameArrayItems (ArrayItem_Spread v) (ArrayItem_Spread w) = node_of v ≡ node_of w
 AreSameArrayItems _ _ = ⊥
 
+-- two items of dictionaries are the same
 abbrev pub AreSameDictItems : DictItem → DictItem → Type 0
 AreSameDictItems (DictItem_Named v) (DictItem_Named w) = node_of v ≡ node_of w
 AreSameDictItems (DictItem_Keyed v) (DictItem_Keyed w) = node_of v ≡ node_of w
 AreSameDictItems (DictItem_Spread v) (DictItem_Spread w) = node_of v ≡ node_of w
 AreSameDictItems _ _ = ⊥
 
+-- two parts of destructurings are the same
 abbrev pub AreSameDestructuringItems : DestructuringItem → DestructuringItem → Type 0
 AreSameDestructuringItems (DestructuringItem_Pattern v) (DestructuringItem_Pattern w) = AreSamePatterns v w
 AreSameDestructuringItems (DestructuringItem_Named v) (DestructuringItem_Named w) = node_of v ≡ node_of w
 AreSameDestructuringItems (DestructuringItem_Spread v) (DestructuringItem_Spread w) = node_of v ≡ node_of w
 AreSameDestructuringItems _ _ = ⊥
 
+-- two imports are the same
 abbrev pub AreSameImports : Imports → Imports → Type 0
 AreSameImports Imports_Wildcard Imports_Wildcard = ⊤
 AreSameImports (Imports_Items v) (Imports_Items w) = atom_node v ≡ atom_node w
 AreSameImports _ _ = ⊥
 
+-- two kinds of let bindings are the same
 abbrev pub AreSameLetBindingKinds : LetBindingKind → LetBindingKind → Type 0
 AreSameLetBindingKinds (LetBindingKind_Normal v) (LetBindingKind_Normal w) = AreSamePatterns v w
 AreSameLetBindingKinds (LetBindingKind_Closure v) (LetBindingKind_Closure w) = atom_node v ≡ atom_node w
 AreSameLetBindingKinds _ _ = ⊥
 
+-- two parts of arguments in math are the same
 abbrev pub AreSameMathArgItems : MathArgItem → MathArgItem → Type 0
 AreSameMathArgItems (MathArgItem_Arg v) (MathArgItem_Arg w) = AreSameArgs v w
 AreSameMathArgItems (MathArgItem_Space v) (MathArgItem_Space w) = atom_node v ≡ atom_node w
@@ -123,9 +133,11 @@ pattern_held (Pattern_Destructuring v) = (3, (kinds.Destructuring, node_of v))
 abbrev pub patterns_eq : Pattern → Pattern → Bool
 patterns_eq v w = held_eq (pattern_held v) (pattern_held w)
 
+-- Equality of patterns is an equivalence, as `Eq` requires.
 pub patterns_equivalence : IsEquivalence patterns_eq
 patterns_equivalence = on_equiv pattern_held held_eq_equivalence
 
+-- Equality of patterns is symmetric and transitive, as `PartialEq` requires.
 pub patterns_laws : IsPartialEquivalence patterns_eq
 patterns_laws = partial_equiv_from_equiv patterns_equivalence
 
@@ -138,9 +150,11 @@ arg_held (Arg_Spread v) = (2, (kinds.Spread, node_of v))
 abbrev pub args_eq : Arg → Arg → Bool
 args_eq v w = held_eq (arg_held v) (arg_held w)
 
+-- Equality of arguments is an equivalence, as `Eq` requires.
 pub args_equivalence : IsEquivalence args_eq
 args_equivalence = on_equiv arg_held held_eq_equivalence
 
+-- Equality of arguments is symmetric and transitive, as `PartialEq` requires.
 pub args_laws : IsPartialEquivalence args_eq
 args_laws = partial_equiv_from_equiv args_equivalence
 
@@ -153,9 +167,11 @@ param_held (Param_Spread v) = (2, (0, (kinds.Spread, node_of v)))
 abbrev pub params_eq : Param → Param → Bool
 params_eq v w = twice_held_eq (param_held v) (param_held w)
 
+-- Equality of parameters is an equivalence, as `Eq` requires.
 pub params_equivalence : IsEquivalence params_eq
 params_equivalence = on_equiv param_held twice_held_eq_equivalence
 
+-- Equality of parameters is symmetric and transitive, as `PartialEq` requires.
 pub params_laws : IsPartialEquivalence params_eq
 params_laws = partial_equiv_from_equiv params_equivalence
 
@@ -167,9 +183,11 @@ array_item_held (ArrayItem_Spread v) = (1, (kinds.Spread, node_of v))
 abbrev pub array_items_eq : ArrayItem → ArrayItem → Bool
 array_items_eq v w = held_eq (array_item_held v) (array_item_held w)
 
+-- Equality of items of arrays is an equivalence, as `Eq` requires.
 pub array_items_equivalence : IsEquivalence array_items_eq
 array_items_equivalence = on_equiv array_item_held held_eq_equivalence
 
+-- Equality of items of arrays is symmetric and transitive, as `PartialEq` requires.
 pub array_items_laws : IsPartialEquivalence array_items_eq
 array_items_laws = partial_equiv_from_equiv array_items_equivalence
 
@@ -182,9 +200,11 @@ dict_item_held (DictItem_Spread v) = (2, (kinds.Spread, node_of v))
 abbrev pub dict_items_eq : DictItem → DictItem → Bool
 dict_items_eq v w = held_eq (dict_item_held v) (dict_item_held w)
 
+-- Equality of items of dictionaries is an equivalence, as `Eq` requires.
 pub dict_items_equivalence : IsEquivalence dict_items_eq
 dict_items_equivalence = on_equiv dict_item_held held_eq_equivalence
 
+-- Equality of items of dictionaries is symmetric and transitive, as `PartialEq` requires.
 pub dict_items_laws : IsPartialEquivalence dict_items_eq
 dict_items_laws = partial_equiv_from_equiv dict_items_equivalence
 
@@ -197,9 +217,11 @@ destructuring_item_held (DestructuringItem_Spread v) = (2, (0, (kinds.Spread, no
 abbrev pub destructuring_items_eq : DestructuringItem → DestructuringItem → Bool
 destructuring_items_eq v w = twice_held_eq (destructuring_item_held v) (destructuring_item_held w)
 
+-- Equality of parts of destructurings is an equivalence, as `Eq` requires.
 pub destructuring_items_equivalence : IsEquivalence destructuring_items_eq
 destructuring_items_equivalence = on_equiv destructuring_item_held twice_held_eq_equivalence
 
+-- Equality of parts of destructurings is symmetric and transitive, as `PartialEq` requires.
 pub destructuring_items_laws : IsPartialEquivalence destructuring_items_eq
 destructuring_items_laws = partial_equiv_from_equiv destructuring_items_equivalence
 
@@ -211,9 +233,11 @@ imports_held (Imports_Items v) = (1, (kinds.ImportItems, atom_node v))
 abbrev pub imports_eq : Imports → Imports → Bool
 imports_eq v w = held_eq (imports_held v) (imports_held w)
 
+-- Equality of imports is an equivalence, as `Eq` requires.
 pub imports_equivalence : IsEquivalence imports_eq
 imports_equivalence = on_equiv imports_held held_eq_equivalence
 
+-- Equality of imports is symmetric and transitive, as `PartialEq` requires.
 pub imports_laws : IsPartialEquivalence imports_eq
 imports_laws = partial_equiv_from_equiv imports_equivalence
 
@@ -225,9 +249,11 @@ let_binding_kind_held (LetBindingKind_Closure v) = (1, (0, (kinds.Ident, atom_no
 abbrev pub let_binding_kinds_eq : LetBindingKind → LetBindingKind → Bool
 let_binding_kinds_eq v w = twice_held_eq (let_binding_kind_held v) (let_binding_kind_held w)
 
+-- Equality of kinds of let bindings is an equivalence, as `Eq` requires.
 pub let_binding_kinds_equivalence : IsEquivalence let_binding_kinds_eq
 let_binding_kinds_equivalence = on_equiv let_binding_kind_held twice_held_eq_equivalence
 
+-- Equality of kinds of let bindings is symmetric and transitive, as `PartialEq` requires.
 pub let_binding_kinds_laws : IsPartialEquivalence let_binding_kinds_eq
 let_binding_kinds_laws = partial_equiv_from_equiv let_binding_kinds_equivalence
 
@@ -243,9 +269,11 @@ math_arg_item_held (MathArgItem_RightParen c v) = (5, (c, (kinds.RightParen, Som
 abbrev pub math_arg_items_eq : MathArgItem → MathArgItem → Bool
 math_arg_items_eq v w = twice_held_eq (math_arg_item_held v) (math_arg_item_held w)
 
+-- Equality of parts of arguments in math is an equivalence, as `Eq` requires.
 pub math_arg_items_equivalence : IsEquivalence math_arg_items_eq
 math_arg_items_equivalence = on_equiv math_arg_item_held twice_held_eq_equivalence
 
+-- Equality of parts of arguments in math is symmetric and transitive, as `PartialEq` requires.
 pub math_arg_items_laws : IsPartialEquivalence math_arg_items_eq
 math_arg_items_laws = partial_equiv_from_equiv math_arg_items_equivalence
 
@@ -253,9 +281,11 @@ math_arg_items_laws = partial_equiv_from_equiv math_arg_items_equivalence
 abbrev pub math_args_eq : MathArg → MathArg → Bool
 math_args_eq a b = args_eq a.arg b.arg && beq a.ends_in_semicolon b.ends_in_semicolon
 
+-- Equality of arguments in math is an equivalence, as `Eq` requires.
 pub math_args_equivalence : IsEquivalence math_args_eq
 math_args_equivalence =
     and_equiv (on_equiv (λ (a : MathArg). a.arg) args_equivalence) (on_equiv (λ (a : MathArg). a.ends_in_semicolon) bool_eq_equiv)
 
+-- Equality of arguments in math is symmetric and transitive, as `PartialEq` requires.
 pub math_args_laws : IsPartialEquivalence math_args_eq
 math_args_laws = partial_equiv_from_equiv math_args_equivalence

@@ -14,10 +14,11 @@ use Rattle.typst_base.specs.declared.kind.SyntaxKind.TheVariants as kinds
 use Rattle.typst_node.specs.Tree.{Tree}
 use Rattle.typst_node.specs.Views.{kind_or}
 
--- the pattern's node, and its kind; without a node the kind is that of `none`
+-- the pattern's node
 abbrev pub let_pattern : Option Tree → Option Tree
 let_pattern binding = first_child is_pattern_kind binding
 
+-- the kind of the pattern's node; without a node it is that of `none`
 abbrev pub let_pattern_kind : Option Tree → SyntaxKind
 let_pattern_kind binding = kind_or kinds.None (let_pattern binding)
 

@@ -7,10 +7,11 @@ use Rattle.typst_base.specs.declared.kind.SyntaxKind.{SyntaxKind}
 use Rattle.typst_node.specs.Tree.{Tree}
 use Rattle.typst_node.specs.Views.{node_kind, told_of}
 
--- the nodes that an iterator hasn't passed yet, over items and over arguments
+-- the nodes that an iterator over items hasn't passed yet
 abbrev pub nodes_ahead : MathArgItems → List Tree
 nodes_ahead i = math_nodes_ahead i.nodes
 
+-- the nodes that an iterator over arguments hasn't passed yet
 abbrev pub nodes_ahead_of_args : MathArgList → List Tree
 nodes_ahead_of_args l = math_nodes_ahead l.nodes
 
@@ -22,12 +23,14 @@ items_left i = nodes_left i.nodes
 abbrev pub args_left : MathArgList → List (Tree × Bool)
 args_left l = args_in (nodes_left l.nodes)
 
--- what is said about each of these items, and about each of these arguments
+-- what is said about each of the items that are still to come
 abbrev pub told_items_left : MathArgItems → List (Option Tree × SyntaxKind × Bool)
 told_items_left i = map told_of (items_left i)
 
+-- what is said about an argument: its node, its kind, and whether it ends in a semicolon
 abbrev pub told_arg_of : Tree × Bool → Option Tree × SyntaxKind × Bool
 told_arg_of p = (Some p.0, node_kind p.0, p.1)
 
+-- what is said about each of the arguments that are still to come
 abbrev pub told_args_left : MathArgList → List (Option Tree × SyntaxKind × Bool)
 told_args_left l = map told_arg_of (args_left l)

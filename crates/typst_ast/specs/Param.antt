@@ -22,6 +22,7 @@ param_kind (Pos v) = pattern_kind v
 param_kind (Named v) = kinds.Named
 param_kind (Spread v) = kinds.Spread
 
+-- If the parameter has a node, its kind is that of the node, as `AstNode` requires.
 pub param_kind_is_node_kind : (v : Param) → IfSome (param_node v) (λ t. param_kind v ≡ node_kind t)
 param_kind_is_node_kind (Pos v) = pattern_kind_is_node_kind v
 param_kind_is_node_kind (Named v) = kind_from_test kinds.Named v.node v.of_kind

@@ -26,6 +26,7 @@ pattern_kind (Placeholder v) = kinds.Underscore
 pattern_kind (Parenthesized v) = kinds.Parenthesized
 pattern_kind (Destructuring v) = kinds.Destructuring
 
+-- If the pattern has a node, its kind is that of the node, as `AstNode` requires.
 pub pattern_kind_is_node_kind : (v : Pattern) → IfSome (pattern_node v) (λ t. pattern_kind v ≡ node_kind t)
 pattern_kind_is_node_kind (Normal v) = expr_kind_is_node_kind v
 pattern_kind_is_node_kind (Placeholder v) = kind_from_test kinds.Underscore v.node v.of_kind

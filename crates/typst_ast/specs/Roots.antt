@@ -1,10 +1,11 @@
 -- The index of a root.
 use Rattle.std.specs.Prelude.{ℕ, List, [], ◌∷◌, Option, Some, None, ◌≡◌, ◌≢◌, ◌⊎◌}
 
--- the bytes of `∛`, U+221B, and of `∜`, U+221C
+-- the bytes of `∛`, U+221B
 abbrev pub cube_root_sign : List ℕ
 cube_root_sign = 0xE2 ∷ 0x88 ∷ 0x9B ∷ []
 
+-- the bytes of `∜`, U+221C
 abbrev pub fourth_root_sign : List ℕ
 fourth_root_sign = 0xE2 ∷ 0x88 ∷ 0x9C ∷ []
 

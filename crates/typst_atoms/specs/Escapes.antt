@@ -17,5 +17,6 @@ named_char bs =
     (char_or_nul (digits_value 16 (hex_run (drop 2 bs))))
     (first_or_nul (chars bs))
 
+-- the character that an escape sequence with this text stands for
 abbrev pub escaped_char : List ℕ → ℕ
 escaped_char bs = named_char (without_backslash bs)

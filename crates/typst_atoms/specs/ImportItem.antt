@@ -21,6 +21,7 @@ abbrev pub import_item_kind : ImportItem → SyntaxKind
 import_item_kind (Simple v) = kinds.ImportItemPath
 import_item_kind (Renamed v) = kinds.RenamedImportItem
 
+-- If the item has a node, its kind is that of the node, as `AstNode` requires.
 pub import_item_kind_is_node_kind : (v : ImportItem) → IfSome (import_item_node v) (λ t. import_item_kind v ≡ node_kind t)
 import_item_kind_is_node_kind (Simple v) = kind_from_test kinds.ImportItemPath v.node v.of_kind
 import_item_kind_is_node_kind (Renamed v) = kind_from_test kinds.RenamedImportItem v.node v.of_kind

@@ -24,5 +24,6 @@ IsValueOf base ds value =
     (IsSignedNumeral base ds × (value ≡ signed_digits_value base ds))
     ⊎ (¬ (IsSignedNumeral base ds) × (value ≡ pos 0))
 
+-- the value of an integer with this text
 abbrev pub IsIntReading : List ℕ → ℤ → Type 0
 IsIntReading bs value = IsValueOf (base_of bs) (digits_of bs) value

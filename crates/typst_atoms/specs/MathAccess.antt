@@ -19,6 +19,7 @@ abbrev pub math_access_kind : MathAccess → SyntaxKind
 math_access_kind (MathIdent v) = kinds.MathIdent
 math_access_kind (MathFieldAccess v) = kinds.MathFieldAccess
 
+-- If the access has a node, its kind is that of the node, as `AstNode` requires.
 pub math_access_kind_is_node_kind : (v : MathAccess) → IfSome (math_access_node v) (λ t. math_access_kind v ≡ node_kind t)
 math_access_kind_is_node_kind (MathIdent v) = kind_from_test kinds.MathIdent v.node v.of_kind
 math_access_kind_is_node_kind (MathFieldAccess v) = kind_from_test kinds.MathFieldAccess v.node v.of_kind

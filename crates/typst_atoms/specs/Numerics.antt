@@ -9,10 +9,11 @@ use Rattle.typst_atoms.specs.declared.numeric.Unit.TheVariants.{Pt, Mm, Cm, In, 
 abbrev pub is_unit_byte : ℕ → Bool
 is_unit_byte b = is_ascii_lowercase b || b == 37
 
--- the unit's text is the longest ending of such bytes, and the number is the text before it
+-- the unit's text is the longest ending of such bytes
 abbrev pub unit_text : List ℕ → List ℕ
 unit_text bs = ending is_unit_byte bs
 
+-- the number's text is what comes before the unit's text
 abbrev pub number_text : List ℕ → List ℕ
 number_text bs = without_trailing is_unit_byte bs
 

@@ -23,6 +23,7 @@ abbrev pub trimmed_in : List Tree → List ℕ
 trimmed_in [] = []
 trimmed_in (t ∷ ts) = cond (is_kind kinds.RawTrimmed (node_kind t)) (chars (own_text t.label) ++ trimmed_in ts) (trimmed_in ts)
 
+-- the characters that were trimmed off in a node of raw text
 abbrev pub trimmed_chars : Option Tree → List ℕ
 trimmed_chars node = trimmed_in (children_in node)
 

@@ -1,4 +1,5 @@
 -- Views that are the same: both have the same kind, and the same tree, spans and bounds included, or no tree.
+-- The lemmas stand here since the laws of a trait cite them.
 use Rattle.std.specs.Prelude.{◌≡◌, ◌↔◌, ◌++◌, ◌&&◌, Bool, true, false, Option, Some, None, refl}
 use Rattle.std.specs.Bool.{Decides}
 use Rattle.std.specs.Cmp.{IsEquivalence, IsPartialEquivalence, both_ways, decided, on_equiv, partial_equiv_from_equiv}
@@ -28,6 +29,7 @@ abbrev pub node_input : Option Tree → HashWrites
 node_input None = fed.u8 0
 node_input (Some t) = fed.u8 1 ++ tree_input t
 
+-- the input to the hash of a kind, and of a node that may be missing
 abbrev pub parts_input : SyntaxKind → Option Tree → HashWrites
 parts_input k a = fed.u8 (number_of k) ++ node_input a
 
@@ -43,6 +45,7 @@ node_same None (Some u) e = cc
 node_same (Some t) None e = cc
 node_same (Some t) (Some u) e = tree_eq_same t u (cc)
 
+-- the test is true exactly if the nodes are equal, or both are missing
 pub same_trees_are : (a b : Option Tree) → Decides (same_trees a b) (a ≡ b)
 same_trees_are a b = (same_node a b, node_same a b)
 
@@ -62,9 +65,11 @@ module _ {V : Type 0} (kind : V → SyntaxKind) (node : V → Option Tree) where
   abbrev pub same_views : V → V → Bool
   same_views v w = same_parts (kind v) (node v) (kind w) (node w)
 
+  -- the test is true exactly if the views have the same kind, and the same node or none
   pub same_views_are : (v w : V) → (same_views v w ≡ true) ↔ ((kind v ≡ kind w) × (node v ≡ node w))
   same_views_are v w = same_parts_are (kind v) (kind w) (node v) (node w)
 
+  -- sameness of views is an equivalence, as `Eq` requires
   pub same_views_equivalence : IsEquivalence same_views
   same_views_equivalence = record {
     refl = λ v. (same_views_are v v).1 (refl, refl);
@@ -72,6 +77,7 @@ module _ {V : Type 0} (kind : V → SyntaxKind) (node : V → Option Tree) where
     congr = λ v w x e. let h = (same_views_are v w).0 e in λ i. same_parts (h.0 i) (h.1 i) (kind x) (node x);
   }
 
+  -- sameness of views is symmetric and transitive, as `PartialEq` requires
   pub same_views_laws : IsPartialEquivalence same_views
   same_views_laws = partial_equiv_from_equiv same_views_equivalence
 
@@ -79,6 +85,7 @@ module _ {V : Type 0} (kind : V → SyntaxKind) (node : V → Option Tree) where
   abbrev pub view_input : V → HashWrites
   view_input v = parts_input (kind v) (node v)
 
+  -- views that are the same give a hasher the same input
   pub same_views_alike : (v w : V) → same_views v w ≡ true → view_input v ≡ view_input w
   same_views_alike v w e = let h = (same_views_are v w).0 e in λ i. parts_input (h.0 i) (h.1 i)
 
@@ -87,9 +94,11 @@ module _ {V : Type 0} (node : V → Option Tree) where
   abbrev pub same_by_node : V → V → Bool
   same_by_node v w = same_trees (node v) (node w)
 
+  -- sameness of views of one kind is an equivalence, as `Eq` requires
   pub same_by_node_equivalence : IsEquivalence same_by_node
   same_by_node_equivalence = on_equiv node (decided same_trees same_trees_are)
 
+  -- sameness of views of one kind is symmetric and transitive, as `PartialEq` requires
   pub same_by_node_laws : IsPartialEquivalence same_by_node
   same_by_node_laws = partial_equiv_from_equiv same_by_node_equivalence
 
@@ -97,5 +106,6 @@ module _ {V : Type 0} (node : V → Option Tree) where
   abbrev pub by_node_input : V → HashWrites
   by_node_input v = node_input (node v)
 
+  -- views of one kind that are the same give a hasher the same input
   pub same_by_node_alike : (v w : V) → same_by_node v w ≡ true → by_node_input v ≡ by_node_input w
   same_by_node_alike v w e = ap node_input ((same_trees_are (node v) (node w)).0 e)

@@ -52,6 +52,7 @@ abbrev of_parts : (SpanParts × Option (Interval ℕ)) ⊎ (ℕ × Interval ℕ)
 of_parts (inl p) = OfSpan p.0 p.1
 of_parts (inr p) = External p.0 p.1
 
+-- The parts of a diagnostic span give back the span.
 pub of_parts_back : (d : DiagPlace) → of_parts (place_parts d) ≡ d
 of_parts_back (OfSpan span part) = refl
 of_parts_back (External id range) = refl

@@ -1,4 +1,4 @@
--- Lists of flags as numbers.
+-- Lists of flags as numbers. The lemmas stand here since the laws of a trait cite them.
 use Rattle.std.specs.Prelude.{ℕ, ◌≡◌, ◌+◌, ◌*◌, ◌/◌, ◌%◌, ◌^◌, ◌<◌, ◌==◌, Bool, List, [], ◌∷◌, if◌then◌else◌}
 use Rattle.std.proofs.Common.{zero, suc, arith}
 use Rattle.std.proofs.lemmas.Bool.Decides.{nat_tests}
@@ -26,12 +26,13 @@ flags_number-flags zero w below = omega arith
 flags_number-flags (suc n) w below =
     omega (arith, digit w, flags_number-flags n (w / 2) (half n w below))
 
--- the digits of two words give back the words
+-- the digits of two words give back the low word
 pub low_word : (low high : ℕ) → low < 2 ^ 128 → high < 2 ^ 9 → flags_number (flags 137 (high * 2 ^ 128 + low)) % 2 ^ 128 ≡ low
 low_word low high below above =
     let fits : high * 2 ^ 128 + low < 2 ^ 137 = omega arith in
     omega (arith, flags_number-flags 137 (high * 2 ^ 128 + low) fits)
 
+-- the digits of two words give back the high word
 pub high_word : (low high : ℕ) → low < 2 ^ 128 → high < 2 ^ 9 → flags_number (flags 137 (high * 2 ^ 128 + low)) / 2 ^ 128 ≡ high
 high_word low high below above =
     let fits : high * 2 ^ 128 + low < 2 ^ 137 = omega arith in

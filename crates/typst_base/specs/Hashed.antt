@@ -1,4 +1,4 @@
--- What spans and diagnostic spans feed to a hasher.
+-- What spans and diagnostic spans feed to a hasher. The lemmas stand here since the laws of a trait cite them.
 use Rattle.std.specs.Prelude.{◌≡◌, ◌+◌, ◌*◌, ◌^◌, ◌++◌, true}
 use Rattle.std.proofs.Common.{ap}
 use Rattle.std.specs.Hash as fed
@@ -20,5 +20,6 @@ place_input d = span_input (span_of d) ++ fed.u64 (word_of d)
 pub spans_alike : (s t : SpanParts) → span_eq s t ≡ true → span_input s ≡ span_input t
 spans_alike s t e = ap span_input ((span_same s t).0 e)
 
+-- equal diagnostic spans feed the same input
 pub places_alike : (d e : DiagPlace) → place_eq d e ≡ true → place_input d ≡ place_input e
 places_alike d e h = ap place_input ((place_same d e).0 h)

@@ -18,5 +18,6 @@ pub record Row : Type 0 where
 abbrev pub row_of : CodeRow → Row
 row_of r = record { condition = r.condition; before = r.before.now; take = r.take; after = r.after.now; call = r.call }
 
+-- how contracts see lists of the code's rows
 abbrev pub rows_of : List CodeRow → List Row
 rows_of rs = map row_of rs

@@ -10,5 +10,6 @@ use Rattle.typst_source.specs.Blocks.{Block}
 unfoldable pub language : Table
 language = record { rows = rows; modes = mode_of; most_deep = 64; most_looks = 1024; most_levels = 255 }
 
+-- the first block of a text of Typst
 abbrev pub first : List ℕ → Block
 first text = let block = first_block language text in record { len = block.len; reach = block.reach; trees = block.trees }

@@ -65,6 +65,7 @@ easy_len _ bytes = 0
 abbrev pub is_text_end : ℕ → Bool
 is_text_end b = not (is_plain b || (b == 32) || (b == 45) || (b == 46) || (b == 47) || (b == 64) || (b == 104))
 
+-- the class that most characters have
 abbrev pub is_other : GraphemeClusterBreak → Bool
 is_other breaks.Other = true
 is_other _ = false
@@ -85,6 +86,7 @@ ends_before place.MathNumber b = not (is_ascii_digit b || (b == 46))
 ends_before (place.Rest kind more) b = more == 0
 ends_before _ b = false
 
+-- The byte is one of ASCII, and a token inside of this ends before it.
 abbrev pub ends_at : Place → ℕ → Bool
 ends_at p b = nat_lt b 128 && ends_before p b
 

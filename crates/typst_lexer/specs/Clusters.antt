@@ -8,6 +8,7 @@ use Rattle.ucd_emoji.specs.Binary.{is_extended_pictographic}
 use Rattle.unicode_segmentation.specs.Grapheme.{break_by_pair, is_consonant, is_extend, is_regional, is_zwj}
 use Rattle.typst_lexer.specs.declared.cluster.Cluster.{Cluster}
 
+-- the class of linkers of conjuncts
 abbrev pub is_linker : IndicConjunctBreak → Bool
 is_linker classes.Linker = true
 is_linker _ = false

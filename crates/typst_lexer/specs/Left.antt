@@ -13,6 +13,7 @@ pub record Rest : Type 0 where
   pub before : Behind
   pub text : List ℕ
 
+-- what a lexer hasn't read yet
 abbrev pub left : Lexer → Rest
 left lexer = record { mode = lexer.mode; before = lexer.behind; text = lexer.text.now }
 

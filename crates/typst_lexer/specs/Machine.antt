@@ -125,6 +125,7 @@ may_end place.RefMark = false
 may_end place.ArgumentRest = false
 may_end _ = true
 
+-- A token may end in this state.
 abbrev pub accepts : Reading → Bool
 accepts s = may_end s.place
 
@@ -166,5 +167,6 @@ count_of (place.RawOpening n) = n
 count_of (place.RawText n run) = run
 count_of _ = 0
 
+-- the largest number that is counted in a state
 abbrev pub count : Reading → ℕ
 count s = count_of s.place

@@ -133,6 +133,7 @@ abbrev pub text_goes_on : List ℕ → Bool
 text_goes_on w =
     begins_char is_plain w || is_space_in_text w || is_slash w || is_hyphen w || is_period w || is_letter_h w || is_at_sign w
 
+-- what text is inside of after one more character, if it goes on
 abbrev pub stay_text : List ℕ → Option Place
 stay_text w = if text_goes_on w then Some place.Text else None
 

@@ -131,6 +131,7 @@ stay_math_number w =
     else (if begins_with (codes ".") w && begins_char is_numeric (drop 1 w) then Some place.MathFraction
     else None)
 
+-- A number of math with a dot goes on over digits.
 abbrev pub stay_math_fraction : List ℕ → Option Place
 stay_math_fraction w = if begins_char is_numeric w then Some place.MathFraction else None
 

@@ -16,6 +16,7 @@ written nothing after = after
 written (byte b more) after = b ∷ written more after
 written (comment inner more) after = codes "/*" ++ written inner (codes "*/" ++ written more after)
 
+-- the text begins with `/*` or `*/`
 abbrev pub begins_mark : List ℕ → Bool
 begins_mark text = begins_with (codes "/*") text || begins_with (codes "*/") text
 

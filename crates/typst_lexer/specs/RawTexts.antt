@@ -29,5 +29,6 @@ has_ticks n rest = nat_lt (body_len n rest) (length rest)
 abbrev pub raw_len : ℕ → List ℕ → ℕ
 raw_len n rest = if has_ticks n rest then n + body_len n rest + n else n + length rest
 
+-- the kind of raw text, which is unclosed if n backticks in a row don't come
 abbrev pub raw_kind : ℕ → List ℕ → TokenKind
 raw_kind n rest = if has_ticks n rest then kinds.Raw else kinds.UnclosedRaw

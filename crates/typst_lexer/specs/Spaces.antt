@@ -18,6 +18,7 @@ newlines n (b ∷ bs) =
     else (if ends_line (b ∷ bs) then newlines (suc n) bs
     else (if begins_char is_blank (b ∷ bs) then newlines n bs else n))
 
+-- the mode is that of markup
 abbrev pub is_markup : Mode → Bool
 is_markup Markup = true
 is_markup _ = false

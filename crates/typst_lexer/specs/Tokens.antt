@@ -21,6 +21,7 @@ joined ps = flat_map (λ (p : Piece). p.bytes) ps
 abbrev pub AreFilled : List Piece → Type 0
 AreFilled ps = AllByRecursion (λ (p : Piece). 0 < length p.bytes) ps
 
+-- how contracts see a token of the lexer
 abbrev pub piece_of : Token → Piece
 piece_of token = record { kind = token.kind; bytes = token.text.now }
 

@@ -4,6 +4,7 @@ use Rattle.typst_node.specs.Tree.{Tree}
 use Rattle.typst_node.specs.Labels.{number}
 use Rattle.typst_linked.specs.declared.floor.Floor.{Floor}
 
+-- the index after the floor; without a floor it is the first index
 abbrev pub index_behind : Option Floor → ℕ
 index_behind None = 0
 index_behind (Some floor) = floor.index + 1

@@ -10,10 +10,12 @@ use Rattle.typst_linked.specs.Place.{Place}
 use Rattle.typst_linked.specs.Search.{is_there}
 use Rattle.typst_linked.specs.Siblings.{is_solid}
 
+-- a text that isn't empty
 abbrev pub is_filled : List ℕ → Bool
 is_filled [] = false
 is_filled (byte ∷ text) = true
 
+-- the content of a good leaf
 abbrev pub is_good_content : Content → Bool
 is_good_content (AsLeaf kind text) = not (is_trivia_kind kind)
 is_good_content (AsError text message hints) = is_filled text
@@ -31,6 +33,7 @@ branch [] other = None
 branch (i ∷ path) [] = None
 branch (i ∷ path) (j ∷ other) = if i == j then option_map (λ b. i ∷ b) (branch path other) else Some (j ∷ [])
 
+-- a branch that leads to a node whose kind isn't trivia
 abbrev pub leads_to_solid : Tree → Option (List ℕ) → Bool
 leads_to_solid t None = false
 leads_to_solid t (Some b) = is_there is_solid (at b t)
@@ -39,10 +42,11 @@ leads_to_solid t (Some b) = is_there is_solid (at b t)
 abbrev pub is_stop : Tree → List ℕ → List ℕ → Bool
 is_stop t path other = leads_to_solid t (branch path other) && is_there is_good (at other t)
 
--- the first stop after a path in preorder, and the last stop before it
+-- the first stop after a path in preorder
 abbrev pub stop_behind : Tree → List ℕ → Option (List ℕ)
 stop_behind t path = find (is_stop t path) (after_first (is_same_path path) (paths t))
 
+-- the last stop before a path in preorder
 abbrev pub stop_before : Tree → List ℕ → Option (List ℕ)
 stop_before t path = find (is_stop t path) (reverse (before_first (is_same_path path) (paths t)))
 

@@ -16,6 +16,7 @@ abbrev pub place_below : Tree → ℕ → Option (Rc Place Global) → Place
 place_below node index None = record { root = node; path = [] }
 place_below node index (Some parent) = child_place parent.value index
 
+-- the place of a linked node
 abbrev pub place_of : Inside → Place
 place_of a = place_below a.node.now a.index a.parent
 
@@ -28,5 +29,6 @@ pub record IsAt (place : Place) (node : Tree) (at : ℕ) : Type 0 where
   pub fits : length (text place.root) < 2 ^ 64
   pub counted : count place.root < 2 ^ 64
 
+-- the fields of a linked node are those of the node at its place
 abbrev pub IsLinked : Inside → Type 0
 IsLinked a = IsAt (place_of a) a.node.now a.offset × (a.index ≡ last_step (place_of a).path)

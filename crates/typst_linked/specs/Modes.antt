@@ -30,6 +30,7 @@ mode_by rules.Dollar outer place = if last_step place.path == 0 then Some modes.
 mode_by rules.Space outer place = if has_kind kinds.Equation (parent_kind_of place) then Some modes.Math else outer
 mode_by rules.Embeddable outer place = if has_kind kinds.Hash (sibling_kind before_it place) then Some modes.Code else outer
 
+-- the mode after the node at a place, if `outer` is the mode after its parent
 abbrev pub mode_from : Option SyntaxMode → Place → Option SyntaxMode
 mode_from outer place = option_and_then (λ t. mode_by (mode_after_of (kind_at t)) outer place) (subtree place)
 
@@ -47,5 +48,6 @@ abbrev pub outer_mode : Tree → List ℕ → Option SyntaxMode
 outer_mode root [] = None
 outer_mode root (i ∷ path) = mode_outwards root path
 
+-- the mode after the parent of the node at a place
 abbrev pub mode_behind_parent : Place → Option SyntaxMode
 mode_behind_parent place = outer_mode place.root (reverse place.path)

@@ -12,16 +12,19 @@ abbrev pub is_there : (Tree → Bool) → Option Tree → Bool
 is_there test None = false
 is_there test (Some t) = test t
 
+-- whether a node has this number
 abbrev pub has_number : ℕ → Tree → Bool
 has_number n t = number t.label == n
 
+-- whether a node's number is at most this number
 abbrev pub has_number_up_to : ℕ → Tree → Bool
 has_number_up_to n t = nat_le (number t.label) n
 
--- the first path in preorder whose node passes a test, and the last one
+-- the first path in preorder whose node passes a test
 abbrev pub first_path : (Tree → Bool) → Tree → Option (List ℕ)
 first_path test t = find (λ path. is_there test (at path t)) (paths t)
 
+-- the last path in preorder whose node passes a test
 abbrev pub last_path : (Tree → Bool) → Tree → Option (List ℕ)
 last_path test t = find (λ path. is_there test (at path t)) (reverse (paths t))
 
@@ -42,6 +45,7 @@ abbrev pub prefixes : List ℕ → List (List ℕ)
 prefixes [] = [] ∷ []
 prefixes (i ∷ path) = [] ∷ map (λ p. i ∷ p) (prefixes path)
 
+-- how many children a node has; none if there is no node
 abbrev pub child_count : Option Tree → ℕ
 child_count None = 0
 child_count (Some t) = length (trees t.children)
@@ -50,6 +54,7 @@ child_count (Some t) = length (trees t.children)
 abbrev pub weight_along : (ℕ → ℕ) → List ℕ → Tree → ℕ
 weight_along weight path t = sum_by (λ p. weight (child_count (at p t))) (prefixes path)
 
+-- how many numbers a search may read, if it finds this path or none
 abbrev pub bound_along : (ℕ → ℕ) → Tree → Option (List ℕ) → ℕ
 bound_along weight t None = 1
 bound_along weight t (Some path) = 1 + weight_along weight path t

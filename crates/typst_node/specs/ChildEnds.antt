@@ -21,6 +21,7 @@ pub record HasPlace (from to many : ℕ) (ends : List ℕ) (ts : List Tree) : Ty
   pub behind : drop (from + many) ends ≡ drop to (ends_from 0 ts)
   pub stay : many ≡ to - from → ends ≡ ends_from 0 ts
 
+-- there is such room, or no end is kept and there will be at most ten trees
 abbrev pub HavePlace : (from to many : ℕ) → Option (List ℕ) → List Tree → Type 0
 HavePlace from to many None ts = length ts - (to - from) + many ≤ 10
 HavePlace from to many (Some ends) ts = HasPlace from to many ends ts
@@ -33,6 +34,7 @@ pub record IsStaleList (from to many gone : ℕ) (ends : List ℕ) (ts : List Tr
   pub behind : drop (from + many) ends ≡ ends_from (length (text_of_all (take from ts)) + gone) (drop (from + many) ts)
   pub one : many ≡ 1 → to ≡ suc from → take (suc from) ends ≡ take from (ends_from 0 ts) ++ ((length (text_of_all (take from ts)) + gone) % 2 ^ 32) ∷ []
 
+-- the ends that are kept are stale in this way, or there are at most ten trees and no end is kept
 abbrev pub AreStale : (from to many gone : ℕ) → Option (List ℕ) → List Tree → Type 0
 AreStale from to many gone None ts = length ts ≤ 10
 AreStale from to many gone (Some ends) ts = IsStaleList from to many gone ends ts

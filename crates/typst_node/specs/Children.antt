@@ -13,11 +13,12 @@ children_in None = []
 abbrev pub all_in : Class → List Tree → List Tree
 all_in c ts = filter (λ t. c (node_kind t)) ts
 
--- the first and the second item of a list
+-- the first item of a list
 abbrev pub first_of : {A : Type 0} → List A → Option A
 first_of [] = None
 first_of (x ∷ xs) = Some x
 
+-- the second item of a list
 abbrev pub second_of : {A : Type 0} → List A → Option A
 second_of [] = None
 second_of (x ∷ xs) = first_of xs
@@ -26,16 +27,19 @@ second_of (x ∷ xs) = first_of xs
 abbrev pub last_of : {A : Type 0} → List A → Option A
 last_of xs = last_or None xs
 
--- all children of the class, and the first, the second and the last of them
+-- all children of the class
 abbrev pub all_children : Class → Option Tree → List Tree
 all_children c node = all_in c (children_in node)
 
+-- the first child of the class
 abbrev pub first_child : Class → Option Tree → Option Tree
 first_child c node = first_of (all_children c node)
 
+-- the second child of the class
 abbrev pub second_child : Class → Option Tree → Option Tree
 second_child c node = second_of (all_children c node)
 
+-- the last child of the class
 abbrev pub last_child : Class → Option Tree → Option Tree
 last_child c node = last_of (all_children c node)
 

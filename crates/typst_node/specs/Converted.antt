@@ -9,6 +9,7 @@ use Rattle.typst_node.specs.Text.{text}
 use Rattle.typst_node.specs.Diagnosis.{is_error}
 use Rattle.typst_node.specs.Hints.{error_tree, hint_for, hinted}
 
+-- the content with this kind; an error keeps its own
 abbrev pub content_of_kind : SyntaxKind → Content → Content
 content_of_kind kind (AsLeaf old text) = AsLeaf kind text
 content_of_kind kind (AsError text message hints) = AsError text message hints

@@ -4,6 +4,7 @@ use Rattle.std.specs.List.{list_any}
 use Rattle.typst_node.specs.Tree.{Content, AsLeaf, AsError, AsInner, Label, Tree, WarningText}
 use Rattle.typst_node.specs.Preorder.{nodes}
 
+-- whether a content is that of an error
 abbrev pub is_error_content : Content → Bool
 is_error_content (AsLeaf kind text) = false
 is_error_content (AsError text message hints) = true
@@ -13,6 +14,7 @@ is_error_content (AsInner kind bound) = false
 abbrev pub is_error : Label → Bool
 is_error l = is_error_content l.content
 
+-- whether there is a warning
 abbrev pub has_some : List WarningText → Bool
 has_some [] = false
 has_some (w ∷ ws) = true

@@ -24,6 +24,7 @@ abbrev pub hint_place : SpanParts → Option (Range ℕ) → DiagPlace
 hint_place span None = of_span detached None
 hint_place span (Some part) = of_span span (Some part)
 
+-- the hint of a report, for a hint of a node with this span
 abbrev pub placed : SpanParts → HintText → PlacedHint
 placed span h = record { text = h.text; place = hint_place span h.sub_range }
 
@@ -45,6 +46,7 @@ error_report span message hints = record {
   hints = map (placed span) hints;
 }
 
+-- the report of a content with this span, if it is that of an error
 abbrev pub error_reports : SpanParts → Content → List Report
 error_reports span (AsLeaf kind text) = []
 error_reports span (AsError text message hints) = error_report span message hints ∷ []

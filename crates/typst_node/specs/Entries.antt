@@ -16,6 +16,7 @@ pub record Entry : Type 0 where
   pub message : List ℕ
   pub hints : List HintText
 
+-- the entry for a warning of the node at a path
 abbrev pub warning_entry : List ℕ → WarningText → Entry
 warning_entry path w = record { path = path; is_error = false; sub_range = w.sub_range; message = w.message; hints = w.hints }
 
@@ -43,6 +44,7 @@ error_entries t = flat_map (λ path. error_there path (at path t)) (paths t)
 abbrev pub warning_entries : Tree → List Entry
 warning_entries t = flat_map (λ path. warnings_there path (at path t)) (paths t)
 
+-- the span of a node; a detached one if there is no node
 abbrev pub span_there : Option Tree → SpanParts
 span_there None = detached
 span_there (Some t) = t.label.span

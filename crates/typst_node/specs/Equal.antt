@@ -1,4 +1,4 @@
--- Equality of trees as a test.
+-- Equality of trees as a test. The lemmas stand here since the laws of a trait cite them.
 use Rattle.std.specs.Prelude.{◌≡◌, Bool, true, false, ◌&&◌, ◌==◌, refl}
 use Rattle.std.proofs.Common.{ap, sym, ◌∙◌, eq-eqb}
 use Rattle.std.specs.Cmp.{IsEquivalence, IsPartialEquivalence, partial_equiv_from_equiv, both_ways}
@@ -6,6 +6,7 @@ use base.Stored.{Gv, gnil, gnum, gcons}
 use Rattle.typst_node.specs.Tree.{Tree}
 use Rattle.typst_node.specs.Codes.{tree_code}
 
+-- whether two codes of trees are the same
 unfoldable pub gv_eq : Gv → Gv → Bool
 gv_eq gnil gnil = true
 gv_eq gnil (gnum n) = false
@@ -17,6 +18,7 @@ gv_eq (gcons a b) gnil = false
 gv_eq (gcons a b) (gnum n) = false
 gv_eq (gcons a b) (gcons c d) = gv_eq a c && gv_eq b d
 
+-- each code passes the test with itself
 pub gv_eq_refl : (x : Gv) → gv_eq x x ≡ true
 unfolding gv_eq
 gv_eq_refl gnil = refl
@@ -31,6 +33,7 @@ and_right : (a b : Bool) → (a && b) ≡ true → b ≡ true
 and_right true b e = e
 and_right false b e = cc
 
+-- codes that pass the test are equal
 pub gv_same : (x y : Gv) → gv_eq x y ≡ true → x ≡ y
 unfolding gv_eq
 gv_same gnil gnil e = refl
@@ -47,14 +50,17 @@ gv_same (gcons a b) (gcons c d) e = λ i. gcons (gv_same a c (and_left _ _ e) i)
 unfoldable pub tree_eq : Tree → Tree → Bool
 tree_eq t u = gv_eq (tree_code.code t) (tree_code.code u)
 
+-- trees that pass the test are equal
 pub tree_same : (t u : Tree) → tree_eq t u ≡ true → t ≡ u
 unfolding tree_eq
 tree_same t u e = tree_code.inj t u (gv_same (tree_code.code t) (tree_code.code u) e)
 
+-- equal trees pass the test
 pub tree_eq_same : (t u : Tree) → t ≡ u → tree_eq t u ≡ true
 unfolding tree_eq
 tree_eq_same t u e = ap (λ v. gv_eq (tree_code.code t) (tree_code.code v)) (sym e) ∙ gv_eq_refl (tree_code.code t)
 
+-- equality of trees is an equivalence, as `Eq` requires
 pub tree_eq_equivalence : IsEquivalence tree_eq
 tree_eq_equivalence = record {
   refl = λ t. tree_eq_same t t refl;
@@ -62,5 +68,6 @@ tree_eq_equivalence = record {
   congr = λ t u v e. ap (λ w. tree_eq w v) (tree_same t u e);
 }
 
+-- equality of trees is symmetric and transitive, as `PartialEq` requires
 pub tree_eq_laws : IsPartialEquivalence tree_eq
 tree_eq_laws = partial_equiv_from_equiv tree_eq_equivalence

@@ -1,4 +1,5 @@
 -- Equality of diagnostics as a test: equal diagnostics report the same.
+-- The lemmas stand here since the laws of a trait cite them.
 use Rattle.std.specs.Prelude.{ℕ, ◌≡◌, ◌&&◌, Bool, List, nat_eq, String, string_bytes}
 use Rattle.std.proofs.Common.{ap, sym, ◌∙◌}
 use Rattle.std.specs.Bool.{beq, Decides}
@@ -72,6 +73,7 @@ diagnostic_same d e =
 by_reports : IsEquivalence (λ d e. report_eq (report d) (report e))
 by_reports = on_equiv report (decided report_eq report_same)
 
+-- equality of diagnostics is an equivalence, as `Eq` requires
 pub diagnostic_eq_equivalence : IsEquivalence diagnostic_eq
 diagnostic_eq_equivalence = record {
   refl = λ d. sym (by_report d d) ∙ by_reports.refl d;
@@ -79,5 +81,6 @@ diagnostic_eq_equivalence = record {
   congr = λ d e f t. sym (by_report d f) ∙ (by_reports.congr d e f (by_report d e ∙ t) ∙ by_report e f);
 }
 
+-- equality of diagnostics is symmetric and transitive, as `PartialEq` requires
 pub diagnostic_eq_laws : IsPartialEquivalence diagnostic_eq
 diagnostic_eq_laws = partial_equiv_from_equiv diagnostic_eq_equivalence

@@ -12,6 +12,7 @@ error_tree message text = record {
   children = none;
 }
 
+-- a hint with this text and this sub-range
 abbrev pub hint_for : Option (Range ℕ) → List ℕ → HintText
 hint_for sub_range text = record { text = text; sub_range = sub_range }
 
@@ -38,6 +39,7 @@ abbrev pub hint_outermost : List HintText → List WarningText → List WarningT
 hint_outermost more [] = []
 hint_outermost more (w ∷ ws) = hint_one more w ∷ ws
 
+-- the label with these hints after those of its outermost warning; without a warning, after those of the error
 abbrev pub hinted_label : List WarningText → List HintText → Label → Label
 hinted_label [] more l = record l { content = hinted_content more l.content }
 hinted_label (w ∷ ws) more l = record l { warnings = hint_outermost more (w ∷ ws) }

@@ -10,5 +10,6 @@ IsWithin file start end none = start ≤ end
 IsWithin file start end (tree l c r) =
     (l.span.file ≡ file) × (start ≤ number l) × IsWithin file (number l + 1) (bound l) c × IsWithin file (bound l) end r
 
+-- This tree is numbered for the file, from a number up to another.
 abbrev pub IsTreeWithin : ℕ → ℕ → ℕ → Tree → Type 0
 IsTreeWithin file start end t = IsWithin file start end (tree t.label t.children none)

@@ -6,6 +6,7 @@ use Rattle.typst_node.specs.Tree.{Content, AsLeaf, AsError, AsInner, Label}
 abbrev pub number : Label → ℕ
 number l = l.span.low
 
+-- the bound of a node with this content and this number
 abbrev pub bound_of : Content → ℕ → ℕ
 bound_of (AsLeaf kind text) n = n + 1
 bound_of (AsError text message hints) n = n + 1

@@ -24,9 +24,11 @@ mapped_part m bytes (Some part) =
     (slice_index m.positions (bytes.start + part.start) - origin)
     (slice_index m.positions (bytes.start + part.end - 1) + 1 - origin)
 
+-- the hint with its sub-range mapped
 abbrev pub mapped_hint : Mapping → Range ℕ → HintText → HintText
 mapped_hint m bytes h = record { text = h.text; sub_range = mapped_part m bytes h.sub_range }
 
+-- the warning with its sub-range and those of its hints mapped
 abbrev pub mapped_warning : Mapping → Range ℕ → WarningText → WarningText
 mapped_warning m bytes w = record {
   sub_range = mapped_part m bytes w.sub_range;
@@ -59,6 +61,7 @@ bytes_from start t = interval start (start + length (text t))
 abbrev pub mapped_there : Mapping → ℕ → Tree → List ℕ → Tree → Label
 mapped_there m id whole path t = mapped_label m id (bytes_from (offset path whole) t) t.label
 
+-- the label of a tree's node
 abbrev pub label_of : Tree → Label
 label_of t = t.label
 

@@ -12,6 +12,7 @@ unbounded (AsInner kind bound) = AsInner kind 0
 abbrev pub plain_label : Label → Label
 plain_label l = record { span = detached; warnings = l.warnings; content = unbounded l.content }
 
+-- the same trees with all spans detached and all bounds 0
 abbrev pub plain_forest : Forest → Forest
 plain_forest none = none
 plain_forest (tree l c r) = tree (plain_label l) (plain_forest c) (plain_forest r)

@@ -6,6 +6,7 @@ use Rattle.typst_base.specs.declared.spanned.Spanned.{Spanned}
 use Rattle.typst_node.specs.Diagnostics.{PlacedHint, Report}
 use Rattle.typst_node.specs.declared.node.diagnostics.SyntaxDiagnostic.{SyntaxDiagnostic}
 
+-- the hint of a report, for a hint of a diagnostic
 abbrev pub placed_hint : Spanned (String Global) DiagPlace → PlacedHint
 placed_hint h = record { text = string_bytes h.v; place = h.span }
 

@@ -1,4 +1,4 @@
--- Each child has fewer nodes than its parent.
+-- Each child has fewer nodes than its parent. These lemmas stand here since the laws of a trait cite them.
 use Rattle.std.specs.Prelude.{◌+◌, ◌≤◌, max, suc, List, [], ◌∷◌}
 use Rattle.std.proofs.Common.{arith, length-append}
 use denote.Param.Weighed.{most}
@@ -15,6 +15,7 @@ pub most_le-count : (ts : List Tree) → most (λ t. count t + 1) ts ≤ suc (co
 most_le-count [] = omega arith
 most_le-count (t ∷ ts) = omega (arith, most_le-count ts, length-append (preorder t.children) (preorder (forest ts)))
 
+-- each child of a node has fewer nodes than the node
 pub children_are_smaller : (n : Node) → max (deep-Node n) 0 ≤ suc (count_of_all (below n))
 children_are_smaller (Short kind len bytes) = omega arith
 children_are_smaller (Long kind b) = omega arith

@@ -17,6 +17,7 @@ synthesized_content n (AsLeaf kind text) = AsLeaf kind text
 synthesized_content n (AsError text message hints) = AsError text message (map whole_hint hints)
 synthesized_content n (AsInner kind bound) = AsInner kind n
 
+-- the label with this span, without sub-ranges, and with the span's number as an inner node's bound
 abbrev pub synthesized_label : SpanParts → Label → Label
 synthesized_label span l = record {
   span = span;
@@ -24,6 +25,7 @@ synthesized_label span l = record {
   content = synthesized_content span.low l.content;
 }
 
+-- the same trees with such a label at every node
 abbrev pub synthesized_forest : SpanParts → Forest → Forest
 synthesized_forest span none = none
 synthesized_forest span (tree l c r) = tree (synthesized_label span l) (synthesized_forest span c) (synthesized_forest span r)

@@ -10,6 +10,7 @@ content_text (AsLeaf kind text) = text
 content_text (AsError text message hints) = text
 content_text (AsInner kind bound) = []
 
+-- the own text of a node with this label
 abbrev pub own_text : Label → List ℕ
 own_text l = content_text l.content
 

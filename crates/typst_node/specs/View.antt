@@ -15,9 +15,11 @@ use Rattle.typst_node.specs.declared.node.Node.{Node}
 use Rattle.typst_node.specs.declared.node.Node.TheVariants.{Short, Long, Leaf, Inner, Error}
 use Rattle.typst_node.specs.declared.node.SyntaxNode.TheInside.{Inside}
 
+-- how contracts see a hint of a node
 abbrev pub hint_text : Hint → HintText
 hint_text h = record { text = string_bytes h.text; sub_range = h.sub_range }
 
+-- how contracts see a warning of a node
 abbrev pub warning_text : Warning → WarningText
 warning_text w = record { sub_range = w.sub_range; message = string_bytes w.message; hints = map hint_text w.hints.items }
 
@@ -25,6 +27,7 @@ warning_text w = record { sub_range = w.sub_range; message = string_bytes w.mess
 abbrev pub shown_warnings : List Warning → List WarningText
 shown_warnings ws = reverse (map warning_text ws)
 
+-- the content that a node represents
 abbrev pub content : Node → Content
 content (Short kind len bytes) = AsLeaf kind (take len bytes)
 content (Long kind b) = AsLeaf kind (string_bytes b.value)
@@ -48,6 +51,7 @@ below (Leaf kind b) = []
 below (Inner kind len b) = b.value.children.items
 below (Error b) = []
 
+-- the tree that a node represents
 abbrev pub tree_of : Inside → Tree
 tree_of a = record {
   label = record { span = a.span; warnings = shown_warnings (warnings_in a.node); content = content a.node };
@@ -66,6 +70,8 @@ pub record IsShort (len : ℕ) (bytes : List ℕ) : Type 0 where
   pub fits : len ≤ 21
   pub text : IsUtf8 (take len bytes)
 
+-- What a node keeps is consistent: only an error has the kind of errors, a short leaf has a text, and what an inner
+-- node keeps is what its children measure.
 abbrev pub IsConsistent : Node → Type 0
 IsConsistent (Short kind len bytes) = (kind ≢ kinds.Error) × IsShort len bytes
 IsConsistent (Long kind b) = kind ≢ kinds.Error

@@ -22,10 +22,11 @@ pub record BeginBefore (byte : ℕ) (ts : List Tree) (n : ℕ) : Type 0 where
 abbrev pub old_end : List Tree → List Tree → ℕ → ℕ
 old_end olds news to = length olds - (length news - to)
 
--- how many of the new children from one index up to another are what they were, first at the beginning and then at the end
+-- how many of the new children from one index up to another are what they were, counted from the first one
 abbrev pub same_first : List Tree → List Tree → ℕ → ℕ → ℕ
 same_first olds news from to = kept_first from (old_end olds news to) (slice_range news from to) olds
 
+-- how many of the rest of them are what they were, counted from the last one
 abbrev pub same_last : List Tree → List Tree → ℕ → ℕ → ℕ
 same_last olds news from to = kept_last from (old_end olds news to) (slice_range news from to) olds
 

@@ -57,6 +57,7 @@ opened c s = record s {
   judge = if c.enters then length s.below + 1 else s.judge;
 }
 
+-- What is missing becomes an error, and a frame opens behind it.
 abbrev pub called : Call → Stack → Stack
 called c s = opened c (settled s)
 
@@ -78,6 +79,7 @@ abbrev pub returned_by : Option (List Frame × Frame) → Stack → Stack
 returned_by None s = s
 returned_by (Some p) s = record s { top = rejoined s.top p.1; below = p.0; judge = min s.judge (length p.0) }
 
+-- The innermost frame ends, unless it is the outermost.
 abbrev pub returned : Stack → Stack
 returned s = returned_by (last_of s.below) s
 
@@ -85,6 +87,7 @@ returned s = returned_by (last_of s.below) s
 abbrev pub flushed : Stack → Stack
 flushed s = let p : Stack = placed (settled s) in record p { next = record p.next { is_flushed = true } }
 
+-- the kind of errors
 abbrev pub is_error_kind : SyntaxKind → Bool
 is_error_kind kind = sameb the_type kind kinds.Error
 
@@ -106,6 +109,7 @@ wrapped most kind s =
 abbrev pub expected : Expectation → Stack → Stack
 expected what s = if is_last kinds.Error s.events then s else record s { missing = Some what }
 
+-- Something is missing behind the last tree, unless something is missing there already.
 abbrev pub expected_once : Option Expectation → Expectation → Stack → Stack
 expected_once None what s = expected what s
 expected_once (Some old) what s = s

@@ -57,6 +57,7 @@ levels_after (Leaf kind len) ns = ns ++ 1 ∷ []
 levels_after (Error fault len) ns = ns ++ 1 ∷ []
 levels_after (Node kind children) ns = but_last children ns ++ suc (greatest (last_some children ns)) ∷ []
 
+-- how many levels each tree has after some events, by those of the trees before them
 abbrev pub levels_onto : List ℕ → List Event → List ℕ
 levels_onto ns [] = ns
 levels_onto ns (e ∷ es) = levels_onto (levels_after e ns) es
@@ -70,5 +71,6 @@ abbrev pub CanBeCutFrom : ℕ → List ℕ → List Event → Type 0
 CanBeCutFrom n text [] = Unit {0}
 CanBeCutFrom n text (e ∷ es) = IsCharBoundary text (n + bytes_of e) × CanBeCutFrom (n + bytes_of e) text es
 
+-- The text can be cut where each event's piece of it ends, from its first byte on.
 abbrev pub CanBeCut : List ℕ → List Event → Type 0
 CanBeCut text es = CanBeCutFrom 0 text es

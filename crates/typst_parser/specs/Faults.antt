@@ -29,6 +29,7 @@ name_in text = if slice_index text 0 == 34 then without_end 34 (drop 1 text) els
 abbrev pub digits_in : List ℕ → List ℕ
 digits_in text = if slice_index text 2 == 123 then without_end 125 (drop 3 text) else text
 
+-- a digit or a dot
 abbrev pub is_digit_or_dot : ℕ → Bool
 is_digit_or_dot b = is_ascii_digit b || (b == 46)
 

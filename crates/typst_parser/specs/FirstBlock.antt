@@ -20,5 +20,6 @@ block_of text s = record { len = s.from.at; reach = s.far; trees = grown text s.
 abbrev pub at_end : Table → List ℕ → Stack
 at_end t text = steps (length text + 1) t text (start t.most_deep)
 
+-- the first block of a text, by the rows of a table
 abbrev pub first_block : Table → List ℕ → FirstBlock
 first_block t text = block_of text (at_end t text)

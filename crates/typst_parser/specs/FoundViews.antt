@@ -7,6 +7,7 @@ use Rattle.typst_parser.specs.declared.unique.Found.{Found as CodeFound}
 use Rattle.typst_parser.specs.declared.unique.Search.{Search as CodeSearch}
 use Rattle.typst_grammar.specs.declared.row.Unique.{Unique}
 
+-- how contracts see a name or a sink that the code found
 abbrev pub found_of : CodeFound → Found
 found_of f = record { list = f.list; name = option_map (λ n. n.now) f.name; fault = f.fault }
 

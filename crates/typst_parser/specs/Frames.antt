@@ -32,6 +32,7 @@ abbrev pub settled_by : Option Expectation → Stack → Stack
 settled_by None s = s
 settled_by (Some what) s = record (pushed (Error (Expected what) 0) s) { missing = None }
 
+-- What is missing becomes an error, if anything is.
 abbrev pub settled : Stack → Stack
 settled s = settled_by s.missing s
 
@@ -54,10 +55,12 @@ ended s = let p : Stack = placed (settled s) in record p { from = p.next.place; 
 abbrev pub looking : Stack → Stack
 looking s = record s { phase = Looking }
 
+-- the next token is still looked at
 abbrev pub is_looking : Phase → Bool
 is_looking Looking = true
 is_looking _ = false
 
+-- the next token was taken
 abbrev pub is_taken : Phase → Bool
 is_taken Taken = true
 is_taken _ = false

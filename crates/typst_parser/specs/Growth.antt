@@ -32,6 +32,7 @@ with_event (Leaf kind len) piece ts = ts ++ leaf_tree (proper kind) piece ∷ []
 with_event (Error fault len) piece ts = ts ++ faulty_tree fault piece ∷ []
 with_event (Node kind children) piece ts = but_last children ts ++ node_tree (proper kind) (last_some children ts) ∷ []
 
+-- the trees after some events, by the trees before them; the text begins with the first event's piece
 abbrev pub grown_onto : List Tree → List ℕ → List Event → List Tree
 grown_onto ts text [] = ts
 grown_onto ts text (e ∷ es) = grown_onto (with_event e (take (bytes_of e) text) ts) (drop (bytes_of e) text) es

@@ -27,6 +27,7 @@ abbrev pub pieces_from : ℕ → List Piece → ℕ → List Event
 pieces_from place [] end = some_trimmed (end - place)
 pieces_from place (p ∷ ps) end = some_trimmed (p.from - place) ++ (Leaf kinds.Text (p.to - p.from) ∷ pieces_from p.to ps end)
 
+-- a backtick, which is byte 96
 abbrev pub is_backtick : ℕ → Bool
 is_backtick b = b == 96
 

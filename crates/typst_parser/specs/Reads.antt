@@ -44,6 +44,7 @@ breaks_line Space bs = has_newline bs
 breaks_line Parbreak bs = true
 breaks_line _ bs = false
 
+-- white space of this kind has a blank line
 abbrev pub is_blank_line : TokenKind → Bool
 is_blank_line Parbreak = true
 is_blank_line _ = false
@@ -60,6 +61,7 @@ whitened_by bs k s = record s {
   };
 }
 
+-- one more piece of white space before the next token, if there is one
 abbrev pub whitened : List ℕ → Option FirstToken → Stack → Stack
 whitened text None s = s
 whitened text (Some k) s = whitened_by (part s.next.place.at k.len text) k s
@@ -87,6 +89,7 @@ abbrev pub is_alike : Mode → Option Mode → Bool
 is_alike m None = false
 is_alike m (Some read) = if is_markup m then is_markup read else not (is_markup read)
 
+-- something was read in a mode
 abbrev pub is_some_mode : Option Mode → Bool
 is_some_mode None = false
 is_some_mode (Some m) = true

@@ -64,6 +64,7 @@ stops Column column s = s.next.line && nat_le s.next.place.column column
 abbrev pub is_stopped : Stack → Bool
 is_stopped s = stops (judging s).newline (judging s).column s
 
+-- what a line feed does depends on the token behind it
 abbrev pub is_context : Newline → Bool
 is_context Context = true
 is_context _ = false
@@ -79,6 +80,7 @@ abbrev pub is_of_kind : SyntaxKind → Option Event → Bool
 is_of_kind kind None = false
 is_of_kind kind (Some e) = sameb the_type (kind_of e) kind
 
+-- the last of some events is a tree of this kind
 abbrev pub is_last : SyntaxKind → List Event → Bool
 is_last kind es = is_of_kind kind (slice_get es (length es - 1))
 

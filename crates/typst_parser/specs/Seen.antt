@@ -33,6 +33,7 @@ abbrev pub seen_with : {S : Type 0} → HashSet Key S → Option CodeFound → C
 seen_with s None q = is_seen s q
 seen_with s (Some f) q = seen_after s f q
 
+-- why what was found is an error, if anything was found and it was seen before
 abbrev pub fault_if_seen : {S : Type 0} → HashSet Key S → Option CodeFound → Option Fault
 fault_if_seen s None = None
 fault_if_seen s (Some f) = fault_seen s f

@@ -56,9 +56,11 @@ abbrev pub taken_as : List ℕ → Take → Option TokenKind → Stack → Stack
 taken_as text take None s = ended s
 taken_as text take (Some kind) s = let bs = token_bytes text s.next in put bs (events_for take kind bs) (forgotten take s)
 
+-- the next token, which was read, is taken as a row says
 abbrev pub eaten : List ℕ → Take → Stack → Stack
 eaten text take s = taken_as text take s.next.kind s
 
+-- the next token is read and taken as a row says, unless the row takes none
 abbrev pub taken : List ℕ → Take → Stack → Stack
 taken text takes.Nothing s = s
 taken text take s = eaten text take (known text s)
@@ -68,9 +70,11 @@ abbrev pub refused_as : List ℕ → Fault → Option TokenKind → Stack → St
 refused_as text fault None s = ended s
 refused_as text fault (Some kind) s = let bs = token_bytes text s.next in put bs (Error fault (length bs) ∷ []) s
 
+-- the next token is read and becomes an error
 abbrev pub refused : List ℕ → Fault → Stack → Stack
 refused text fault s = let k : Stack = known text s in refused_as text fault k.next.kind k
 
+-- a frame opens, if a row says so
 abbrev pub called_if : Option Call → Stack → Stack
 called_if None s = s
 called_if (Some c) s = called c s
@@ -119,6 +123,7 @@ abbrev pub looked_by : Option RowMode → Table → List ℕ → Stack → Stack
 looked_by None t text s = followed t text (row_for t End s) s
 looked_by (Some mode) t text s = looked_in t text (lexer_mode mode) (spaced (lexer_mode mode) text s)
 
+-- the stack after one look, in the mode of the innermost frame's state
 abbrev pub looked : Table → List ℕ → Stack → Stack
 looked t text s = looked_by (t.modes s.top.state) t text s
 

@@ -112,6 +112,7 @@ abbrev pub unexpected_by : Option Fault → SyntaxKind → Fault
 unexpected_by None kind = faults.Unexpected kind
 unexpected_by (Some fault) kind = fault
 
+-- why a token of this kind is an error where it isn't expected
 abbrev pub unexpected_of : TokenKind → Fault
 unexpected_of kind = unexpected_by (fault_of kind) (leaf_kind kind)
 
@@ -120,6 +121,7 @@ abbrev pub mistake_by : Option Fault → Expectation → SyntaxKind → Fault
 mistake_by None what kind = faults.Mistake what kind
 mistake_by (Some fault) what kind = fault
 
+-- why a token of this kind is an error where something else is expected
 abbrev pub mistake_of : Expectation → TokenKind → Fault
 mistake_of what kind = mistake_by (fault_of kind) what (leaf_kind kind)
 

@@ -69,6 +69,7 @@ is_same_name None (Some m) = false
 is_same_name (Some n) None = false
 is_same_name (Some n) (Some m) = pointwise eqb n m
 
+-- whether the same name, or a sink, was found twice in the same list
 abbrev pub is_same : Found → Found → Bool
 is_same one other = (one.list == other.list) && is_same_name one.name other.name
 

@@ -12,6 +12,7 @@ use Rattle.typst_parser.specs.Rows.{Table}
 use Rattle.typst_parser.specs.Stack.{Stack}
 use denote.Ref.{Bor}
 
+-- how contracts see the code's stack
 abbrev pub stack_of : CodeStack → Stack
 stack_of s = record {
   events = s.events.items;
@@ -26,6 +27,7 @@ stack_of s = record {
   judge = s.judge;
 }
 
+-- how contracts see the code's table
 abbrev pub table_of : CodeTable → Table
 table_of t = record { rows = rows; modes = mode_of; most_deep = t.most_deep; most_looks = t.most_looks; most_levels = t.most_levels }
 

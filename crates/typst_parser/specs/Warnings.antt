@@ -20,6 +20,7 @@ abbrev pub warning_hint : Warning → List ℕ
 warning_hint warnings.EmptyStrong = codes "using multiple consecutive stars (e.g. **) has no additional effect"
 warning_hint warnings.EmptyEmph = codes "using multiple consecutive underscores (e.g. __) has no additional effect"
 
+-- whether a kind is that of white space
 abbrev pub is_space : SyntaxKind → Bool
 is_space kinds.Space = true
 is_space kind = false

@@ -1,4 +1,4 @@
--- The laws of the parser of lines.
+-- The laws of the parser of lines. These lemmas stand here since the laws of a trait cite them.
 use Rattle.std.specs.Prelude.{ℕ, suc, ◌≡◌, ◌+◌, ◌<◌, ◌≤◌, ◌==◌, ◌++◌, nat_lt, get_or, Bool, true, false, List, [], ◌∷◌, length, take, if◌then◌else◌}
 use Rattle.std.proofs.Common.{refl, sym, ap, subst, ◌∙◌, arith}
 use Rattle.std.proofs.lemmas.Bool.{eqb-true}
@@ -11,6 +11,7 @@ use Rattle.typst_node.specs.Tree.{leaf_tree}
 use Rattle.typst_node.proofs.Trees.{text_of_all-cons}
 use Rattle.typst_source_tests.specs.Lines.{line_len, line_reach, trees_of_line, first_line}
 
+-- a text that isn't empty has a first line that isn't empty
 pub lines_positive : (text : List ℕ) → 0 < length text → 0 < (first_line text).len
 lines_positive [] some = absurd (omega arith)
 lines_positive (b ∷ bs) some = by_case (b == 10)
@@ -19,6 +20,7 @@ lines_positive (b ∷ bs) some = by_case (b == 10)
     by_case true = omega arith
     by_case false = omega arith
 
+-- the first line is not longer than the text
 pub lines_within : (text : List ℕ) → (first_line text).len ≤ length text
 lines_within [] = omega arith
 lines_within (b ∷ bs) = by_case (b == 10) (lines_within bs)
@@ -27,6 +29,7 @@ lines_within (b ∷ bs) = by_case (b == 10) (lines_within bs)
     by_case true h = omega arith
     by_case false h = omega arith
 
+-- the parser looks at all bytes of the line
 pub lines_looked : (text : List ℕ) → (first_line text).len ≤ (first_line text).reach
 lines_looked [] = omega arith
 lines_looked (b ∷ bs) = by_case (b == 10) (lines_looked bs)
@@ -51,12 +54,14 @@ ends (b ∷ bs) = by_case (b == 10) refl (ends bs)
       | Fed before is inside feed ↦ Fed (suc before) (omega (arith, is)) (omega arith) feed
     ]
 
+-- the first line of a text that is valid UTF-8 ends at a character boundary
 pub lines_boundary : (text : List ℕ) → IsUtf8 text → IsCharBoundary text (first_line text).len
 lines_boundary text u = elim (ends text) as (λ _. IsCharBoundary text (line_len text)) [
   | Whole all ↦ subst (IsCharBoundary text) (sym all) (IsCharBoundary-end text)
   | Fed before is inside feed ↦ subst (IsCharBoundary text) (sym is) (IsCharBoundary-after_ascii text before u inside (omega (arith, feed)))
 ]
 
+-- the trees of the line have all of its text
 pub lines_keep_text : (text : List ℕ) → text_of_all (first_line text).trees ≡ take (first_line text).len text
 lines_keep_text text = by_case (nat_lt (line_len text) (line_reach text)) (take (line_len text) text)
   where
@@ -90,6 +95,7 @@ same_reach (b ∷ bs) (c ∷ cs) e =
         let same = ih rest in
         (ap suc same.0, ap suc same.1)
 
+-- a text that is the same as far as the parser looks has the same first line
 pub lines_local : (text other : List ℕ) → take (first_line text).reach text ≡ take (first_line text).reach other → first_line text ≡ first_line other
 lines_local text other e =
     let same = same_reach text other e in

@@ -19,6 +19,7 @@ line_reach (b ∷ bs) = if b == 10 then 1 else suc (line_reach bs)
 abbrev pub trees_of_line : Bool → List ℕ → List Tree
 trees_of_line last line = leaf_tree kinds.Text line ∷ (if last then leaf_tree kinds.End [] ∷ [] else [])
 
+-- the first line of a text, as a block
 abbrev pub first_line : List ℕ → Block
 first_line text = record {
   len = line_len text;

@@ -21,6 +21,7 @@ GoesOnOver (Replace path range others) (NotFound l) old new p q = q ≡ p
 GoesOnOver (Replace path range others) NoMemory old new p q = q ≡ p
 GoesOnOver (Find span) reply old new p q = q ≡ p
 
+-- A request that is answered takes the path p to the path q as its reply says. Otherwise the path stays as it is.
 abbrev pub GoesOn : Slot → Slot → Tree → Tree → List ℕ → List ℕ → Type 0
 GoesOn (Ask request) (Told reply) old new p q = GoesOnOver request reply old new p q
 GoesOn (Ask request) (Ask again) old new p q = q ≡ p

@@ -33,6 +33,7 @@ edited_if_done (Replace path range others) (NotFound l) t = t
 edited_if_done (Replace path range others) NoMemory t = t
 edited_if_done (Find span) reply t = t
 
+-- the tree after the plain edit of a slot's request, if a step answers it and the reply says that the edit was done
 abbrev pub edited_by_slot : Slot → Slot → Tree → Tree
 edited_by_slot (Ask request) (Told reply) t = edited_if_done request reply t
 edited_by_slot (Ask request) (Ask again) t = t
