@@ -45,6 +45,8 @@ pub enum Class {
     Hash,
     /// A dollar.
     Dollar,
+    /// A hash or a dollar, for a parser that reads markup alone.
+    Plain,
     /// An opening brace.
     LeftBrace,
     /// A closing brace.

@@ -12,6 +12,6 @@
 //! ```
 #![tactic(auto)]
 
-pub use parser::{Typst, blocks_are_shallow};
+pub use parser::{MarkupOnly, Typst, blocks_are_shallow};
 
 pub mod parser;

@@ -1,11 +1,13 @@
 //! Compares the trees of texts with trees that were worked out without the library. Then it turns each text into each
-//! other text by an edit. At last it types a letter in some texts, and looks which bytes are parsed anew.
+//! other text by an edit. It types a letter in some texts, and looks which bytes are parsed anew. At last it parses and
+//! edits a text of markup alone.
 //!
 //! Its arguments are names. The file `NAME.typ` has a text, and `NAME.tree` has its tree, one node a line, with two
 //! blanks a level. A leaf has its text as `{:?}` prints it, and an error has its text and its message. Below a node its
 //! warnings and hints have a line each.
 #![tactic(auto)]
 
+mod alone;
 mod blocks;
 mod shown;
 
@@ -131,5 +133,6 @@ fn main(rt: HostRuntime) -> Result<()> {
     println!(rt; "{count} trees, {edits} edits")?;
     let letters = blocks::check(alloc)?;
     println!(rt; "{letters} letters")?;
+    alone::check(alloc)?;
     Ok(())
 }

@@ -32,6 +32,12 @@ pub record Table : Type 0 where
   pub most_looks : ℕ
   pub most_levels : ℕ
 
+-- the class as which a token reads where markup stands alone: a hash and a dollar begin nothing there
+abbrev pub as_markup : Class → Class
+as_markup classes.Hash = classes.Plain
+as_markup classes.Dollar = classes.Plain
+as_markup class = class
+
 -- how the lexer reads in a mode of the table
 abbrev pub lexer_mode : RowMode → Mode
 lexer_mode row_modes.Markup = modes.Markup

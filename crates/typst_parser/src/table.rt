@@ -1,6 +1,6 @@
 //! The table, and which of its rows is done.
 ghost use Rattle.std.specs.Prelude.{◌≡◌};
-ghost use Rattle.typst_parser.specs.Rows.{class_of_next, first_row, goes_on, holds, is_context, is_last, is_stopped, lexer_mode, row_for, seen, stops};
+ghost use Rattle.typst_parser.specs.Rows.{as_markup, class_of_next, first_row, goes_on, holds, is_context, is_last, is_stopped, lexer_mode, row_for, seen, stops};
 ghost use Rattle.typst_parser.specs.View.{found_of, stack_of, table_of};
 ghost use Rattle.typst_grammar.specs.Row.{rows_of};
 
@@ -12,9 +12,11 @@ use typst_grammar::rows::rows;
 use typst_grammar::{Class, Condition, Mode as RowMode, Newline, Row};
 use typst_lexer::{Mode, TokenKind};
 
-/// The bounds of the machine.
+/// What is read, and the bounds of the machine.
 #[derive(Clone, Copy, Debug)]
 pub struct Table {
+    /// Whether a hash begins code and a dollar an equation. Otherwise both are text.
+    pub embeds: bool,
     /// How many deep frames may be open at once.
     pub most_deep: usize,
     /// How often a token is looked at. It has to suffice for the ends of all open frames.
@@ -43,6 +45,16 @@ fn class_of_next(kind: Option<TokenKind>) -> Class
     match kind {
         Some(kind) => class_of(kind),
         None => Class::End,
+    }
+}
+
+/// The class as which a token reads where markup stands alone.
+fn as_markup(class: Class) -> Class
+    ensures { result ≡ as_markup class }
+{
+    match class {
+        Class::Hash | Class::Dollar => Class::Plain,
+        _ => class,
     }
 }
 
@@ -135,6 +147,7 @@ impl Stack {
     pub(crate) fn row_for(&self, table: &Table, class: Class) -> Option<&'static Row>
         ensures { found_of result ≡ row_for (table_of table.now) class (stack_of self.now) }
     {
+        let class = if table.embeds { class } else { as_markup(class) };
         self.first_row(rows(self.top.state, class))
     }
 }

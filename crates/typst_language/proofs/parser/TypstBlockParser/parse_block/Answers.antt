@@ -1,11 +1,14 @@
-use Rattle.std.proofs.Common.{refl, rules, sym}
-use Rattle.typst_parser.specs.View.{table_of}
-use Rattle.typst_language.proofs.Made.{made, made_fits}
+use Rattle.std.proofs.Common.{List, ℕ, sym, subst}
+use Rattle.std.specs.Prelude.{IfOk}
+use Rattle.typst_node.specs.Count.{SumsFit}
+use Rattle.typst_parser.specs.Rows.{Table}
+use Rattle.typst_source.specs.Parsed.{IsParsedBlock}
+use Rattle.typst_language.specs.Block.{first_by}
 use Rattle.typst_language.proofs.parser.TypstBlockParser.parse_block.Goals as goal
 
 pub returns-clause-parsed : goal.returns-clause-parsed
-returns-clause-parsed c = made c.args.text.now (table_of c.bounds.result) c.in_ok-block.block _ c.bounds.ensures c.in_ok-block.ensures.block refl refl refl
+returns-clause-parsed c = subst (λ (t : Table). IfOk c.parse_by.result (IsParsedBlock (first_by t c.args.text.now))) c.bounds.ensures c.parse_by.ensures.parsed
 
-pub returns-in_err-block-clause-overflow : goal.returns-in_err-block-clause-overflow
-returns-in_err-block-clause-overflow c is fits =
-    c.in_err-block.ensures.overflow (search (rules, is)) (made_fits c.args.text.now (table_of c.bounds.result) (sym c.bounds.ensures) fits)
+pub returns-clause-overflow : goal.returns-clause-overflow
+returns-clause-overflow c is fits =
+    c.parse_by.ensures.overflow is (subst (λ (t : Table). SumsFit (first_by t c.args.text.now).trees) (sym c.bounds.ensures) fits)
