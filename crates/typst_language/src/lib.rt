@@ -4,6 +4,8 @@
 //! an item, a line of a paragraph, or code that is closed. Every byte is in exactly one leaf or error, in order, whatever
 //! the text. `docs/SYNTAX.md` has the syntax as a table.
 //!
+//! [`MarkupOnly`] reads markup alone: a hash and a dollar are text for it.
+//!
 //! A source takes the parser, and has a tree with errors and warnings:
 //!
 //! ```text
