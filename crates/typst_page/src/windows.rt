@@ -1,7 +1,7 @@
 //! The windows that were tried when the nodes of an edit were numbered.
 ghost use Rattle.std.specs.Prelude.{◌≡◌, ◌-◌, ◌^◌, ◌≤◌, ◌↔◌, IfSome, IsSome, length, min, slice_range};
 ghost use Rattle.typst_node.specs.Tree.{trees};
-ghost use Rattle.typst_node.specs.Window.{reach};
+ghost use Rattle.typst_node.specs.Window.{width};
 ghost use Rattle.typst_page.specs.Change.{BeginBefore, EndBy, IsChange, IsLastWindow, window_end, window_start};
 
 use std::ops::Range;
@@ -50,9 +50,9 @@ impl Change {
         ensures start { result.start ≡ window_start self.now turn }
         ensures end { result.end ≡ window_end self.now turn }
     {
-        let reach = reach_at(turn);
+        let width = width_at(turn);
         let end = self.before.saturating_add(self.changed);
-        self.before.saturating_sub(reach)..end.saturating_add(reach.min(self.behind))
+        self.before.saturating_sub(width)..end.saturating_add(width.min(self.behind))
     }
 
     /// The turns of all windows that were tried. The last of them had room. None if the last isn't the window that the
@@ -73,8 +73,8 @@ impl Change {
 }
 
 /// 0 at the first turn, then 1, 2, 4, .., or the largest number that there is.
-fn reach_at(turn: usize) -> usize
-    ensures { result ≡ min (reach turn) (2 ^ 64 - 1) }
+fn width_at(turn: usize) -> usize
+    ensures { result ≡ min (width turn) (2 ^ 64 - 1) }
 {
     match turn.checked_sub(1) {
         None => 0,
