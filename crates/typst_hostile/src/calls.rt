@@ -19,6 +19,7 @@ use std::alloc::Global;
 pub enum Call {
     Make(Making),
     MakeMapper,
+    Wrap,
     CloneDiagnostic,
     Change(Change),
     HintAll,
@@ -76,6 +77,7 @@ const CALLS: &[(&str, Call)] = &[
     ("error", Call::Make(Making::Error)),
     ("inner", Call::Make(Making::Inner)),
     ("inner of 11 leaves", Call::Make(Making::InnerOfEleven)),
+    ("wrap of 11 leaves", Call::Wrap),
     ("clone", Call::Make(Making::Clone)),
     ("clone of 11 leaves", Call::Make(Making::CloneOfEleven)),
     ("clone of a diagnostic", Call::CloneDiagnostic),
@@ -173,6 +175,7 @@ impl Call {
         match self {
             Call::Make(making) => making.run(alloc, requests),
             Call::MakeMapper => making::make_mapper(alloc, requests),
+            Call::Wrap => making::wrap(alloc, requests),
             Call::CloneDiagnostic => making::clone_diagnostic(alloc, requests),
             Call::Change(change) => change.run(alloc, requests),
             Call::HintAll => changing::hint_all(alloc, requests),

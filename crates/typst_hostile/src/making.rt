@@ -93,6 +93,18 @@ pub fn make_mapper(alloc: Global, requests: Requests) -> Result<End, Stop> {
     })
 }
 
+/// `SyntaxNode::wrap` over eleven letters.
+pub fn wrap(alloc: Global, requests: Requests) -> Result<End, Stop> {
+    let mut parts = drawn_all(alloc, LETTERS)?;
+    let kept = drawn_all(alloc, LETTERS)?;
+    let wanted = SyntaxNode::inner(alloc, SyntaxKind::Markup, drawn_all(alloc, LETTERS)?)?;
+    requests.make(alloc)?;
+    Ok(match SyntaxNode::wrap(alloc, SyntaxKind::Markup, &mut parts) {
+        Ok(made) => End::answered(made == wanted && parts.is_empty()),
+        Err(error) => End::failed(Fault::from(error), parts == kept),
+    })
+}
+
 /// The clone of a diagnostic with a hint.
 pub fn clone_diagnostic(alloc: Global, requests: Requests) -> Result<End, Stop> {
     let (mut errors, _) = drawn(alloc, ALL_FORMS)?.errors_and_warnings(alloc)?;

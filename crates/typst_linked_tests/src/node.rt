@@ -1,4 +1,5 @@
 //! Tests of `typst_node`. Most are tables: a drawn tree, what is done to it, and the words for the result.
+mod building;
 mod converting;
 mod diagnostics;
 mod equal;

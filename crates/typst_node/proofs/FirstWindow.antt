@@ -8,14 +8,14 @@ use Rattle.std.proofs.lemmas.Int.Digits.{number_lt, all_below_base_digits_of, nu
 use Rattle.typst_node.specs.BinaryDigits.{binary_digits}
 use Rattle.typst_node.specs.Count.{count_of_all}
 use Rattle.typst_node.specs.OpenNumbers.{open_from, open_to}
-use Rattle.typst_node.specs.Window.{Site, reach, trees_in, trees_before, trees_behind}
+use Rattle.typst_node.specs.Window.{Site, width, trees_in, trees_before, trees_behind}
 use Rattle.typst_node.specs.WindowNumbers.{open_count}
 use Rattle.typst_node.specs.Room.{HasRoom, new_count}
 use Rattle.typst_node.specs.FirstWindow.{HoldsAll, IsFirst, HasNoFirst, IsFoundSoon, IsCrowded}
 use Rattle.typst_node.proofs.Opens.{fewer_in}
 
 -- a window with this many neighbours on each side holds all
-holds_power : (s : Site) (d : ℕ) → max (length s.before) (length s.behind) < 2 ^ d → HoldsAll s (reach (suc d))
+holds_power : (s : Site) (d : ℕ) → max (length s.before) (length s.behind) < 2 ^ d → HoldsAll s (width (suc d))
 holds_power s d h = (omega arith, omega arith)
 
 -- a number is below the power of two with as many digits
@@ -66,21 +66,21 @@ all_open s w all =
     λ i. open_to s.end (back i) - open_from s.first (front i)
 
 -- one window is tried: none has room before it, and none holds all
-try_one : (k : ℕ) (s : Site) → HasNoFirst s → ((j : ℕ) → j < k → ¬ (HasRoom s (reach j))) → ((j : ℕ) → j < k → ¬ (HoldsAll s (reach j)))
-    → (¬ (HasRoom s (reach k)) → ¬ (HoldsAll s (reach k)) → s.end - s.first < new_count s)
-    → HasRoom s (reach k) ⊎ (open_count s (reach k) < new_count s) → HoldsAll s (reach k) ⊎ ((reach k < length s.before) ⊎ (reach k < length s.behind)) → s.end - s.first < new_count s
+try_one : (k : ℕ) (s : Site) → HasNoFirst s → ((j : ℕ) → j < k → ¬ (HasRoom s (width j))) → ((j : ℕ) → j < k → ¬ (HoldsAll s (width j)))
+    → (¬ (HasRoom s (width k)) → ¬ (HoldsAll s (width k)) → s.end - s.first < new_count s)
+    → HasRoom s (width k) ⊎ (open_count s (width k) < new_count s) → HoldsAll s (width k) ⊎ ((width k < length s.before) ⊎ (width k < length s.behind)) → s.end - s.first < new_count s
 try_one k s none least among rest (inl room) all = absurd (none k (record { room = room; least = least; among = among }))
-try_one k s none least among rest (inr few) (inl here) = omega (arith, all_open s (reach k) here)
-try_one k s none least among rest (inr few) (inr more) = rest (λ room. none k (record { room = room; least = least; among = among })) (not_all s (reach k) more)
+try_one k s none least among rest (inr few) (inl here) = omega (arith, all_open s (width k) here)
+try_one k s none least among rest (inr few) (inr more) = rest (λ room. none k (record { room = room; least = least; among = among })) (not_all s (width k) more)
 
 -- The windows are tried in turn, from window k on: the first that holds all has no room.
-try_all : (n k : ℕ) (s : Site) → HasNoFirst s → ((j : ℕ) → j < k → ¬ (HasRoom s (reach j))) → ((j : ℕ) → j < k → ¬ (HoldsAll s (reach j))) → HoldsAll s (reach (k + n)) → s.end - s.first < new_count s
+try_all : (n k : ℕ) (s : Site) → HasNoFirst s → ((j : ℕ) → j < k → ¬ (HasRoom s (width j))) → ((j : ℕ) → j < k → ¬ (HoldsAll s (width j))) → HoldsAll s (width (k + n)) → s.end - s.first < new_count s
 try_all zero k s none least among all =
-    try_one k s none least among (λ room here. absurd (here (subst (λ m. HoldsAll s (reach m)) (let e : k + 0 ≡ k = omega arith in e) all))) (has_room s (reach k)) (holds_all s (reach k))
+    try_one k s none least among (λ room here. absurd (here (subst (λ m. HoldsAll s (width m)) (let e : k + 0 ≡ k = omega arith in e) all))) (has_room s (width k)) (holds_all s (width k))
 try_all (suc n) k s none least among all =
     try_one k s none least among
-    (λ room here. try_all n (k + 1) s none (below_more (λ j. ¬ (HasRoom s (reach j))) k least room) (below_more (λ j. ¬ (HoldsAll s (reach j))) k among here)
-    (subst (λ m. HoldsAll s (reach m)) (let e : k + suc n ≡ k + 1 + n = omega arith in e) all)) (has_room s (reach k)) (holds_all s (reach k))
+    (λ room here. try_all n (k + 1) s none (below_more (λ j. ¬ (HasRoom s (width j))) k least room) (below_more (λ j. ¬ (HoldsAll s (width j))) k among here)
+    (subst (λ m. HoldsAll s (width m)) (let e : k + suc n ≡ k + 1 + n = omega arith in e) all)) (has_room s (width k)) (holds_all s (width k))
 
 below_power : (n : ℕ) → n < 2 ^ n
 below_power zero = omega arith
@@ -89,6 +89,6 @@ below_power (suc n) = let more : 2 ^ n < 2 ^ suc n = pow-lt (omega arith) in ome
 pub no_first_crowded : (s : Site) → HasNoFirst s → IsCrowded s
 no_first_crowded s none =
     let n = max (length s.before) (length s.behind) in
-    let few = try_all (suc n) 0 s none (λ j h. absurd (omega arith)) (λ j h. absurd (omega arith)) (subst (λ m. HoldsAll s (reach m)) (let e : suc n ≡ 0 + suc n = omega arith in e) (holds_power s n (below_power n))) in
+    let few = try_all (suc n) 0 s none (λ j h. absurd (omega arith)) (λ j h. absurd (omega arith)) (subst (λ m. HoldsAll s (width m)) (let e : suc n ≡ 0 + suc n = omega arith in e) (holds_power s n (below_power n))) in
     let room : 2 * count_of_all (trees_in s 0) ≤ open_count s 0 → ⊥ = λ h. none 0 (record { room = inl h; least = λ j g. absurd (omega arith); among = λ j g. absurd (omega arith) }) in
     (few, omega (arith, room, fewer_in s 0))

@@ -10,7 +10,7 @@ use Rattle.typst_node.specs.Count.{count_of_all}
 use Rattle.typst_node.specs.Text.{text_of_all}
 use Rattle.typst_node.specs.Labels.{bound}
 use Rattle.typst_node.specs.OpenNumbers.{open_from}
-use Rattle.typst_node.specs.Window.{Site, reach, trees_in}
+use Rattle.typst_node.specs.Window.{Site, width, trees_in}
 use Rattle.typst_node.specs.Room.{new_count}
 use Rattle.typst_node.proofs.Trees.{count_of_all-cons, length-text_of_all-cons}
 
@@ -88,11 +88,11 @@ positive_power zero = omega arith
 positive_power (suc k) = grind (arith, positive_power k)
 
 -- the next width
-pub reach_next : (t w r : ℕ) → 1 ≤ t → w ≡ reach (t - 1) → (w ≡ 0 → r ≡ 1) → (0 < w → r ≡ 2 * w) → r ≡ reach t
-reach_next zero w r h e z m = absurd (omega arith)
-reach_next (suc zero) w r h e z m = z (e ∙ ap reach (let q : suc zero - 1 ≡ zero = omega arith in q))
-reach_next (suc (suc k)) w r h e z m =
-    let p : w ≡ 2 ^ k = e ∙ ap reach (let q : suc (suc k) - 1 ≡ suc k = omega arith in q) in
+pub width_next : (t w r : ℕ) → 1 ≤ t → w ≡ width (t - 1) → (w ≡ 0 → r ≡ 1) → (0 < w → r ≡ 2 * w) → r ≡ width t
+width_next zero w r h e z m = absurd (omega arith)
+width_next (suc zero) w r h e z m = z (e ∙ ap width (let q : suc zero - 1 ≡ zero = omega arith in q))
+width_next (suc (suc k)) w r h e z m =
+    let p : w ≡ 2 ^ k = e ∙ ap width (let q : suc (suc k) - 1 ≡ suc k = omega arith in q) in
     let twice : r ≡ 2 * w = m (omega (arith, positive_power k)) in
     twice ∙ rw p (grind arith)
 

@@ -12,7 +12,7 @@ use Rattle.typst_node.proofs.Trees.{trees_of_forest}
 use Rattle.typst_node.specs.Labels.{number, bound}
 use Rattle.typst_node.specs.PlainEdit.{edited}
 use Rattle.typst_node.specs.ChangedChildren.{kept_first, kept_last}
-use Rattle.typst_node.specs.Window.{reach, site_among, site_of}
+use Rattle.typst_node.specs.Window.{width, site_among, site_of}
 use Rattle.typst_node.specs.Renumbering.{IsRenumbering}
 use Rattle.typst_node.specs.declared.node.replace.Renumbered.{Renumbered}
 use Rattle.typst_node.proofs.Settled.{get_take, length_splice}
@@ -129,7 +129,7 @@ module _ (from to : ℕ) (others ts : List Tree) (order : from ≤ to) (inside :
 
   module _ (first end : ℕ) (r : Renumbered) (new : List Tree) (ok : IsRenumbering (site_among first end from to others ts) r new) where
     abbrev pub w : ℕ
-    w = reach ok.k
+    w = width ok.k
 
     before_long : length (take (from + p) ts) ≡ from + p
     before_long = omega (arith, length-take (from + p) ts, p_old)
@@ -162,7 +162,7 @@ keeps_outside path from to others t u r h order inside ok same frame q at n =
     let kids : map plain new ≡ map plain (splice ts from to others) = kids_plain (tree_at path u) (edited from to others s) same ∙ ap (map plain) (trees_of_forest (splice ts from to others)) in
     let long : length new ≡ length (splice ts from to others) = sym (length-map new plain) ∙ (ap length kids ∙ length-map (splice ts from to others) plain) in
     let many : length new + (to - from) ≡ length ts + length others = omega (arith, long, length_splice ts others from to order inside) in
-    keeps_whole path q new t u r.window.start r.window.end (to - kept_last from to others ts + min (reach ok.k) (length (drop (to - kept_last from to others ts) ts))) frame h
+    keeps_whole path q new t u r.window.start r.window.end (to - kept_last from to others ts + min (width ok.k) (length (drop (to - kept_last from to others ts) ts))) frame h
     (front_stays from to others ts order inside (number s.label + 1) (bound s.label) r new ok)
     (back_stays from to others ts order inside (number s.label + 1) (bound s.label) r new ok)
     (back_many from to others ts order inside (number s.label + 1) (bound s.label) r new ok many) at n

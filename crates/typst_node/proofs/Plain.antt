@@ -7,7 +7,7 @@ use Rattle.typst_node.specs.Tree.{Content, AsLeaf, AsError, AsInner, Label, Fore
 use Rattle.typst_node.specs.Preorder.{preorder}
 use Rattle.typst_node.specs.Text.{content_text, own_text, joined, text, text_of_all}
 use Rattle.typst_node.specs.Count.{count, count_of_all}
-use Rattle.typst_node.specs.Diagnosis.{is_error_content, is_error, is_warned, has_error, has_warning}
+use Rattle.typst_node.specs.Diagnosis.{is_error_content, is_error, is_warned, has_error, has_warning, any_has_error, any_has_warning}
 use Rattle.typst_node.specs.Plain.{unbounded, plain_label, plain_forest, plain}
 use Rattle.typst_node.specs.View.{IsMeasured, IsConsistent, tree_of, below, shown_warnings}
 use Rattle.typst_node.specs.ChildEnds.{ends_from, AreEnds}
@@ -81,10 +81,10 @@ module _ (ts us : List Tree) (same : map plain ts ≡ map plain us) where
   pub same_count_of_all : count_of_all ts ≡ count_of_all us
   same_count_of_all = sym (length_plain (preorder (forest ts))) ∙ ap length (sym (nodes_plain ts) ∙ ap (λ vs. preorder (forest vs)) same ∙ nodes_plain us) ∙ length_plain (preorder (forest us))
 
-  same_errors : list_any is_error (preorder (forest ts)) ≡ list_any is_error (preorder (forest us))
+  same_errors : any_has_error ts ≡ any_has_error us
   same_errors = sym (any_error_plain (preorder (forest ts))) ∙ ap (list_any is_error) (sym (nodes_plain ts) ∙ ap (λ vs. preorder (forest vs)) same ∙ nodes_plain us) ∙ any_error_plain (preorder (forest us))
 
-  same_warnings : list_any is_warned (preorder (forest ts)) ≡ list_any is_warned (preorder (forest us))
+  same_warnings : any_has_warning ts ≡ any_has_warning us
   same_warnings = sym (any_warned_plain (preorder (forest ts))) ∙ ap (list_any is_warned) (sym (nodes_plain ts) ∙ ap (λ vs. preorder (forest vs)) same ∙ nodes_plain us) ∙ any_warned_plain (preorder (forest us))
 
   same_ends : (at : ℕ) → ends_from at ts ≡ ends_from at us
@@ -95,8 +95,8 @@ module _ (ts us : List Tree) (same : map plain ts ≡ map plain us) where
       → IsMeasured old → IsMeasured new
   measured_by_plain old new were are descendants diagnosis ends m = record {
     descendants = descendants ∙ m.descendants ∙ ap (λ vs. suc (count_of_all vs)) were ∙ ap suc (sym same_count_of_all) ∙ ap (λ vs. suc (count_of_all vs)) (sym are);
-    errors = ap (λ d. d.errors) diagnosis ∙ m.errors ∙ ap (λ vs. list_any is_error (preorder (forest vs))) were ∙ sym same_errors ∙ ap (λ vs. list_any is_error (preorder (forest vs))) (sym are);
-    warnings = ap (λ d. d.warnings) diagnosis ∙ m.warnings ∙ ap (λ vs. list_any is_warned (preorder (forest vs))) were ∙ sym same_warnings ∙ ap (λ vs. list_any is_warned (preorder (forest vs))) (sym are);
+    errors = ap (λ d. d.errors) diagnosis ∙ m.errors ∙ ap any_has_error were ∙ sym same_errors ∙ ap any_has_error (sym are);
+    warnings = ap (λ d. d.warnings) diagnosis ∙ m.warnings ∙ ap any_has_warning were ∙ sym same_warnings ∙ ap any_has_warning (sym are);
     ends = subst (AreEnds new.extras.ends) (sym are) (ends_alike new.extras.ends us ts (sym (same_ends 0)) (subst (λ es. AreEnds es us) (sym ends) (subst (AreEnds old.extras.ends) were m.ends)));
   }
 

@@ -6,7 +6,7 @@ use Rattle.typst_node.specs.Tree.{Label, Forest, none, tree, Tree, forest}
 use Rattle.typst_node.specs.Preorder.{preorder}
 use Rattle.typst_node.specs.Text.{own_text, joined, text, text_of_all}
 use Rattle.typst_node.specs.Count.{count_of_all}
-use Rattle.typst_node.specs.Diagnosis.{is_error, is_warned}
+use Rattle.typst_node.specs.Diagnosis.{is_error, is_warned, any_has_error, any_has_warning}
 use Rattle.typst_node.specs.View.{IsMeasured}
 use Rattle.typst_node.specs.ChildEnds.{ends_from, AreEnds}
 use Rattle.typst_node.proofs.Trees.{ends_alike}
@@ -73,10 +73,10 @@ module _ (change : Label → Label) (keeps : KeepsMeasures change) where
     pub same_count : count_of_all ts ≡ count_of_all us
     same_count = sym (length_changed change (preorder (forest ts))) ∙ ap length same_nodes ∙ length_changed change (preorder (forest us))
 
-    same_errors : list_any is_error (preorder (forest ts)) ≡ list_any is_error (preorder (forest us))
+    same_errors : any_has_error ts ≡ any_has_error us
     same_errors = sym (any_error_changed (preorder (forest ts))) ∙ ap (list_any is_error) same_nodes ∙ any_error_changed (preorder (forest us))
 
-    same_warnings : list_any is_warned (preorder (forest ts)) ≡ list_any is_warned (preorder (forest us))
+    same_warnings : any_has_warning ts ≡ any_has_warning us
     same_warnings = sym (any_warned_changed (preorder (forest ts))) ∙ ap (list_any is_warned) same_nodes ∙ any_warned_changed (preorder (forest us))
 
     same_ends : (at : ℕ) → ends_from at ts ≡ ends_from at us
@@ -87,7 +87,7 @@ module _ (change : Label → Label) (keeps : KeepsMeasures change) where
         → IsMeasured old → IsMeasured new
     measured_by_relabelled old new were are descendants diagnosis ends m = record {
       descendants = descendants ∙ m.descendants ∙ ap (λ vs. suc (count_of_all vs)) were ∙ ap suc (sym same_count) ∙ ap (λ vs. suc (count_of_all vs)) (sym are);
-      errors = ap (λ d. d.errors) diagnosis ∙ m.errors ∙ ap (λ vs. list_any is_error (preorder (forest vs))) were ∙ sym same_errors ∙ ap (λ vs. list_any is_error (preorder (forest vs))) (sym are);
-      warnings = ap (λ d. d.warnings) diagnosis ∙ m.warnings ∙ ap (λ vs. list_any is_warned (preorder (forest vs))) were ∙ sym same_warnings ∙ ap (λ vs. list_any is_warned (preorder (forest vs))) (sym are);
+      errors = ap (λ d. d.errors) diagnosis ∙ m.errors ∙ ap any_has_error were ∙ sym same_errors ∙ ap any_has_error (sym are);
+      warnings = ap (λ d. d.warnings) diagnosis ∙ m.warnings ∙ ap any_has_warning were ∙ sym same_warnings ∙ ap any_has_warning (sym are);
       ends = subst (AreEnds new.extras.ends) (sym are) (ends_alike new.extras.ends us ts (sym (same_ends 0)) (subst (λ es. AreEnds es us) (sym ends) (subst (AreEnds old.extras.ends) were m.ends)));
     }

@@ -1,7 +1,7 @@
 -- The first window with room.
 use Rattle.std.specs.Prelude.{ℕ, ◌+◌, ◌-◌, ◌<◌, ◌≤◌, length, max}
 use Rattle.typst_node.specs.BinaryDigits.{binary_digits}
-use Rattle.typst_node.specs.Window.{Site, reach}
+use Rattle.typst_node.specs.Window.{Site, width}
 use Rattle.typst_node.specs.Room.{HasRoom, new_count}
 
 -- the window with at most w neighbours on each side holds all children
@@ -10,9 +10,9 @@ HoldsAll s w = (length s.before ≤ w) × (length s.behind ≤ w)
 
 -- window k is the first window with room, among the windows up to the first that holds all children
 pub record IsFirst (s : Site) (k : ℕ) : Type 0 where
-  pub room : HasRoom s (reach k)
-  pub least : (j : ℕ) → j < k → ¬ (HasRoom s (reach j))
-  pub among : (j : ℕ) → j < k → ¬ (HoldsAll s (reach j))
+  pub room : HasRoom s (width k)
+  pub least : (j : ℕ) → j < k → ¬ (HasRoom s (width j))
+  pub among : (j : ℕ) → j < k → ¬ (HoldsAll s (width j))
 
 -- there is no first window
 abbrev pub HasNoFirst : Site → Type 0

@@ -6,7 +6,7 @@ use Rattle.typst_node.specs.Tree.{Tree, forest}
 use Rattle.typst_node.specs.Preorder.{preorder}
 use Rattle.typst_node.specs.Labels.{number}
 use Rattle.typst_node.specs.Count.{count_of_all}
-use Rattle.typst_node.specs.Window.{Site, reach, window_start, window_end, trees_before, trees_in, trees_behind}
+use Rattle.typst_node.specs.Window.{Site, width, window_start, window_end, trees_before, trees_in, trees_behind}
 use Rattle.typst_node.specs.WindowNumbers.{open_start, open_count}
 use Rattle.typst_node.specs.FirstWindow.{IsFirst}
 use Rattle.typst_node.specs.declared.node.replace.Renumbered.{Renumbered}
@@ -31,7 +31,7 @@ pub record IsRenumbering (s : Site) (r : Renumbered) (new : List Tree) : Type 0 
   pub k : ℕ
   pub tried : r.tried ≡ suc k
   pub first : IsFirst s k
-  pub window : IsRenumberedIn s (reach k) r.window new
+  pub window : IsRenumberedIn s (width k) r.window new
 
 -- the answer on a leaf or an error, which stays as it is
 abbrev pub no_window : Renumbered

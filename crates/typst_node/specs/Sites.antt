@@ -1,17 +1,17 @@
--- What the program records of a row of children, of the numbers for a window and of the first window.
+-- What the program records of a site, of the numbers for a window and of the first window.
 use Rattle.std.specs.Prelude.{ℕ, ◌≡◌, ◌-◌, ◌*◌, ◌≤◌}
 use Rattle.typst_node.specs.Count.{count_of_all}
-use Rattle.typst_node.specs.Window.{Site, reach, trees_in}
+use Rattle.typst_node.specs.Window.{Site, width, trees_in}
 use Rattle.typst_node.specs.WindowNumbers.{open_start, open_count}
 use Rattle.typst_node.specs.Room.{HasRoom}
 use Rattle.typst_node.specs.FirstWindow.{IsFirst}
-use Rattle.typst_node.specs.declared.node.window.Row.{Row}
+use Rattle.typst_node.specs.declared.node.window.Site.{Site as SiteRecord}
 use Rattle.typst_node.specs.declared.node.window.Numbering.{Numbering}
 use Rattle.typst_node.specs.declared.node.window.Found.{Found}
 
--- the site that a row of children describes
-abbrev pub site : Row → Site
-site e = record { before = e.before.now; changed = e.changed.now; behind = e.behind.now; first = e.first; end = e.end }
+-- the site that the program records
+abbrev pub recorded : SiteRecord → Site
+recorded e = record { before = e.before.now; changed = e.changed.now; behind = e.behind.now; first = e.first; end = e.end }
 
 -- the window with at most w neighbours on each side has room, and these numbers for it fit; if the open numbers are at
 -- least twice its nodes, the numbers for it are in the first half of the open numbers
@@ -26,5 +26,5 @@ pub record AreNumbersFor (s : Site) (w : ℕ) (n : Numbering) : Type 0 where
 pub record IsFound (s : Site) (f : Found) : Type 0 where
   pub first : IsFirst s (f.tried - 1)
   pub tried : 1 ≤ f.tried
-  pub width : f.width ≡ reach (f.tried - 1)
+  pub width : f.width ≡ width (f.tried - 1)
   pub numbering : AreNumbersFor s f.width f.numbering

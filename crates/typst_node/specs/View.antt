@@ -1,13 +1,11 @@
 -- The tree that a node represents, and what is kept in the node.
 use Rattle.std.specs.Prelude.{◌≡◌, ◌≢◌, ◌≤◌, ℕ, suc, List, [], length, map, take, reverse, string_bytes, IsUtf8}
-use Rattle.std.specs.List.{list_any}
 use Rattle.typst_base.specs.declared.kind.SyntaxKind.TheVariants as kinds
 use Rattle.typst_node.specs.Tree.{HintText, WarningText, Content, AsLeaf, AsError, AsInner, Tree, forest}
-use Rattle.typst_node.specs.Preorder.{preorder}
 use Rattle.typst_node.specs.Text.{text_of_all}
 use Rattle.typst_node.specs.Count.{count_of_all}
 use Rattle.typst_node.specs.ChildEnds.{AreEnds}
-use Rattle.typst_node.specs.Diagnosis.{is_error, is_warned}
+use Rattle.typst_node.specs.Diagnosis.{any_has_error, any_has_warning}
 use Rattle.typst_node.specs.declared.node.Hint.{Hint}
 use Rattle.typst_node.specs.declared.node.Warning.{Warning}
 use Rattle.typst_node.specs.declared.node.InnerNode.{InnerNode}
@@ -61,8 +59,8 @@ tree_of a = record {
 -- what the box of an inner node keeps is what its children measure
 pub record IsMeasured (inner : InnerNode) : Type 0 where
   pub descendants : inner.descendants ≡ suc (count_of_all inner.children.items)
-  pub errors : inner.extras.diagnosis.errors ≡ list_any is_error (preorder (forest inner.children.items))
-  pub warnings : inner.extras.diagnosis.warnings ≡ list_any is_warned (preorder (forest inner.children.items))
+  pub errors : inner.extras.diagnosis.errors ≡ any_has_error inner.children.items
+  pub warnings : inner.extras.diagnosis.warnings ≡ any_has_warning inner.children.items
   pub ends : AreEnds inner.extras.ends inner.children.items
 
 -- the first `len` bytes are a text that a leaf itself can hold

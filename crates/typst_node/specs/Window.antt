@@ -33,10 +33,10 @@ site_among first end from to others ts =
 abbrev pub site_of : ℕ → ℕ → List Tree → Tree → Site
 site_of from to others t = site_among (number t.label + 1) (bound t.label) from to others (trees t.children)
 
--- the largest number of neighbours on each side that window k takes in: 0, 1, 2, 4, 8 and so on
-abbrev pub reach : ℕ → ℕ
-reach zero = 0
-reach (suc k) = 2 ^ k
+-- the width of window k, which is the largest number of neighbours that it takes in on each side: 0, 1, 2, 4, 8 and so on
+abbrev pub width : ℕ → ℕ
+width zero = 0
+width (suc k) = 2 ^ k
 
 -- the start of the window with at most w neighbours on each side, in the new child list
 abbrev pub window_start : Site → ℕ → ℕ

@@ -40,7 +40,7 @@ pub mod replace_at;
 mod settle;
 pub mod spanless;
 pub mod synthesize;
-mod trim;
+pub mod trim;
 pub mod update;
 pub mod warn;
 mod window;

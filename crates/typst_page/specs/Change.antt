@@ -2,7 +2,7 @@
 use Rattle.std.specs.Prelude.{ℕ, ◌≡◌, ◌+◌, ◌-◌, ◌^◌, ◌<◌, ◌≤◌, List, length, min, slice_range}
 use Rattle.typst_node.specs.Tree.{Tree}
 use Rattle.typst_node.specs.ChangedChildren.{kept_first, kept_last}
-use Rattle.typst_node.specs.Window.{reach}
+use Rattle.typst_node.specs.Window.{width}
 use Rattle.typst_linked.specs.Part.{begin_at}
 use Rattle.typst_page.specs.declared.windows.Change.{Change}
 
@@ -46,11 +46,11 @@ pub record IsChange (olds news : List Tree) (start end : ℕ) (change : Change) 
 
 -- where the window of a turn begins: 0, 1, 2, 4, .. children before the change, or at the first child
 abbrev pub window_start : Change → ℕ → ℕ
-window_start change turn = change.before - reach turn
+window_start change turn = change.before - width turn
 
 -- where it ends: 0, 1, 2, 4, .. children after the change, or after the last child; no number is above the largest usize
 abbrev pub window_end : Change → ℕ → ℕ
-window_end change turn = min (change.before + change.changed + min (reach turn) change.behind) (2 ^ 64 - 1)
+window_end change turn = min (change.before + change.changed + min (width turn) change.behind) (2 ^ 64 - 1)
 
 -- the window of the last turn, if there was any, is from one child up to another
 pub record IsLastWindow (change : Change) (tried start end : ℕ) : Type 0 where

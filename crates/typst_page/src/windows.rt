@@ -1,12 +1,11 @@
 //! The windows that were tried when the nodes of an edit were numbered.
 ghost use Rattle.std.specs.Prelude.{◌≡◌, ◌-◌, ◌^◌, ◌≤◌, ◌↔◌, IfSome, IsSome, length, min, slice_range};
-ghost use Rattle.typst_node.specs.ChangedChildren.{common_first, common_last};
 ghost use Rattle.typst_node.specs.Tree.{trees};
-ghost use Rattle.typst_node.specs.Window.{reach};
+ghost use Rattle.typst_node.specs.Window.{width};
 ghost use Rattle.typst_page.specs.Change.{BeginBefore, EndBy, IsChange, IsLastWindow, window_end, window_start};
 
 use std::ops::Range;
-use typst_node::{Renumbered, SyntaxNode};
+use typst_node::{Renumbered, SyntaxNode, count_common_first, count_common_last};
 
 /// Where the list of a node's children changed: how many are before the change, how many are new, and how many are
 /// after it.
@@ -35,10 +34,10 @@ impl Change {
             old_children.len().saturating_sub(behind),
         );
         let new_parsed = part(new_children, from, to);
-        let first = alike_first(old_parsed, new_parsed);
+        let first = count_common_first(old_parsed, new_parsed);
         let old_rest = &old_parsed[first..];
         let new_rest = &new_parsed[first..];
-        let last = alike_last(old_rest, new_rest);
+        let last = count_common_last(old_rest, new_rest);
         Change {
             before: from + first,
             changed: new_rest.len() - last,
@@ -51,9 +50,9 @@ impl Change {
         ensures start { result.start ≡ window_start self.now turn }
         ensures end { result.end ≡ window_end self.now turn }
     {
-        let reach = reach_at(turn);
+        let width = width_at(turn);
         let end = self.before.saturating_add(self.changed);
-        self.before.saturating_sub(reach)..end.saturating_add(reach.min(self.behind))
+        self.before.saturating_sub(width)..end.saturating_add(width.min(self.behind))
     }
 
     /// The turns of all windows that were tried. The last of them had room. None if the last isn't the window that the
@@ -74,8 +73,8 @@ impl Change {
 }
 
 /// 0 at the first turn, then 1, 2, 4, .., or the largest number that there is.
-fn reach_at(turn: usize) -> usize
-    ensures { result ≡ min (reach turn) (2 ^ 64 - 1) }
+fn width_at(turn: usize) -> usize
+    ensures { result ≡ min (width turn) (2 ^ 64 - 1) }
 {
     match turn.checked_sub(1) {
         None => 0,
@@ -123,34 +122,4 @@ fn beginning_before(node: &SyntaxNode, byte: usize) -> usize
             .min(ending_by(node, last).saturating_add(1)),
         None => 0,
     }
-}
-
-/// How many trees at the beginning are the same in both lists apart from their numbers.
-fn alike_first(nodes: &[SyntaxNode], others: &[SyntaxNode]) -> usize
-    ensures is { result ≡ common_first nodes.now others.now }
-    ensures within { result ≤ length nodes.now }
-    ensures within_others { result ≤ length others.now }
-{
-    let most = nodes.len().min(others.len());
-    for i in 0..most {
-        if !nodes[i].spanless_eq(&others[i]) {
-            return i;
-        }
-    }
-    most
-}
-
-/// How many trees at the end are the same in both lists apart from their numbers.
-fn alike_last(nodes: &[SyntaxNode], others: &[SyntaxNode]) -> usize
-    ensures is { result ≡ common_last nodes.now others.now }
-    ensures within { result ≤ length nodes.now }
-    ensures within_others { result ≤ length others.now }
-{
-    let most = nodes.len().min(others.len());
-    for i in 0..most {
-        if !nodes[nodes.len() - 1 - i].spanless_eq(&others[others.len() - 1 - i]) {
-            return i;
-        }
-    }
-    most
 }

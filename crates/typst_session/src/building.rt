@@ -50,6 +50,17 @@ pub(crate) fn copies(alloc: Global, nodes: &[SyntaxNode]) -> Result<Vec<SyntaxNo
     Ok(copies)
 }
 
+/// Nodes that hold the places of others in a list.
+fn placeholders(alloc: Global, count: usize) -> Result<Vec<SyntaxNode>, AllocError>
+    ensures { IfOk result (λ nodes. length nodes.items ≡ count) }
+{
+    let mut nodes = Vec::with_capacity(alloc, count)?;
+    for _ in 0..count {
+        nodes.push(SyntaxNode::default())?;
+    }
+    Ok(nodes)
+}
+
 /// # The stack
 ///
 /// A call that takes memory can be refused memory. After a refusal the session is as it was.
@@ -105,8 +116,8 @@ impl Session {
 
     /// Replaces the last nodes by a detached inner node. They become its children.
     ///
-    /// It takes time and memory in proportion to the nodes of their trees, since copies of them become the children.
-    /// After a refusal the nodes themselves are still on the stack.
+    /// It takes time in proportion to the number of these nodes, and copies none of them. After a refusal they are still
+    /// on the stack.
     pub fn wrap(&mut self, alloc: Global, kind: u32, count: usize) -> Result<(), Refusal>
         ensures { Wraps kind count self.old result self.new }
     {
@@ -114,11 +125,18 @@ impl Session {
         let Some(start) = self.stack.len().checked_sub(count) else {
             return Err(Refusal::Stack);
         };
-        let children = copies(alloc, &self.stack[start..])?;
-        match SyntaxNode::inner(alloc, kind, children) {
+        let mut children = placeholders(alloc, count)?;
+        self.stack[start..].swap_with_slice(&mut children);
+        let answer = SyntaxNode::wrap(alloc, kind, &mut children);
+        match answer {
             Ok(node) => self.put(start, node),
-            Err(InnerError::Overflow) => Err(Refusal::Overflow),
-            Err(InnerError::Memory) => Err(Refusal::Memory),
+            Err(why) => {
+                self.stack[start..].swap_with_slice(&mut children);
+                Err(match why {
+                    InnerError::Overflow => Refusal::Overflow,
+                    InnerError::Memory => Refusal::Memory,
+                })
+            }
         }
     }
 

@@ -1,5 +1,5 @@
 //! Making nodes.
-ghost use Rattle.std.specs.Prelude.{◌≡◌, ◌≢◌, ◌≤◌, ◌↔◌, [], length, IfOk, IsErrOf, IsOk};
+ghost use Rattle.std.specs.Prelude.{◌≡◌, ◌≢◌, ◌≤◌, ◌↔◌, [], length, IfOk, IsErrOf, IsOk, OnErr, OnOk};
 ghost use Rattle.typst_base.specs.declared.kind.SyntaxKind.TheVariants.{End, Error};
 ghost use Rattle.typst_node.specs.Tree.{leaf_tree, inner_tree};
 ghost use Rattle.typst_node.specs.Count.{SumsFit};
@@ -9,6 +9,7 @@ use crate::node::inner::measured;
 use crate::node::{InnerNode, Node, SyntaxNode};
 use crate::short_text::{LONGEST, bytes_of};
 use std::alloc::{AllocError, AllocFailed, Global};
+use std::mem;
 use thiserror::Error;
 use typst_base::{Span, SyntaxKind};
 
@@ -74,8 +75,9 @@ impl SyntaxNode {
 
     /// A detached inner node over these children, with bound 0. The test of the condition is `SyntaxKind::is_error`.
     ///
-    /// It takes time in proportion to the number of children. After an error the children are dropped. `Overflow` comes
-    /// before `Memory`.
+    /// It takes time in proportion to the number of children. After an error the children are dropped:
+    /// [`SyntaxNode::wrap`] keeps them. `Overflow` comes before `Memory`.
+    #[inline(always)]
     pub fn inner(
         alloc: Global,
         kind: SyntaxKind,
@@ -85,17 +87,43 @@ impl SyntaxNode {
         ensures ok { IfOk result (λ t. t ≡ inner_tree kind children.items) }
         ensures overflow { IsErrOf result Overflow ↔ ¬ (SumsFit children.items) }
     {
-        let (sums, extras) = measured(alloc, &children)?;
+        let mut children = children;
+        SyntaxNode::wrap(alloc, kind, &mut children)
+    }
+
+    /// A detached inner node over the children in a list, with bound 0. It takes them out of the list, which is empty
+    /// then. After an error the list is as it was. The test of the condition is `SyntaxKind::is_error`.
+    ///
+    /// It takes time in proportion to the number of children, and copies none of them. `Overflow` comes before `Memory`.
+    pub fn wrap(
+        alloc: Global,
+        kind: SyntaxKind,
+        children: &mut Vec<SyntaxNode>,
+    ) -> Result<SyntaxNode, InnerError>
+        requires not_error_ask_is_error { kind ≢ Error }
+        ensures ok { IfOk result (λ t. t ≡ inner_tree kind children.old.items) }
+        ensures overflow { IsErrOf result Overflow ↔ ¬ (SumsFit children.old.items) }
+        ensures taken { OnOk result (children.new.items ≡ []) }
+        ensures kept { OnErr result (children.new.items ≡ children.old.items) }
+    {
+        let (sums, extras) = measured(alloc, children)?;
+        let none = Vec::new(*children.allocator());
         let inner = InnerNode {
             descendants: sums.descendants + 1,
             upper: 0,
-            children,
+            children: mem::replace(children, none),
             extras,
         };
-        Ok(SyntaxNode {
-            node: Node::Inner(kind, sums.len, Box::new(alloc, inner)?),
-            span: Span::detached(),
-        })
+        match Box::new(alloc, inner) {
+            Ok(inner) => Ok(SyntaxNode {
+                node: Node::Inner(kind, sums.len, inner),
+                span: Span::detached(),
+            }),
+            Err(refused) => {
+                *children = refused.value.children;
+                Err(InnerError::Memory)
+            }
+        }
     }
 }
 

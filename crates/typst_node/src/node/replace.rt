@@ -27,7 +27,7 @@ use crate::node::inner::sums_of;
 use crate::node::moves::Noted;
 use crate::node::settle::Change;
 use crate::node::trim::{count_common_first, count_common_last, trim};
-use crate::node::window::{Found, Row, find, open_before, open_behind};
+use crate::node::window::{self, Found, find, open_before, open_behind};
 use crate::node::{InnerNode, Node, SyntaxNode};
 use std::alloc::{AllocError, Global};
 use std::ops::Range;
@@ -84,9 +84,9 @@ pub(super) struct Splice {
     pub(super) growth: Growth,
 }
 
-/// The source of the children's numbers: the node's file id, if it has one, and the node's own number.
+/// The number of the node whose children are replaced: its file id, if it has one, and its own number in the file.
 #[derive(Clone, Copy)]
-struct Owner {
+struct ParentNumber {
     id: Option<FileId>,
     number: u64,
 }
@@ -159,7 +159,7 @@ impl InnerNode {
     {
         let (before, _) = self.children.split_at(edit.from);
         let (_, behind) = self.children.split_at(edit.to);
-        let row = Row {
+        let site = window::Site {
             before,
             changed: &edit.others,
             behind,
@@ -168,7 +168,7 @@ impl InnerNode {
             added: change.added.descendants,
             total: self.descendants - change.gone.descendants + change.added.descendants,
         };
-        find(&row)
+        find(&site)
     }
 }
 
@@ -233,7 +233,7 @@ impl InnerNode {
     fn replace_changed(
         &mut self,
         len: &mut usize,
-        owner: Owner,
+        parent: ParentNumber,
         edit: Splice,
         noted: &mut Option<Noted>,
     ) -> Result<Renumbered, ReplaceError>
@@ -242,15 +242,15 @@ impl InnerNode {
         requires window { edit.from ≤ edit.to }
         requires inside { edit.to ≤ length self.old.children.items }
         requires growth { ChildrenCanGrow edit.growth self.old.children.items }
-        requires number { (2 ≤ owner.number + 1) × (owner.number < 2 ^ 48) }
-        requires upper { IfSome owner.id (λ file. self.old.upper ≤ 2 ^ 47) }
-        requires within { IfSome owner.id (λ file.
-            IsWithin file (owner.number + 1) self.old.upper (forest self.old.children.items)) }
-        ensures made { let site : Site = site_at (owner.number + 1) self.old.upper
+        requires number { (2 ≤ parent.number + 1) × (parent.number < 2 ^ 48) }
+        requires upper { IfSome parent.id (λ file. self.old.upper ≤ 2 ^ 47) }
+        requires within { IfSome parent.id (λ file.
+            IsWithin file (parent.number + 1) self.old.upper (forest self.old.children.items)) }
+        ensures made { let site : Site = site_at (parent.number + 1) self.old.upper
             edit.from edit.to edit.others.items self.old.children.items in
-            AreReplaced site edit.growth owner.id self.old self.new len.new result }
+            AreReplaced site edit.growth parent.id self.old self.new len.new result }
         ensures asked { IsSome noted.new ↔ IsSome noted.old }
-        ensures noted { let site : Site = site_at (owner.number + 1) self.old.upper
+        ensures noted { let site : Site = site_at (parent.number + 1) self.old.upper
             edit.from edit.to edit.others.items self.old.children.items in
             IfOk result (λ r. IfSome noted.new (AreNoted site r.window)) }
         ensures memory { IsNone noted.old → length edit.others.items ≤ edit.to - edit.from
@@ -259,15 +259,15 @@ impl InnerNode {
         let Some(change) = self.change(&edit) else {
             return Err(ReplaceError::Overflow);
         };
-        let Some(id) = owner.id else {
+        let Some(id) = parent.id else {
             return Err(ReplaceError::Unnumberable);
         };
-        let Some(found) = self.window(owner.number, &edit, &change) else {
+        let Some(found) = self.window(parent.number, &edit, &change) else {
             return Err(ReplaceError::Unnumberable);
         };
         let start = edit.from.saturating_sub(found.width);
         let end = edit.from + edit.others.len() + found.width.min(self.children.len() - edit.to);
-        self.note(&edit, owner.number + 1, start..end, noted)?;
+        self.note(&edit, parent.number + 1, start..end, noted)?;
         self.put(edit, &change)?;
         *len = *len - change.gone.len + change.added.len;
         self.renumber(id, start..end, found.numbering);
@@ -290,7 +290,7 @@ impl InnerNode {
     fn replace(
         &mut self,
         len: &mut usize,
-        owner: Owner,
+        parent: ParentNumber,
         edit: Splice,
         noted: &mut Option<Noted>,
     ) -> Result<Renumbered, ReplaceError>
@@ -299,15 +299,15 @@ impl InnerNode {
         requires window { edit.from ≤ edit.to }
         requires inside { edit.to ≤ length self.old.children.items }
         requires growth { ChildrenCanGrow edit.growth self.old.children.items }
-        requires number { (2 ≤ owner.number + 1) × (owner.number < 2 ^ 48) }
-        requires upper { IfSome owner.id (λ file. self.old.upper ≤ 2 ^ 47) }
-        requires within { IfSome owner.id (λ file.
-            IsWithin file (owner.number + 1) self.old.upper (forest self.old.children.items)) }
-        ensures made { let site : Site = site_among (owner.number + 1) self.old.upper
+        requires number { (2 ≤ parent.number + 1) × (parent.number < 2 ^ 48) }
+        requires upper { IfSome parent.id (λ file. self.old.upper ≤ 2 ^ 47) }
+        requires within { IfSome parent.id (λ file.
+            IsWithin file (parent.number + 1) self.old.upper (forest self.old.children.items)) }
+        ensures made { let site : Site = site_among (parent.number + 1) self.old.upper
             edit.from edit.to edit.others.items self.old.children.items in
-            AreReplaced site edit.growth owner.id self.old self.new len.new result }
+            AreReplaced site edit.growth parent.id self.old self.new len.new result }
         ensures asked { IsSome noted.new ↔ IsSome noted.old }
-        ensures noted { let site : Site = site_among (owner.number + 1) self.old.upper
+        ensures noted { let site : Site = site_among (parent.number + 1) self.old.upper
             edit.from edit.to edit.others.items self.old.children.items in
             IfOk result (λ r. IfSome noted.new (AreNoted site r.window)) }
         ensures memory { IsNone noted.old → length edit.others.items ≤ edit.to - edit.from
@@ -329,7 +329,7 @@ impl InnerNode {
             others,
             growth,
         };
-        self.replace_changed(len, owner, rest, noted)
+        self.replace_changed(len, parent, rest, noted)
     }
 }
 
@@ -369,7 +369,7 @@ impl SyntaxNode {
                 if !inner.holds(&edit) {
                     return None;
                 }
-                return Some(inner.replace(len, Owner { id, number }, edit, noted));
+                return Some(inner.replace(len, ParentNumber { id, number }, edit, noted));
             }
             Node::Short(..) | Node::Long(..) | Node::Leaf(..) | Node::Error(_) => None,
         }

@@ -1,11 +1,8 @@
 //! The correction of what an inner node keeps about its children, after some of them were exchanged.
 ghost use Rattle.std.specs.Prelude.{◌≡◌, ◌+◌, ◌<◌, ◌≤◌, ◌||◌, ◌++◌, ◌↔◌, true, length, take, drop, slice_range, IsTrue};
-ghost use Rattle.std.specs.List.{list_any};
-ghost use Rattle.typst_node.specs.Tree.{forest};
-ghost use Rattle.typst_node.specs.Preorder.{preorder};
 ghost use Rattle.typst_node.specs.Text.{text_of_all};
 ghost use Rattle.typst_node.specs.Count.{SumsFit};
-ghost use Rattle.typst_node.specs.Diagnosis.{is_error, is_warned};
+ghost use Rattle.typst_node.specs.Diagnosis.{any_has_error, any_has_warning};
 ghost use Rattle.typst_node.specs.View.{IsMeasured};
 ghost use Rattle.typst_node.specs.Sums.{AreSums};
 ghost use Rattle.typst_node.specs.Stale.{IsStale};
@@ -27,8 +24,8 @@ pub(super) struct Change {
 
 /// The joined diagnosis of the nodes.
 fn diagnosis_of(nodes: &[SyntaxNode]) -> Diagnosis
-    ensures errors { result.errors ≡ list_any is_error (preorder (forest nodes.now)) }
-    ensures warnings { result.warnings ≡ list_any is_warned (preorder (forest nodes.now)) }
+    ensures errors { result.errors ≡ any_has_error nodes.now }
+    ensures warnings { result.warnings ≡ any_has_warning nodes.now }
 {
     let mut diagnosis = Diagnosis {
         errors: false,
@@ -52,14 +49,14 @@ fn is_covered(gone: Diagnosis, added: Diagnosis) -> bool
 /// an entry may have gone.
 #[tactic(auto, using(crate::proofs::Settled::had_or_added_all))]
 fn diagnosis_after(children: &[SyntaxNode], had: Diagnosis, change: &Change) -> Diagnosis
-    requires errors { had.errors ≡ (change.now.gone.diagnosis.errors || list_any is_error (preorder (forest
-        (take change.now.from children.now ++ drop (change.now.from + change.now.many) children.now)))) }
-    requires warnings { had.warnings ≡ (change.now.gone.diagnosis.warnings || list_any is_warned (preorder (forest
-        (take change.now.from children.now ++ drop (change.now.from + change.now.many) children.now)))) }
+    requires errors { had.errors ≡ (change.now.gone.diagnosis.errors || any_has_error
+        (take change.now.from children.now ++ drop (change.now.from + change.now.many) children.now)) }
+    requires warnings { had.warnings ≡ (change.now.gone.diagnosis.warnings || any_has_warning
+        (take change.now.from children.now ++ drop (change.now.from + change.now.many) children.now)) }
     requires added { AreSums change.now.added (slice_range children.now change.now.from
         (change.now.from + change.now.many)) }
-    ensures errors { result.errors ≡ list_any is_error (preorder (forest children.now)) }
-    ensures warnings { result.warnings ≡ list_any is_warned (preorder (forest children.now)) }
+    ensures errors { result.errors ≡ any_has_error children.now }
+    ensures warnings { result.warnings ≡ any_has_warning children.now }
 {
     if is_covered(change.gone.diagnosis, change.added.diagnosis) {
         had.or(change.added.diagnosis)

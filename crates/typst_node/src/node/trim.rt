@@ -4,9 +4,11 @@ ghost use Rattle.typst_node.specs.ChangedChildren.{IsCommonBeginning, common_fir
 
 use crate::node::SyntaxNode;
 
-/// The number of nodes that both lists have alike at the beginning.
+/// The number of nodes that both lists have alike at the beginning, by [`SyntaxNode::spanless_eq`].
+///
+/// It takes no memory. It compares one pair of nodes after the other, up to the first pair that differs.
 #[inline(always)]
-pub(super) fn count_common_first(nodes: &[SyntaxNode], others: &[SyntaxNode]) -> usize
+pub fn count_common_first(nodes: &[SyntaxNode], others: &[SyntaxNode]) -> usize
     ensures is { result ≡ common_first nodes.now others.now }
     ensures longest { IsCommonBeginning nodes.now others.now result }
     ensures within { result ≤ length nodes.now }
@@ -21,9 +23,11 @@ pub(super) fn count_common_first(nodes: &[SyntaxNode], others: &[SyntaxNode]) ->
     most
 }
 
-/// The number of nodes that both lists have alike at the end.
+/// The number of nodes that both lists have alike at the end, by [`SyntaxNode::spanless_eq`].
+///
+/// It takes no memory. It compares one pair of nodes after the other, up to the first pair that differs.
 #[inline(always)]
-pub(super) fn count_common_last(nodes: &[SyntaxNode], others: &[SyntaxNode]) -> usize
+pub fn count_common_last(nodes: &[SyntaxNode], others: &[SyntaxNode]) -> usize
     ensures is { result ≡ common_last nodes.now others.now }
     ensures longest { IsCommonBeginning (reverse nodes.now) (reverse others.now) result }
     ensures within { result ≤ length nodes.now }

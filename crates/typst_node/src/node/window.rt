@@ -5,13 +5,14 @@ ghost use Rattle.typst_node.specs.OpenNumbers.{open_from, open_to};
 ghost use Rattle.typst_node.specs.Room.{HasRoom, Suffice, new_count};
 ghost use Rattle.typst_node.specs.FirstWindow.{HoldsAll, HasNoFirst};
 ghost use Rattle.typst_node.specs.Window.{trees_in};
-ghost use Rattle.typst_node.specs.Sites.{site, AreNumbersFor, IsFound};
+ghost use Rattle.typst_node.specs.Sites.{recorded, AreNumbersFor, IsFound};
 
 use crate::node::SyntaxNode;
 
-/// The nodes that may be numbered anew, which are the changed children and their neighbours, and the numbers for them.
+/// A site: the nodes that may be numbered anew, which are the changed children and their neighbours, and the numbers
+/// for them.
 #[derive(Drop)]
-pub(super) struct Row<'a> {
+pub(super) struct Site<'a> {
     pub(super) before: &'a [SyntaxNode],
     pub(super) changed: &'a [SyntaxNode],
     pub(super) behind: &'a [SyntaxNode],
@@ -92,26 +93,26 @@ fn window_stride(space: u64, nodes: u64, total: u64) -> Option<u64>
 
 /// The numbers for the window of `nodes` nodes that has at most `width` neighbours on each side, if it has room. It
 /// reads only the two nodes beside the window.
-fn room(row: &Row<'_>, width: usize, nodes: usize) -> Option<Numbering>
-    requires nodes { nodes ≡ count_of_all (trees_in (site row.now) width) }
-    requires total { row.now.total ≡ new_count (site row.now) }
-    ensures { MatchOption result (¬ (HasRoom (site row.now) width)) (AreNumbersFor (site row.now) width) }
+fn room(site: &Site<'_>, width: usize, nodes: usize) -> Option<Numbering>
+    requires nodes { nodes ≡ count_of_all (trees_in (recorded site.now) width) }
+    requires total { site.now.total ≡ new_count (recorded site.now) }
+    ensures { MatchOption result (¬ (HasRoom (recorded site.now) width)) (AreNumbersFor (recorded site.now) width) }
 {
-    let (ahead, _) = row.before.split_at(row.before.len().saturating_sub(width));
-    let (_, rest) = row.behind.split_at(width.min(row.behind.len()));
-    let start = open_behind(ahead, row.first);
-    let end = open_before(rest, row.end);
-    match window_stride(end.saturating_sub(start), nodes as u64, row.total as u64) {
+    let (ahead, _) = site.before.split_at(site.before.len().saturating_sub(width));
+    let (_, rest) = site.behind.split_at(width.min(site.behind.len()));
+    let start = open_behind(ahead, site.first);
+    let end = open_before(rest, site.end);
+    match window_stride(end.saturating_sub(start), nodes as u64, site.total as u64) {
         Some(stride) => Some(Numbering { start, stride }),
         None => None,
     }
 }
 
 /// Whether the window with at most `width` neighbours on each side holds all children.
-fn holds_all(row: &Row<'_>, width: usize) -> bool
-    ensures { IsTrue result ↔ HoldsAll (site row.now) width }
+fn holds_all(site: &Site<'_>, width: usize) -> bool
+    ensures { IsTrue result ↔ HoldsAll (recorded site.now) width }
 {
-    row.before.len() <= width && row.behind.len() <= width
+    site.before.len() <= width && site.behind.len() <= width
 }
 
 /// The next width: 0, 1, 2, 4, 8 and so on.
@@ -126,44 +127,44 @@ fn wider(width: usize) -> usize
 
 /// The number of nodes that the window gains when it grows from `width` to `next` neighbours on each side at most. It
 /// reads only those neighbours.
-fn count_gained(row: &Row<'_>, width: usize, next: usize) -> usize
+fn count_gained(site: &Site<'_>, width: usize, next: usize) -> usize
     requires wider { width ≤ next }
-    requires fits { new_count (site row.now) < 2 ^ 64 }
-    ensures { count_of_all (trees_in (site row.now) width) + result ≡ count_of_all (trees_in (site row.now) next) }
+    requires fits { new_count (recorded site.now) < 2 ^ 64 }
+    ensures { count_of_all (trees_in (recorded site.now) width) + result ≡ count_of_all (trees_in (recorded site.now) next) }
 {
-    let len = row.before.len();
-    let ahead = &row.before[len.saturating_sub(next)..len.saturating_sub(width)];
-    let most = row.behind.len();
-    let behind = &row.behind[width.min(most)..next.min(most)];
+    let len = site.before.len();
+    let ahead = &site.before[len.saturating_sub(next)..len.saturating_sub(width)];
+    let most = site.behind.len();
+    let behind = &site.behind[width.min(most)..next.min(most)];
     count_all(ahead) + count_all(behind)
 }
 
 /// The first window with room, among the windows up to the first that holds all children.
 ///
 /// It counts each neighbour once, up to the widest window that is tried. It reads no other child.
-pub(super) fn find(row: &Row<'_>) -> Option<Found>
-    requires added { row.now.added ≡ count_of_all row.now.changed.now }
-    requires total { row.now.total ≡ new_count (site row.now) }
-    ensures { MatchOption result (HasNoFirst (site row.now)) (IsFound (site row.now)) }
+pub(super) fn find(site: &Site<'_>) -> Option<Found>
+    requires added { site.now.added ≡ count_of_all site.now.changed.now }
+    requires total { site.now.total ≡ new_count (recorded site.now) }
+    ensures { MatchOption result (HasNoFirst (recorded site.now)) (IsFound (recorded site.now)) }
 {
     // Read for the proof: the count of all nodes after the edit is a usize, so the count of a window is one, too.
-    let _total = row.total;
+    let _total = site.total;
     let mut width = 0;
     let mut tried = 1;
-    let mut nodes = row.added;
+    let mut nodes = site.added;
     loop {
-        if let Some(numbering) = room(row, width, nodes) {
+        if let Some(numbering) = room(site, width, nodes) {
             return Some(Found {
                 tried,
                 width,
                 numbering,
             });
         }
-        if holds_all(row, width) {
+        if holds_all(site, width) {
             return None;
         }
         let next = wider(width);
-        nodes += count_gained(row, width, next);
+        nodes += count_gained(site, width, next);
         width = next;
         tried += 1;
     }

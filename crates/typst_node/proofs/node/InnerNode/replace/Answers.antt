@@ -16,9 +16,9 @@ returns-clause-made c =
     let left : c.split_at.result.1.now ≡ drop (kept_first a b ys xs) ys = c.split_at.ensures.back ∙ (λ i. drop (p i) (c.deref-3.ensures.value i)) in
     let e : c.count_common_last-last.result ≡ kept_last a b ys xs = c.count_common_last-last.ensures.is ∙ (λ i. common_last (slice_range (c.deref-4.ensures.value i) (a + p i) b) (left i)) in
     let q : c.trim.new.nodes.items ≡ slice_range ys (kept_first a b ys xs) (length ys - kept_last a b ys xs) = c.trim.ensures ∙ (λ i. slice_range ys (p i) (length ys - e i)) in
-    let at : site_at (c.args.owner.number + 1) c.args.self.now.upper (a + c.count_common_first-first.result) (b - c.count_common_last-last.result) c.trim.new.nodes.items xs ≡ site_among (c.args.owner.number + 1) c.args.self.now.upper a b ys xs =
-    λ i. site_at (c.args.owner.number + 1) c.args.self.now.upper (a + p i) (b - e i) (q i) xs in
-    subst (λ (s : Site). AreReplaced s c.args.edit.growth c.args.owner.id c.args.self.now c.replace_changed.new.self c.replace_changed.new.len c.replace_changed.result) at c.replace_changed.ensures.made
+    let at : site_at (c.args.parent.number + 1) c.args.self.now.upper (a + c.count_common_first-first.result) (b - c.count_common_last-last.result) c.trim.new.nodes.items xs ≡ site_among (c.args.parent.number + 1) c.args.self.now.upper a b ys xs =
+    λ i. site_at (c.args.parent.number + 1) c.args.self.now.upper (a + p i) (b - e i) (q i) xs in
+    subst (λ (s : Site). AreReplaced s c.args.edit.growth c.args.parent.id c.args.self.now c.replace_changed.new.self c.replace_changed.new.len c.replace_changed.result) at c.replace_changed.ensures.made
 
 pub returns-clause-noted : goal.returns-clause-noted
 returns-clause-noted c =
@@ -30,6 +30,6 @@ returns-clause-noted c =
     let left : c.split_at.result.1.now ≡ drop (kept_first a b ys xs) ys = c.split_at.ensures.back ∙ (λ i. drop (p i) (c.deref-3.ensures.value i)) in
     let e : c.count_common_last-last.result ≡ kept_last a b ys xs = c.count_common_last-last.ensures.is ∙ (λ i. common_last (slice_range (c.deref-4.ensures.value i) (a + p i) b) (left i)) in
     let q : c.trim.new.nodes.items ≡ slice_range ys (kept_first a b ys xs) (length ys - kept_last a b ys xs) = c.trim.ensures ∙ (λ i. slice_range ys (p i) (length ys - e i)) in
-    let at : site_at (c.args.owner.number + 1) c.args.self.now.upper (a + c.count_common_first-first.result) (b - c.count_common_last-last.result) c.trim.new.nodes.items xs ≡ site_among (c.args.owner.number + 1) c.args.self.now.upper a b ys xs =
-    λ i. site_at (c.args.owner.number + 1) c.args.self.now.upper (a + p i) (b - e i) (q i) xs in
+    let at : site_at (c.args.parent.number + 1) c.args.self.now.upper (a + c.count_common_first-first.result) (b - c.count_common_last-last.result) c.trim.new.nodes.items xs ≡ site_among (c.args.parent.number + 1) c.args.self.now.upper a b ys xs =
+    λ i. site_at (c.args.parent.number + 1) c.args.self.now.upper (a + p i) (b - e i) (q i) xs in
     subst (λ (s : Site). IfOk c.replace_changed.result (λ r. IfSome c.replace_changed.new.noted (AreNoted s r.window))) at c.replace_changed.ensures.noted

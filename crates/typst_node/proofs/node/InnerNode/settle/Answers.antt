@@ -1,8 +1,5 @@
 use Rattle.std.proofs.Common.{arith, ◌+◌, ap, subst, ◌∙◌}
-use Rattle.std.specs.List.{list_any}
-use Rattle.typst_node.specs.Tree.{forest}
-use Rattle.typst_node.specs.Preorder.{preorder}
-use Rattle.typst_node.specs.Diagnosis.{is_error, is_warned}
+use Rattle.typst_node.specs.Diagnosis.{any_has_error, any_has_warning}
 use Rattle.typst_node.specs.ChildEnds.{AreEnds}
 use Rattle.typst_node.proofs.Opens.{part_count}
 use Rattle.typst_node.proofs.node.InnerNode.settle.Goals as goal
@@ -14,7 +11,7 @@ returns-clause-measured c =
     let held = c.settle_ends.ensures.diagnosis ∙ c.set_diagnosis.ensures.diagnosis in
     record {
       descendants = omega (arith, counts, c.requires.stale.descendants, c.requires.added.descendants);
-      errors = ap (λ d. d.errors) held ∙ c.diagnosis_after-held.ensures.errors ∙ ap (λ ts. list_any is_error (preorder (forest ts))) c.deref.ensures.value;
-      warnings = ap (λ d. d.warnings) held ∙ c.diagnosis_after-held.ensures.warnings ∙ ap (λ ts. list_any is_warned (preorder (forest ts))) c.deref.ensures.value;
+      errors = ap (λ d. d.errors) held ∙ c.diagnosis_after-held.ensures.errors ∙ ap any_has_error c.deref.ensures.value;
+      warnings = ap (λ d. d.warnings) held ∙ c.diagnosis_after-held.ensures.warnings ∙ ap any_has_warning c.deref.ensures.value;
       ends = subst (AreEnds c.settle_ends.new.self.ends) c.deref-2.ensures.value c.settle_ends.ensures.ends;
     }

@@ -18,10 +18,10 @@ returns c =
     let old_is : c.part-old_parsed.result.now ≡ slice_range olds from old_to =
     c.part-old_parsed.ensures ∙ (ap (slice_range c.child_slice-old_children.result.now from) up_to ∙ ap (λ ts. slice_range ts from old_to) c.child_slice-old_children.ensures.children) in
     let new_is : c.part-new_parsed.result.now ≡ slice_range news from to = c.part-new_parsed.ensures ∙ ap (λ ts. slice_range ts from to) c.child_slice-new_children.ensures.children in
-    let first = first_kept olds news c.part-old_parsed.result.now c.part-new_parsed.result.now from to old_to c.alike_first-first.result old_is new_is c.alike_first-first.ensures.is in
-    let last = last_kept olds news c.part-old_parsed.result.now c.part-new_parsed.result.now from to old_to c.alike_first-first.result c.alike_last-last.result old_is new_is c.alike_first-first.ensures.is c.alike_first-first.ensures.within c.alike_last-last.ensures.is in
-    let rest : length (take (length c.part-new_parsed.result.now - c.alike_first-first.result) (drop c.alike_first-first.result c.part-new_parsed.result.now)) ≡ length (slice_range news from to) - c.alike_first-first.result =
-    omega (arith, ap length new_is, length-drop c.alike_first-first.result c.part-new_parsed.result.now, ap length (rest_of c.part-new_parsed.result.now c.alike_first-first.result)) in
+    let first = first_kept olds news c.part-old_parsed.result.now c.part-new_parsed.result.now from to old_to c.count_common_first-first.result old_is new_is c.count_common_first-first.ensures.is in
+    let last = last_kept olds news c.part-old_parsed.result.now c.part-new_parsed.result.now from to old_to c.count_common_first-first.result c.count_common_last-last.result old_is new_is c.count_common_first-first.ensures.is c.count_common_first-first.ensures.within c.count_common_last-last.ensures.is in
+    let rest : length (take (length c.part-new_parsed.result.now - c.count_common_first-first.result) (drop c.count_common_first-first.result c.part-new_parsed.result.now)) ≡ length (slice_range news from to) - c.count_common_first-first.result =
+    omega (arith, ap length new_is, length-drop c.count_common_first-first.result c.part-new_parsed.result.now, ap length (rest_of c.part-new_parsed.result.now c.count_common_first-first.result)) in
     record {
       from = from;
       to = to;
