@@ -24,7 +24,7 @@ pub use node::moves::Moves;
 pub use node::number::Unnumberable;
 pub use node::reconcile::{Reconciled, Touched};
 pub use node::replace::{Renumbered, ReplaceError};
-pub use node::trim::{count_common_first, count_common_last};
+pub use node::trim::{count_common_first, count_common_last, longest_ends_stay};
 pub use node::update::{Below, Updated};
 
 pub mod ast_node;

@@ -9,7 +9,6 @@ ghost use Rattle.typst_node.specs.Count.{SumsFit, count_of_all};
 ghost use Rattle.typst_node.specs.Interval.{IsWithin};
 ghost use Rattle.typst_node.specs.View.{IsMeasured};
 ghost use Rattle.typst_node.specs.PlainEdit.{FitsInner, RangeFits};
-ghost use Rattle.typst_node.specs.ChangedChildren.{StaysLongest};
 ghost use Rattle.typst_node.specs.Edit.{IsNumberedOrUnfiled, edit_of};
 ghost use Rattle.typst_node.specs.Accepted.{IsAccepted};
 ghost use Rattle.typst_node.specs.Refusals.{IsRefusedBy};
@@ -397,7 +396,6 @@ impl SyntaxNode {
     /// numbers are written, and 256 more each time that the number of children is 256 times as large. If the range held
     /// an error and the replacement holds none, the children are searched for other errors. The same is true of
     /// warnings. Lists grow by their own allocator.
-    #[tactic(auto, using(crate::proofs::Trimmed::stays_longest))]
     pub fn replace_children(
         &mut self,
         _alloc: Global,
@@ -411,7 +409,6 @@ impl SyntaxNode {
             → IsAccepted (edit_of [] range replacement.items) self.old r self.new) }
         ensures refused { IfErr result (λ why. IsRefusedBy why (edit_of [] range replacement.items) self.old) }
         ensures err { OnErr result (self.new ≡ self.old) }
-        ensures stays { StaysLongest range.start range.end replacement.items (trees self.old.children) }
         ensures label { self.new.label ≡ self.old.label }
     {
         let edit = Splice {

@@ -9,7 +9,6 @@ ghost use Rattle.typst_node.specs.Paths.{IsInnerAt, IsPath, StaysBeside, tree_at
 ghost use Rattle.typst_node.specs.PlainEdit.{edited_at, EditFits, FitsInner, TreeFits};
 ghost use Rattle.typst_node.specs.Renumbering.{no_window};
 ghost use Rattle.typst_node.specs.Growth.{ChildrenCanGrow};
-ghost use Rattle.typst_node.specs.ChangedChildren.{StaysLongest};
 ghost use Rattle.typst_node.specs.Edit.{Fits, IsNumberedOrUnfiled, edit_of};
 ghost use Rattle.typst_node.specs.Accepted.{IsAccepted};
 ghost use Rattle.typst_node.specs.Refusals.{IsRefusedBy, IsRefusedFollowing};
@@ -60,21 +59,13 @@ impl Errand {
         ensures noted { IsNoted self.old self.new node.old }
         ensures sparing { IsSparing self.old self.new }
     {
-        let empty = Vec::new(*self.edit.others.allocator());
-        let others = mem::replace(&mut self.edit.others, empty);
-        let Splice {
-            from,
-            to,
-            growth,
-            ..
-        } = self.edit;
-        let rest = Splice {
-            from,
-            to,
+        let none = Vec::new(*self.edit.others.allocator());
+        let others = mem::replace(&mut self.edit.others, none);
+        let edit = Splice {
             others,
-            growth,
+            ..self.edit
         };
-        self.answer = node.replace_range(rest, &mut self.noted);
+        self.answer = node.replace_range(edit, &mut self.noted);
     }
 }
 
@@ -192,7 +183,6 @@ impl SyntaxNode {
     /// The test of the condition is [`SyntaxNode::is_numbered`]. `Overflow` comes exactly if the length or the node
     /// count of the whole tree, whose root this node is, would pass a usize. After `None` and after an error nothing
     /// has changed, and the replacement is dropped. It takes as long as [`SyntaxNode::replace_at`].
-    #[tactic(auto, using(crate::proofs::Trimmed::stays_longest))]
     pub fn try_replace_at(
         &mut self,
         _alloc: Global,
@@ -208,7 +198,6 @@ impl SyntaxNode {
         ensures refused { IfSome result (λ answer. IfErr answer (λ why.
             IsRefusedBy why (edit_of path.now range replacement.items) self.old)) }
         ensures err { IfSome result (λ answer. OnErr answer (self.new ≡ self.old)) }
-        ensures stays { StaysLongest range.start range.end replacement.items (trees_at path.now self.old) }
     {
         let edit = Splice {
             from: range.start,
@@ -251,7 +240,6 @@ impl SyntaxNode {
             → IsAccepted (edit_of path.now range replacement.items) self.old r self.new) }
         ensures refused { IfErr result (λ why. IsRefusedBy why (edit_of path.now range replacement.items) self.old) }
         ensures err { OnErr result (self.new ≡ self.old) }
-        ensures stays { StaysLongest range.start range.end replacement.items (trees_at path.now self.old) }
     {
         match self.try_replace_at(alloc, path, range, replacement) {
             Some(answer) => answer,

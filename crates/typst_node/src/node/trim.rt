@@ -1,6 +1,7 @@
 //! The nodes that two lists have alike at the beginning and at the end.
-ghost use Rattle.std.specs.Prelude.{◌≡◌, ◌+◌, ◌-◌, ◌≤◌, length, reverse, slice_range};
-ghost use Rattle.typst_node.specs.ChangedChildren.{IsCommonBeginning, common_first, common_last};
+ghost use Rattle.std.specs.Prelude.{ℕ, ◌≡◌, ◌+◌, ◌-◌, ◌≤◌, List, length, reverse, slice_range};
+ghost use Rattle.typst_node.specs.ChangedChildren.{IsCommonBeginning, StaysLongest, common_first, common_last};
+ghost use Rattle.typst_node.specs.Tree.{Tree};
 
 use crate::node::SyntaxNode;
 
@@ -51,3 +52,10 @@ pub(super) fn trim(nodes: &mut Vec<SyntaxNode>, first: usize, last: usize)
     nodes.rotate_left(first);
     nodes.truncate(nodes.len() - first);
 }
+
+/// A law of all replacements of children: what stays of a range is the longest common beginning with what comes, and then
+/// the longest common ending of the rest of both.
+#[tactic(auto, using(crate::proofs::Trimmed::stays_longest))]
+pub fn longest_ends_stay()
+    ensures { (from to : ℕ) (others ts : List Tree) → StaysLongest from to others ts }
+{}
