@@ -80,8 +80,9 @@ def module(folder, room):
         )
     try:
         while tried.poll() is None:
-            for machine in room.glob("*/*/module*.o*"):
-                with suppress(FileNotFoundError):
+            # `rt try` may remove a folder while it is read: then the next look finds what is there.
+            with suppress(FileNotFoundError):
+                for machine in room.glob("*/*/module*.o*"):
                     made = (machine.parent / "module.bc").read_bytes()
                     # `rt try` also makes a small module, without tests.
                     if TESTS in made:
