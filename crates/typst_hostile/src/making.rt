@@ -99,10 +99,12 @@ pub fn wrap(alloc: Global, requests: Requests) -> Result<End, Stop> {
     let kept = drawn_all(alloc, LETTERS)?;
     let wanted = SyntaxNode::inner(alloc, SyntaxKind::Markup, drawn_all(alloc, LETTERS)?)?;
     requests.make(alloc)?;
-    Ok(match SyntaxNode::wrap(alloc, SyntaxKind::Markup, &mut parts) {
-        Ok(made) => End::answered(made == wanted && parts.is_empty()),
-        Err(error) => End::failed(Fault::from(error), parts == kept),
-    })
+    Ok(
+        match SyntaxNode::wrap(alloc, SyntaxKind::Markup, &mut parts) {
+            Ok(made) => End::answered(made == wanted && parts.is_empty()),
+            Err(error) => End::failed(Fault::from(error), parts == kept),
+        },
+    )
 }
 
 /// The clone of a diagnostic with a hint.

@@ -1,11 +1,13 @@
 -- What an update makes of a tree.
-use Rattle.std.proofs.Common.{◌≡◌, ℕ, ◌+◌, ◌<◌, ◌≤◌, ◌^◌, inl, inr, true, List, [], ◌∷◌, length, get_or, refl, sym, ap, subst, ◌∙◌, arith, Some, None}
+use Rattle.std.proofs.Common.{◌≡◌, ℕ, suc, ◌+◌, ◌<◌, ◌≤◌, ◌^◌, inl, inr, true, List, [], ◌∷◌, length, get_or, refl, sym, ap, subst, ◌∙◌, arith, Some, None}
 use Rattle.std.proofs.lemmas.Bool.Decides.{nat_tests}
 use Rattle.typst_node.specs.Tree.{Content, AsLeaf, AsError, AsInner, Tree, Forest, none, trees, forest, IsInner, Label}
 use Rattle.typst_node.specs.Labels.{number, bound, bound_of}
+use Rattle.typst_node.specs.Preorder.{preorder}
 use Rattle.typst_node.specs.Count.{count}
 use Rattle.typst_node.specs.Plain.{plain}
 use Rattle.typst_node.specs.Numbered.{IsNumbered, IsNumberedFor}
+use Rattle.typst_node.specs.Numbering.{IsTooShort}
 use Rattle.typst_node.specs.Paths.{IsPath, no_tree, tree_at, with_children}
 use Rattle.typst_node.specs.PlainEdit.{TreeFits}
 use Rattle.typst_node.specs.Edit.{Fits, edited_by}
@@ -62,6 +64,11 @@ module _ (old other : Tree) (on : GoesOnWithin old other) where
             on.1,
           )
 
+  -- the other tree has no more nodes than there are numbers
+  pub within_fits : IsNumbered old → ¬ (IsTooShort other 2 (2 ^ 47))
+  within_fits numbered (inl empty) = omega (arith, empty)
+  within_fits numbered (inr few) = omega (arith, few, on.1, numbered.2.in_file.0.1, numbered.2.bounds.2.0)
+
   pub root_goes_on : (below : Below) (m : NumberMoves) (new : Tree) → IsReconciled (edit_to old other) old below.path.items below.touched m new → IsUpdated old other (record { below = Some below; moves = m }) new
   root_goes_on below m new made = record {
     made = (on, made);
@@ -89,6 +96,12 @@ leaf_numbered file l f childless leaf filed low high =
       in_order = (tt, tt);
       bounds = ((omega (arith, next), tt), tt, (omega (arith, next), tt), tt, tt);
     })
+
+pub leaf_fits : (old other : Tree) → EndsOnAs old other → ¬ (IsTooShort other 2 (2 ^ 47))
+leaf_fits old other ends (inl empty) = omega (arith, empty)
+leaf_fits old other ends (inr few) =
+    let one : count other ≡ 1 = ap (λ f. suc (length (preorder f))) (no_children other.children ends.other_childless) in
+    omega (arith, few, one)
 
 module _ (old other : Tree) (ends : EndsOnAs old other) where
   stays : AllGoOnOrGo no_moves old (with_span old.label.span other)

@@ -45,7 +45,7 @@ impl SyntaxNode {
     fn number_anew(&mut self, alloc: Global, id: FileId) -> Result<Moves, ReplaceError>
         ensures numbering { OnOk result (IsNumbering id 2 (2 ^ 47) self.old self.new) }
         ensures gone { IfOk result (λ moves. moves ≡ all_gone id) }
-        ensures unnumberable { IsErrOf result TooFew → IsTooShort self.old 2 (2 ^ 47) }
+        ensures unnumberable { IsErrOf result TooFew ↔ IsTooShort self.old 2 (2 ^ 47) }
         ensures overflow { ¬ (IsErrOf result Overflow) }
     {
         match self.numberize(id, Span::FULL) {
@@ -56,10 +56,11 @@ impl SyntaxNode {
 
     /// Gives another tree the span or the numbers that it has in place of this one, whose root is gone or ends on as the
     /// other root.
+    #[tactic(auto, using(crate::proofs::AnotherTree::leaf_fits))]
     fn number_instead(&self, alloc: Global, other: &mut SyntaxNode) -> Result<Moves, ReplaceError>
         requires { IsNumbered self.now }
         ensures made { IfOk result (λ moves. IsRootUpdated self.now other.old moves other.new) }
-        ensures unnumberable { IsErrOf result TooFew → IsTooShort other.old 2 (2 ^ 47) }
+        ensures unnumberable { IsErrOf result TooFew ↔ IsTooShort other.old 2 (2 ^ 47) }
         ensures overflow { ¬ (IsErrOf result Overflow) }
     {
         if self.ends_on_as(other) {
@@ -84,14 +85,14 @@ impl SyntaxNode {
     /// [`Moves::follow`] answers `None` for each node of the old one.
     ///
     /// The test of the condition is [`SyntaxNode::is_numbered`]. After an error nothing has changed, and the other tree
-    /// is dropped. `Unnumberable` comes only if the other tree has more nodes than there are numbers, `Memory` only if
-    /// memory is refused, and `Overflow` never.
+    /// is dropped. `Unnumberable` comes if and only if the other tree has more nodes than there are numbers, `Memory`
+    /// only if memory is refused, and `Overflow` never.
     ///
     /// It takes as long as [`SyntaxNode::reconcile_at`], or time in proportion to all nodes if no node goes on.
     pub fn update(&mut self, alloc: Global, other: SyntaxNode) -> Result<Updated, ReplaceError>
         requires numbered_ask_is_numbered { IsNumbered self.old }
         ensures updated { IfOk result (λ done. IsUpdated self.old other done self.new) }
-        ensures unnumberable { IsErrOf result TooFew → IsTooShort other 2 (2 ^ 47) }
+        ensures unnumberable { IsErrOf result TooFew ↔ IsTooShort other 2 (2 ^ 47) }
         ensures overflow { ¬ (IsErrOf result Overflow) }
         ensures err { OnErr result (self.new ≡ self.old) }
     {

@@ -98,7 +98,9 @@ fn room(site: &Site<'_>, width: usize, nodes: usize) -> Option<Numbering>
     requires total { site.now.total ≡ new_count (recorded site.now) }
     ensures { MatchOption result (¬ (HasRoom (recorded site.now) width)) (AreNumbersFor (recorded site.now) width) }
 {
-    let (ahead, _) = site.before.split_at(site.before.len().saturating_sub(width));
+    let (ahead, _) = site
+        .before
+        .split_at(site.before.len().saturating_sub(width));
     let (_, rest) = site.behind.split_at(width.min(site.behind.len()));
     let start = open_behind(ahead, site.first);
     let end = open_before(rest, site.end);

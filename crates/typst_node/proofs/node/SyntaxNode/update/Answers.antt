@@ -7,7 +7,7 @@ use Rattle.typst_node.specs.PlainEdit.{TreeFits}
 use Rattle.typst_node.specs.Reconciled.{IsReconciled, IsUnreconciledBy}
 use Rattle.typst_node.specs.Updated.{edit_to, IsUpdated}
 use Rattle.typst_node.specs.declared.node.replace.ReplaceError.TheVariants.{Memory}
-use Rattle.typst_node.proofs.AnotherTree.{never_refused, root_goes_on, root_updated}
+use Rattle.typst_node.proofs.AnotherTree.{never_refused, root_goes_on, root_updated, within_fits}
 use Rattle.typst_node.proofs.node.SyntaxNode.update.Goals as goal
 
 -- the edit of all children
@@ -32,8 +32,17 @@ only_memory c =
     let fits : TreeFits c.args.other = (omega (arith, c.len-len.ensures, c.len-len.type_inv), omega (arith, c.descendants-nodes.ensures, c.descendants-nodes.type_inv)) in
     never_refused old c.args.other on c.in-Err.why c.requires.numbered_ask_is_numbered fits refused
 
+pub returns-in-Ok-clause-unnumberable : goal.returns-in-Ok-clause-unnumberable
+returns-in-Ok-clause-unnumberable c =
+    let on = c.goes_on_within.ensures.0 c.if-goes_on_within.true in
+    let fits = within_fits c.args.self.now c.args.other on c.requires.numbered_ask_is_numbered in
+    (λ is. cc, λ short. absurd (fits short))
+
 pub returns-in-Err-clause-unnumberable : goal.returns-in-Err-clause-unnumberable
-returns-in-Err-clause-unnumberable c = λ is. let memory = only_memory c in cc
+returns-in-Err-clause-unnumberable c =
+    let on = c.goes_on_within.ensures.0 c.if-goes_on_within.true in
+    let fits = within_fits c.args.self.now c.args.other on c.requires.numbered_ask_is_numbered in
+    (λ is. let memory = only_memory c in cc, λ short. absurd (fits short))
 
 pub returns-in-Err-clause-overflow : goal.returns-in-Err-clause-overflow
 returns-in-Err-clause-overflow c = λ is. let memory = only_memory c in cc
