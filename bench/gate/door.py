@@ -72,8 +72,9 @@ BESIDE = {"all nodes by typst_preorder, a node": speed.over("", "preorder", "doc
           "a leaf by one as long": speed.Row("", f"replace document {speed.HUNDRED_THOUSAND} 20000"),
           "a letter in a text of 1,000 lines": speed.Row("", "letter 1000 1000", 2)}
 # The calls whose instructions growth.c lets count, each with two sizes and the most instructions that it may take at each. An edit isn't
-# in proportion to the text, and the two reads of a chain are in proportion to its levels.
+# in proportion to the text, nor a wrap to its children's trees. The two reads of a chain are in proportion to its levels.
 COUNTED = {"edit": [(1_000, 40_000), (16_000, 60_000)],
+           "wrap": [(250, 4_000), (1_000, 4_000)],
            "node": [(250, 6_500), (1_000, 25_000)],
            "preorder": [(250, 25_000), (1_000, 95_000)]}
 # How often a call is made to be counted.

@@ -3,7 +3,8 @@
  *     growth CALL SIZE TIMES
  *
  * makes it so often. The calls are `edit`, which inserts a letter in the middle of a text of SIZE lines, and removes it
- * in the next turn; `node`, which reads the last node of a chain of SIZE levels; and `preorder`, which reads them all. */
+ * in the next turn; `wrap`, which makes a node over a chain of SIZE levels; `node`, which reads the last node of such a
+ * chain; and `preorder`, which reads them all. */
 #include "typst.h"
 
 #include <stdio.h>
@@ -42,14 +43,20 @@ static void edit(size_t lines, unsigned long times)
     }
 }
 
+/* Pushes a chain of `levels` nodes. */
+static void push_chain(size_t levels)
+{
+    need(typst_push_leaf(&session, TYPST_KIND_TEXT, "a", 1));
+    for (size_t i = 1; i < levels; i++) need(typst_wrap(&session, TYPST_KIND_MARKUP, 1));
+}
+
 /* Makes a chain of `levels` nodes, and reads the last one or all of them. */
 static void chain(size_t levels, unsigned long times, int reads_all)
 {
     size_t *path = room(levels, sizeof *path);
     typst_node_info *infos = room(levels, sizeof *infos);
     typst_length length;
-    need(typst_push_leaf(&session, TYPST_KIND_TEXT, "a", 1));
-    for (size_t i = 1; i < levels; i++) need(typst_wrap(&session, TYPST_KIND_MARKUP, 1));
+    push_chain(levels);
     need(typst_number(&session, 1, TYPST_FIRST_NUMBER, TYPST_END_NUMBER));
     for (unsigned long i = 0; i < times; i++) {
         if (reads_all) need(typst_preorder(&session, path, 0, infos, levels, &length));
@@ -66,6 +73,7 @@ int main(int argc, char **argv)
     unsigned long times = strtoul(argv[3], NULL, 10);
     need(typst_new(&session));
     if (strcmp(argv[1], "edit") == 0) edit(size, times);
+    else if (strcmp(argv[1], "wrap") == 0) push_chain(size + times);
     else chain(size, times, strcmp(argv[1], "preorder") == 0);
     typst_free(&session);
     return 0;
