@@ -446,7 +446,7 @@ TYPST_NODISCARD typst_status typst_push_copy(typst_session *session, const size_
 
 /**
  * Replaces the last `count` nodes of the stack by an inner node. They become its children, in the same order. The call takes time
- * in proportion to `count`, and copies none of them.
+ * in proportion to `count`, and copies no node.
  * @return TYPST_DONE, TYPST_NOT_MADE, TYPST_BAD_KIND, TYPST_SHORT_STACK, TYPST_OVERFLOW or TYPST_NO_MEMORY.
  */
 TYPST_NODISCARD typst_status typst_wrap(typst_session *session, uint32_t kind, size_t count);

@@ -147,7 +147,11 @@ impl Stack {
     pub(crate) fn row_for(&self, table: &Table, class: Class) -> Option<&'static Row>
         ensures { found_of result ≡ row_for (table_of table.now) class (stack_of self.now) }
     {
-        let class = if table.embeds { class } else { as_markup(class) };
+        let class = if table.embeds {
+            class
+        } else {
+            as_markup(class)
+        };
         self.first_row(rows(self.top.state, class))
     }
 }
