@@ -27,7 +27,7 @@ DEFINED = re.compile(r"^ *abbrev pub (\w+) :.*\n((?: *\S.*\n)+)", re.M)
 
 # The words that need no field, by the reason; those of a whole module by a star.
 EXEMPT = {
-    "the node of a view": "View.node_of ImportItem.import_item_node MathAccess.math_access_node Bindings.expr_names",
+    "the node of a view": "View.node_of View.atom_node ImportItem.import_item_node MathAccess.math_access_node Bindings.expr_names",
     "the kind of a node that other words pick, which its plain tree has": "Views.node_kind",
     "what `exprs` is made of": "KeptNodes.markup_nodes",
     "a word on lists": "Raws.AnyByRecursion",
