@@ -55,9 +55,7 @@ fn placeholders(alloc: Global, count: usize) -> Result<Vec<SyntaxNode>, AllocErr
     ensures { IfOk result (λ nodes. length nodes.items ≡ count) }
 {
     let mut nodes = Vec::with_capacity(alloc, count)?;
-    for _ in 0..count {
-        nodes.push(SyntaxNode::default())?;
-    }
+    nodes.resize_with(count, SyntaxNode::default)?;
     Ok(nodes)
 }
 
