@@ -3,3 +3,4 @@ pub mod Tops
 pub mod OwnPlaces
 pub mod Picked
 pub mod Viewed
+pub mod Exchanged

@@ -1,5 +1,5 @@
 //! Building nodes on the stack.
-ghost use Rattle.std.specs.Prelude.{◌≡◌, ◌++◌, ◌∷◌, [], ◌≤◌, length, take, IsUtf8, IfOk, IfErr, MatchResult};
+ghost use Rattle.std.specs.Prelude.{◌≡◌, ◌+◌, ◌++◌, ◌∷◌, [], ◌≤◌, length, take, drop, IsUtf8, IfOk, IfErr, OnOk, MatchResult};
 ghost use Rattle.typst_session.specs.Building.{IsPlainKind, IsNoPlainKind, PushesLeaf, PushesError, PushesCopy, Wraps, Warns, Hints, Pops};
 ghost use Rattle.typst_session.specs.Sessions.{HasStack, IsKept};
 ghost use Rattle.typst_session.specs.declared.refusal.Refusal.TheVariants.{Kind, Memory, Text};
@@ -55,9 +55,7 @@ fn placeholders(alloc: Global, count: usize) -> Result<Vec<SyntaxNode>, AllocErr
     ensures { IfOk result (λ nodes. length nodes.items ≡ count) }
 {
     let mut nodes = Vec::with_capacity(alloc, count)?;
-    for _ in 0..count {
-        nodes.push(SyntaxNode::default())?;
-    }
+    nodes.resize_with(count, SyntaxNode::default)?;
     Ok(nodes)
 }
 
@@ -118,6 +116,7 @@ impl Session {
     ///
     /// It takes time in proportion to the number of these nodes, and copies none of them. After a refusal they are still
     /// on the stack.
+    #[tactic(auto, using(crate::proofs::Exchanged::nothing_taken))]
     pub fn wrap(&mut self, alloc: Global, kind: u32, count: usize) -> Result<(), Refusal>
         ensures { Wraps kind count self.old result self.new }
     {
@@ -126,12 +125,15 @@ impl Session {
             return Err(Refusal::Stack);
         };
         let mut children = placeholders(alloc, count)?;
-        self.stack[start..].swap_with_slice(&mut children);
+        self.exchange(start, &mut children);
         let answer = SyntaxNode::wrap(alloc, kind, &mut children);
         match answer {
-            Ok(node) => self.put(start, node),
+            Ok(node) => match self.put(start, node) {
+                Ok(()) => Ok(()),
+                Err(why) => Err(why),
+            },
             Err(why) => {
-                self.stack[start..].swap_with_slice(&mut children);
+                self.exchange(start, &mut children);
                 Err(match why {
                     InnerError::Overflow => Refusal::Overflow,
                     InnerError::Memory => Refusal::Memory,
@@ -140,11 +142,21 @@ impl Session {
         }
     }
 
-    /// Replaces all nodes from an index on by a node.
+    /// Exchanges the nodes from an index on for as many others.
+    fn exchange(&mut self, start: usize, others: &mut Vec<SyntaxNode>)
+        requires { start + length others.old.items ≡ length self.old.stack.items }
+        ensures stack { HasStack (take start self.old.stack.items ++ others.old.items) self.old self.new }
+        ensures others { others.new.items ≡ drop start self.old.stack.items }
+    {
+        self.stack[start..].swap_with_slice(others);
+    }
+
+    /// Replaces all nodes from an index on by a node. It is refused memory only if there are none.
     fn put(&mut self, start: usize, node: SyntaxNode) -> Result<(), Refusal>
         requires { start ≤ length self.old.stack.items }
-        ensures { MatchResult result (λ _. HasStack (take start self.old.stack.items ++ node ∷ []) self.old self.new)
-            (λ refusal. (refusal ≡ Memory) × IsKept self.old self.new) }
+        ensures ok { OnOk result (HasStack (take start self.old.stack.items ++ node ∷ []) self.old self.new) }
+        ensures err { IfErr result (λ refusal. (refusal ≡ Memory) × (start ≡ length self.old.stack.items)
+            × IsKept self.old self.new) }
     {
         if start == self.stack.len() {
             return self.push(node);
