@@ -20,9 +20,9 @@
 4. gcc compiles the examples and the tests in C with all warnings. They run under the sanitizers of addresses and of undefined
    behavior. One test makes calls that are drawn at random: a million, or as many as --calls says. Another refuses each request for
    memory in turn. A third makes each call that only reads on sessions in memory that can't be written, and a fourth passes null
-   pointers. Where valgrind is there, it counts the instructions of an edit, of a read at the end of a chain of nodes and of a walk over
-   the chain at two sizes. A program that doesn't look at a status must not compile. Each example must print what the file `.stdout` next to it
-   says. clang, if it is there, reads the comments of the headers.
+   pointers. Where valgrind is there, it counts the instructions of an edit, of a wrap of a chain of nodes, of a read at its end and of
+   a walk over it at two sizes. A program that doesn't look at a status must not compile. Each example must print what the file
+   `.stdout` next to it says. clang, if it is there, reads the comments of the headers.
 5. cargo, offline, runs the tests, the lints and the documentation of the Rust crate. Its examples must print what the files
    `.stdout` next to them say. One of them carries out scripts: the vectors of scripts and the scripts in examples/.
 
