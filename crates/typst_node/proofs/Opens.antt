@@ -66,10 +66,13 @@ counted s w from to n m from_is to_is n_is m_is =
 pub fewer_in : (s : Site) (w : ℕ) → count_of_all (trees_in s w) < new_count s
 fewer_in s w = omega (arith, count_in s w, count_new s, count_split (length s.before - w) s.before, count_split w s.behind)
 
--- what a wider window gains
-pub gained : (s : Site) (w next a b c d n m : ℕ) → w ≤ next → a ≡ length s.before - next → b ≡ length s.before - w → c ≡ min w (length s.behind) → d ≡ min next (length s.behind)
-    → n ≡ count_of_all (slice_range s.before a b) → m ≡ count_of_all (slice_range s.behind c d) → count_of_all (trees_in s w) + (n + m) ≡ count_of_all (trees_in s next)
-gained s w next a b c d n m wider a_is b_is c_is d_is n_is m_is =
+-- what a wider window gains, by counts that are right below the limit
+pub gained : (s : Site) (w next a b c d n m : ℕ) → w ≤ next → new_count s < 2 ^ 64 → a ≡ length s.before - next → b ≡ length s.before - w → c ≡ min w (length s.behind) → d ≡ min next (length s.behind)
+    → (count_of_all (slice_range s.before a b) < 2 ^ 64 → n ≡ count_of_all (slice_range s.before a b)) → (count_of_all (slice_range s.behind c d) < 2 ^ 64 → m ≡ count_of_all (slice_range s.behind c d))
+    → count_of_all (trees_in s w) + (n + m) ≡ count_of_all (trees_in s next)
+gained s w next a b c d n m wider few a_is b_is c_is d_is n_counted m_counted =
+    let n_is = n_counted (omega (arith, few, count_new s, count_split a s.before, count_split (b - a) (drop a s.before))) in
+    let m_is = m_counted (omega (arith, few, count_new s, count_split c s.behind, count_split (d - c) (drop c s.behind))) in
     let ahead : count_of_all (drop a s.before) ≡ n + count_of_all (drop b s.before) =
     ap count_of_all (drop_split s.before a b (omega arith)) ∙ (count_append (slice_range s.before a b) (drop b s.before) ∙ ap (λ k. k + count_of_all (drop b s.before)) (sym n_is)) in
     let many : c + (d - c) ≡ d = omega arith in

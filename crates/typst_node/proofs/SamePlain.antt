@@ -1,10 +1,11 @@
 -- Trees with one plain tree have the same paths and edits, and at each path nodes with one plain tree.
-use Rattle.std.proofs.Common.{◌≡◌, ℕ, zero, suc, ◌<◌, ◌≤◌, List, [], ◌∷◌, length, map, refl, sym, ap, subst, ◌∙◌, get_or}
+use Rattle.std.proofs.Common.{◌≡◌, ℕ, zero, suc, ◌<◌, ◌≤◌, ◌↔◌, List, [], ◌∷◌, length, map, refl, sym, ap, subst, ◌∙◌, get_or}
 use Rattle.std.proofs.lemmas.List.{length-map}
 use Rattle.typst_node.specs.Tree.{Content, AsLeaf, AsError, AsInner, IsInner, Tree, trees}
 use Rattle.typst_node.specs.Plain.{unbounded, plain}
 use Rattle.typst_node.specs.Paths.{IsPath, tree_at, no_tree}
 use Rattle.typst_node.specs.PlainEdit.{RangeFits, EditFits}
+use Rattle.typst_node.specs.Numbering.{IsNumbering}
 use Rattle.typst_node.proofs.EditStep.{kids_plain}
 
 pub many_alike : (ts us : List Tree) → map plain ts ≡ map plain us → length ts ≡ length us
@@ -49,3 +50,10 @@ range_alike from to t u same fits inner =
 -- an edit that fits one fits the other
 pub fits_alike : (path : List ℕ) (from to : ℕ) (t u : Tree) → plain t ≡ plain u → EditFits path from to t → EditFits path from to u
 fits_alike path from to t u same fits = (path_alike path t u same fits.0, range_alike from to (tree_at path t) (tree_at path u) (alike_at path t u same) fits.1)
+
+-- an edit fits after a numbering exactly if it fitted before
+pub fits_numbered : (id start end : ℕ) (before after : Tree) → IsNumbering id start end before after → (path : List ℕ) (from to : ℕ) → EditFits path from to after ↔ EditFits path from to before
+fits_numbered id start end before after made path from to = (
+  fits_alike path from to after before made.plain,
+  fits_alike path from to before after (sym made.plain),
+)

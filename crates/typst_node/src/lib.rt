@@ -21,10 +21,10 @@ pub use node::build::InnerError;
 pub use node::diagnostics::SyntaxDiagnostic;
 pub use node::mapped::SynthesizeError;
 pub use node::moves::Moves;
-pub use node::number::Unnumberable;
+pub use node::number::{Unnumberable, numbering_keeps_what_fits};
 pub use node::reconcile::{Reconciled, Touched};
 pub use node::replace::{Renumbered, ReplaceError};
-pub use node::trim::{count_common_first, count_common_last, longest_ends_stay};
+pub use node::trim::{count_common_first, count_common_last, count_nodes, longest_ends_stay};
 pub use node::update::{Below, Updated};
 
 pub mod ast_node;

@@ -7,7 +7,7 @@ ghost use Rattle.typst_node.specs.Moves.{IsNodeNumber, numbers, followed, follow
 ghost use Rattle.typst_node.specs.Updated.{all_gone};
 
 use crate::node::SyntaxNode;
-use crate::node::window::count_all;
+use crate::node::trim::count_nodes;
 use std::alloc::{AllocError, Global};
 use std::marker::Model;
 use std::ops::Range;
@@ -75,7 +75,7 @@ fn write_both(ahead: &[SyntaxNode], behind: &[SyntaxNode], out: &mut [u64])
     requires { length out.old ≡ count_of_all ahead.now + count_of_all behind.now }
     ensures { out.new ≡ numbers (ahead.now ++ behind.now) }
 {
-    let (first, rest) = out.split_at_mut(count_all(ahead));
+    let (first, rest) = out.split_at_mut(count_nodes(ahead));
     write_numbers(ahead, first);
     write_numbers(behind, rest);
 }
@@ -116,7 +116,7 @@ impl Noted {
         ensures ahead { IfOk result (λ noted. noted.ahead ≡ length ahead.now) }
         ensures behind { IfOk result (λ noted. noted.behind ≡ length behind.now) }
     {
-        let count = count_all(ahead) + count_all(behind);
+        let count = count_nodes(ahead) + count_nodes(behind);
         let mut olds = zeros(alloc, count)?;
         let room = zeros(alloc, count)?;
         write_both(ahead, behind, &mut olds);

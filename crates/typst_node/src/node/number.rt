@@ -1,6 +1,6 @@
 //! Numbers in order, and the test for this order.
 ghost use Rattle.std.specs.Prelude.{ℕ, List, ◌≡◌, ◌+◌, ◌-◌, ◌*◌, ◌/◌, ◌^◌, ◌<◌, ◌≤◌, ◌↔◌, length, map, OnOk, OnErr, IsErr, IsTrue};
-ghost use Rattle.typst_node.specs.Tree.{forest, IsInner};
+ghost use Rattle.typst_node.specs.Tree.{Tree, forest, IsInner};
 ghost use Rattle.typst_node.specs.Text.{text_of_all};
 ghost use Rattle.typst_node.specs.Count.{count, count_of_all};
 ghost use Rattle.typst_node.specs.Labels.{number, bound};
@@ -29,14 +29,13 @@ impl SyntaxNode {
     /// `within` lies in `Span::FULL`. A leaf or an error takes the middle number. An inner node of `n` nodes divides
     /// the range into strides of `length / 2n` numbers, or of `length / n` numbers if that is 0. The node takes the
     /// middle of the first stride. Each child takes as many strides as it has nodes, and is numbered by the same rule.
-    /// It takes time in proportion to the nodes, and no memory. An edit fits afterwards exactly if it fitted before.
+    /// It takes time in proportion to the nodes, and no memory.
     pub fn numberize(&mut self, id: FileId, within: Range<u64>) -> Result<(), Unnumberable>
         requires starts_in_span_full { 2 ≤ within.start }
         requires ends_in_span_full { within.end ≤ 2 ^ 47 }
         ensures refused { IsErr result ↔ IsTooShort self.old within.start within.end }
         ensures err { OnErr result (self.new ≡ self.old) }
         ensures numbering { OnOk result (IsNumbering id within.start within.end self.old self.new) }
-        ensures fits { (path : List ℕ) (from to : ℕ) → EditFits path from to self.new ↔ EditFits path from to self.old }
     {
         if within.start >= within.end || within.end - within.start < self.descendants() as u64 {
             return Err(Unnumberable);
@@ -153,3 +152,9 @@ fn stride_of(space: u64, count: u64) -> u64
     let stride = space / (2 * count);
     if stride == 0 { space / count } else { stride }
 }
+
+/// A law of all numberings: an edit fits afterwards exactly if it fitted before.
+pub fn numbering_keeps_what_fits()
+    ensures { (id start end : ℕ) (before after : Tree) → IsNumbering id start end before after
+        → (path : List ℕ) (from to : ℕ) → EditFits path from to after ↔ EditFits path from to before }
+{}

@@ -1,9 +1,24 @@
-//! The nodes that two lists have alike at the beginning and at the end.
-ghost use Rattle.std.specs.Prelude.{ℕ, ◌≡◌, ◌+◌, ◌-◌, ◌≤◌, List, length, reverse, slice_range};
+//! How many nodes a list has, with those below them, and how many two lists have alike at the beginning and at the end.
+ghost use Rattle.std.specs.Prelude.{ℕ, ◌≡◌, ◌+◌, ◌-◌, ◌^◌, ◌<◌, ◌≤◌, List, length, reverse, slice_range};
 ghost use Rattle.typst_node.specs.ChangedChildren.{IsCommonBeginning, StaysLongest, common_first, common_last};
+ghost use Rattle.typst_node.specs.Count.{count_of_all};
 ghost use Rattle.typst_node.specs.Tree.{Tree};
 
 use crate::node::SyntaxNode;
+
+/// The number of nodes in a list and below its nodes. It stops at `usize::MAX`.
+///
+/// It takes time in proportion to the length of the list, and no memory.
+pub fn count_nodes(nodes: &[SyntaxNode]) -> usize
+    ensures counted { count_of_all nodes.now < 2 ^ 64 → result ≡ count_of_all nodes.now }
+    ensures limit { 2 ^ 64 ≤ count_of_all nodes.now → result ≡ 2 ^ 64 - 1 }
+{
+    let mut sum = 0usize;
+    for node in nodes {
+        sum = sum.saturating_add(node.descendants());
+    }
+    sum
+}
 
 /// The number of nodes that both lists have alike at the beginning, by [`SyntaxNode::spanless_eq`].
 ///

@@ -8,6 +8,7 @@ ghost use Rattle.typst_node.specs.Window.{trees_in};
 ghost use Rattle.typst_node.specs.Sites.{recorded, AreNumbersFor, IsFound};
 
 use crate::node::SyntaxNode;
+use crate::node::trim::count_nodes;
 
 /// A site: the nodes that may be numbered anew, which are the changed children and their neighbours, and the numbers
 /// for them.
@@ -38,18 +39,6 @@ pub(super) struct Found {
     pub(super) tried: usize,
     pub(super) width: usize,
     pub(super) numbering: Numbering,
-}
-
-/// The number of nodes in the trees. It takes time in proportion to the length of the list.
-pub(super) fn count_all(nodes: &[SyntaxNode]) -> usize
-    requires { count_of_all nodes.now < 2 ^ 64 }
-    ensures { result ≡ count_of_all nodes.now }
-{
-    let mut sum = 0;
-    for node in nodes {
-        sum += node.descendants();
-    }
-    sum
 }
 
 /// The first open number after the nodes.
@@ -138,7 +127,7 @@ fn count_gained(site: &Site<'_>, width: usize, next: usize) -> usize
     let ahead = &site.before[len.saturating_sub(next)..len.saturating_sub(width)];
     let most = site.behind.len();
     let behind = &site.behind[width.min(most)..next.min(most)];
-    count_all(ahead) + count_all(behind)
+    count_nodes(ahead) + count_nodes(behind)
 }
 
 /// The first window with room, among the windows up to the first that holds all children.

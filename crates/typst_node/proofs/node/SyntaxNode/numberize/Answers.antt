@@ -1,6 +1,5 @@
-use Rattle.std.proofs.Common.{arith, sym}
+use Rattle.std.proofs.Common.{arith}
 use Rattle.typst_node.proofs.Ordered.{numbered_from_within, all_in_range}
-use Rattle.typst_node.proofs.SamePlain.{fits_alike}
 use Rattle.typst_node.proofs.node.SyntaxNode.numberize.Goals as goal
 
 pub returns-clause-numbering : goal.returns-clause-numbering
@@ -14,9 +13,3 @@ returns-clause-numbering c =
       first_half = made.half;
       plain = made.plain;
     }
-
-pub returns-clause-fits : goal.returns-clause-fits
-returns-clause-fits c path from to = (
-  fits_alike path from to c.number_within.new.self c.args.self.now c.number_within.ensures.plain,
-  fits_alike path from to c.args.self.now c.number_within.new.self (sym c.number_within.ensures.plain),
-)
