@@ -6,6 +6,7 @@ use anyhow::{Context, Result, bail};
 use std::alloc::{AllocError, Global};
 use std::ops::Range;
 use typst_language::Typst;
+use typst_node::count_nodes;
 use typst_source::{Edited, Source};
 use typst_tree::{FileId, Renumbered, SyntaxNode, Touched, node_at};
 
@@ -53,13 +54,6 @@ fn unquoted(alloc: Global, quoted: &str) -> Result<Option<String>, AllocError> {
     Ok(Some(text))
 }
 
-/// How many nodes some trees have.
-fn count(nodes: &[SyntaxNode]) -> usize {
-    nodes
-        .iter()
-        .fold(0usize, |sum, node| sum.saturating_add(node.descendants()))
-}
-
 /// What an edit did, in words.
 fn told(alloc: Global, source: &Source<Typst>, done: &Edited) -> Result<String, AllocError> {
     let Range { start, end } = done.reparsed;
@@ -77,7 +71,7 @@ fn told(alloc: Global, source: &Source<Typst>, done: &Edited) -> Result<String, 
                 Some(node) => node.child_slice(),
                 None => &[],
             };
-            let anew = count(children.get(window.start..window.end).unwrap_or(&[]));
+            let anew = count_nodes(children.get(window.start..window.end).unwrap_or(&[]));
             let kept = all.saturating_sub(anew);
             write!(said, "numbered {anew} of {all} nodes, tried {tried}; ")?;
             write!(said, "{kept} keep their numbers")?;

@@ -7,7 +7,7 @@ ghost use Rattle.typst_shown.specs.Report.{Reports, differing, numbers_of, statu
 
 use std::ops::Range;
 use typst_linked::node_at;
-use typst_node::{SyntaxNode, Touched};
+use typst_node::{SyntaxNode, Touched, count_nodes};
 use typst_source::Edited;
 
 /// What an edit did, counted in bytes and nodes of the new text and its tree.
@@ -47,7 +47,7 @@ impl EditReport {
         let window = window_of(root, &done);
         let (before, after) = done.moves.moved();
         let (new, moved) = (
-            count_all(window).saturating_sub(after.len()),
+            count_nodes(window).saturating_sub(after.len()),
             count_differing(before, after),
         );
         EditReport {
@@ -173,17 +173,4 @@ fn first_nodes(nodes: &[SyntaxNode], count: usize) -> &[SyntaxNode]
     ensures { result.now ≡ take count nodes.now }
 {
     nodes.split_at(count.min(nodes.len())).0
-}
-
-/// How many nodes some trees have.
-#[tactic(auto, using(crate::proofs::Counts::count_take, crate::proofs::Counts::count_part))]
-fn count_all(nodes: &[SyntaxNode]) -> usize
-    requires { count_of_all nodes.now < 2 ^ 64 }
-    ensures { result ≡ count_of_all nodes.now }
-{
-    let mut sum = 0;
-    for node in nodes {
-        sum += node.descendants();
-    }
-    sum
 }
