@@ -122,7 +122,7 @@ impl NumberedTree {
     /// It compares the trees from both ends up to the first difference, and goes down from there.
     pub fn update(&mut self, alloc: Global, root: SyntaxNode) -> Result<Updated, ReplaceError>
         ensures updated { IfOk result (λ done. IsUpdated self.old root done self.new) }
-        ensures unnumberable { IsErrOf result Unnumberable → IsTooShort root 2 (2 ^ 47) }
+        ensures unnumberable { IsErrOf result Unnumberable ↔ IsTooShort root 2 (2 ^ 47) }
         ensures overflow { ¬ (IsErrOf result Overflow) }
         ensures err { OnErr result (self.new ≡ self.old) }
         ensures numbered { IsNumberedFor self.old.label.span.file self.new }
