@@ -98,7 +98,7 @@ module _ (b : ℕ) (bs : List ℕ) (low : b < 128) where
   pub begins_is : (p : ℕ → Bool) → begins_char p (b ∷ bs) ≡ p b
   begins_is p = ap (λ (o : Option ℕ). option_map_or p o false) first_is
 
-  wordy : is_wordy b ≡ is_ascii_alphanumeric b
+  pub wordy : is_wordy b ≡ is_ascii_alphanumeric b
   wordy = ap (λ (v : Bool). is_alphanumeric b && v) (or_left (nat_lt b 128) _ is_low) ∙ and_true (is_alphanumeric b) ∙ wordy_is b low
     where
       or_left : (u v : Bool) → u ≡ true → (u || v) ≡ true

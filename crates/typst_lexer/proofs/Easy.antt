@@ -1,8 +1,9 @@
 -- Where a token goes on over a byte of ASCII, or ends before it, without a look at the rules.
-use Rattle.std.proofs.Common.{◌≡◌, ℕ, ◌<◌, nat_lt, Bool, true, false, List, [], ◌∷◌, refl, sym, ap, ◌∙◌, arith}
+use Rattle.std.proofs.Common.{◌≡◌, ℕ, ◌<◌, ◌⊎◌, inl, inr, nat_lt, Bool, true, false, List, [], ◌∷◌, take, refl, sym, ap, subst, ◌∙◌, arith}
 use Rattle.std.specs.Prelude.{◌&&◌, ◌||◌, ◌==◌, not, codes, Option, Some, None, if◌then◌else◌}
-use Rattle.std.specs.Char.{is_ascii_alphanumeric, is_ascii_digit, is_whitespace}
+use Rattle.std.specs.Char.{is_ascii_alphabetic, is_ascii_alphanumeric, is_ascii_digit, is_whitespace}
 use Rattle.std.specs.Char.Unicode.Rows.{in_ranges}
+use Rattle.std.specs.Char.Unicode.Alphabetic.{alphabetic_ranges, is_alphabetic}
 use Rattle.std.specs.Char.Unicode.Numeric.{is_numeric, numeric_ranges}
 use Rattle.std.proofs.lemmas.Bool.Decides.{nat_tests}
 use Rattle.ucd_table.specs.Rows as tables
@@ -11,9 +12,9 @@ use Rattle.ucd_derived.specs.XidContinueRanges.{xid_continue_ranges}
 use Rattle.typst_lexer.specs.declared.place.Behind.{Behind}
 use Rattle.typst_lexer.specs.declared.place.Place.{Place}
 use Rattle.typst_lexer.specs.declared.place.Place.TheVariants as place
-use Rattle.typst_lexer.specs.Bytes.{behind_byte, ends_at, ends_before, goes_over, is_commented, is_quoted, is_raw, is_text_end}
-use Rattle.typst_lexer.specs.Characters.{begins_with, is_name, is_white}
-use Rattle.typst_lexer.specs.Classes.{begins_char, ends_line, first_char, is_blank, is_name_part, is_newline}
+use Rattle.typst_lexer.specs.Bytes.{behind_byte, ends_at, ends_before, goes_over, is_commented, is_mark, is_no_t, is_quoted, is_raw, is_text_end}
+use Rattle.typst_lexer.specs.Characters.{begins, begins_with, is_name, is_white}
+use Rattle.typst_lexer.specs.Classes.{begins_char, ends_line, first_char, is_alphanumeric, is_blank, is_name_part, is_newline}
 use Rattle.typst_lexer.specs.Clusters.{joins, with_char}
 use Rattle.typst_lexer.specs.Code.{is_suffix, stay_integer}
 use Rattle.typst_lexer.specs.Letters.{is_letter}
@@ -40,8 +41,18 @@ numeric_is b low = same is_numeric is_ascii_digit b low refl
 abbrev IsOver : Place → ℕ → List ℕ → Type 0
 IsOver p b bs = (b < 128) × (stay_at p (b ∷ bs) ≡ Some p) × ((b == 46) ≡ false) × (may_end p ≡ true)
 
-letter_low : (b : ℕ) → is_letter b ≡ true → b < 128
-letter_low b h = grind (arith, nat_tests)
+-- a byte that text goes over, whatever comes next
+abbrev is_inner : ℕ → Bool
+is_inner b = is_letter b || is_mark b
+
+inner_low : (b : ℕ) → is_inner b ≡ true → b < 128
+inner_low b h = grind (arith, nat_tests)
+
+alphabetic_low : (b : ℕ) → is_ascii_alphabetic b ≡ true → b < 128
+alphabetic_low b h = grind (arith, nat_tests)
+
+is_from : (b n : ℕ) → (b == n) ≡ true → b ≡ n
+is_from b n h = grind (arith, nat_tests)
 
 white_low : (b : ℕ) → is_white b ≡ true → b < 128
 white_low b h = grind (arith, nat_tests)
@@ -58,15 +69,58 @@ zero_from n h = grind (arith, nat_tests)
 name_over : (b : ℕ) (bs : List ℕ) (low : b < 128) → is_name b ≡ true → begins_char is_name_part (b ∷ bs) ≡ true
 name_over b bs low h = begins_is b bs low is_name_part ∙ name_part_is b low ∙ h
 
-over_is : (p : Place) (b : ℕ) (bs : List ℕ) → goes_over p b ≡ true → IsOver p b bs
-over_is place.Text b bs h =
-    let low = letter_low b h in
-    let plain : begins_char is_plain (b ∷ bs) ≡ true = begins_is b bs low is_plain ∙ has is_letter is_plain b low h refl in
-    (low, pick _ _ _ (or_left _ _ (or_left _ _ (or_left _ _ (or_left _ _ (or_left _ _ (or_left _ _ plain)))))), has_not is_letter (λ c. c == 46) b low h refl, refl)
-  where
-    or_left : (u v : Bool) → u ≡ true → (u || v) ≡ true
-    or_left true v e = refl
-    or_left false v e = cc
+or_left : (u v : Bool) → u ≡ true → (u || v) ≡ true
+or_left true v e = refl
+or_left false v e = cc
+
+or_right : (u v : Bool) → v ≡ true → (u || v) ≡ true
+or_right true v e = refl
+or_right false v e = e
+
+-- one of three tests of which one holds
+one_of : (u v w : Bool) → (u || v || w) ≡ true → (u ≡ true) ⊎ ((v ≡ true) ⊎ (w ≡ true))
+one_of true v w e = inl refl
+one_of false true w e = inr (inl refl)
+one_of false false true e = inr (inr refl)
+one_of false false false e = cc
+
+goes_on_plain : (w : List ℕ) → begins_char is_plain w ≡ true → text_goes_on w ≡ true
+goes_on_plain w e =
+    or_left _ _ (or_left _ _ (or_left _ _ (or_left _ _ (or_left _ _ (or_left _ _ e)))))
+
+-- text goes over a byte that is in no other token
+inner_over : (b : ℕ) (bs : List ℕ) → is_inner b ≡ true → IsOver place.Text b bs
+inner_over b bs h =
+    let low = inner_low b h in
+    let plain : begins_char is_plain (b ∷ bs) ≡ true = begins_is b bs low is_plain ∙ has is_inner is_plain b low h refl in
+    (low, pick _ _ _ (goes_on_plain (b ∷ bs) plain), has_not is_inner (λ c. c == 46) b low h refl, refl)
+
+-- text goes over a blank before a letter
+blank_over : (bs : List ℕ) → begins is_ascii_alphabetic bs ≡ true → IsOver place.Text 32 bs
+unfolding in_ranges alphabetic_ranges is_alphabetic numeric_ranges is_numeric
+blank_over [] h = cc
+blank_over (c ∷ cs) h =
+    let low = alphabetic_low c h in
+    let word : begins_char is_alphanumeric (c ∷ cs) ≡ true = begins_is c cs low is_alphanumeric ∙ has is_ascii_alphabetic is_alphanumeric c low h refl in
+    (omega arith, pick _ _ _ (or_left _ _ (or_left _ _ (or_left _ _ (or_left _ _ (or_left _ _ (or_right (begins_char is_plain (32 ∷ c ∷ cs)) _ word)))))), refl, refl)
+
+-- text goes over an `h` that begins no link
+h_over : (bs : List ℕ) → begins is_no_t bs ≡ true → IsOver place.Text 104 bs
+h_over [] h = cc
+h_over (c ∷ cs) h =
+    let low = low_from c (both (nat_lt c 128) (not (c == 116)) h).0 in
+    let no_link : is_letter_h (104 ∷ c ∷ cs) ≡ true = has is_no_t (λ c. is_letter_h (104 ∷ c ∷ cs)) c low h refl in
+    (omega arith, pick _ _ _ (or_left _ (is_at_sign (104 ∷ c ∷ cs)) (or_right _ (is_letter_h (104 ∷ c ∷ cs)) no_link)), refl, refl)
+
+text_over : (b : ℕ) (bs : List ℕ) → goes_over place.Text (b ∷ bs) ≡ true → IsOver place.Text b bs
+text_over b bs h = elim (one_of (is_inner b) _ _ h) as (λ _. IsOver place.Text b bs) [
+  | inl e ↦ inner_over b bs e
+  | inr (inl e) ↦ let is = both (b == 32) (begins is_ascii_alphabetic bs) e in subst (λ n. IsOver place.Text n bs) (sym (is_from b 32 is.0)) (blank_over bs is.1)
+  | inr (inr e) ↦ let is = both (b == 104) (begins is_no_t bs) e in subst (λ n. IsOver place.Text n bs) (sym (is_from b 104 is.0)) (h_over bs is.1)
+]
+
+over_is : (p : Place) (b : ℕ) (bs : List ℕ) → goes_over p (b ∷ bs) ≡ true → IsOver p b bs
+over_is place.Text b bs h = text_over b bs h
 over_is place.Blank b bs h =
     let low = white_low b h in
     (low, pick _ _ _ (begins_is b bs low is_whitespace ∙ has is_white is_whitespace b low h refl), has_not is_white (λ c. c == 46) b low h refl, refl)
@@ -92,11 +146,17 @@ over_is (place.RawText n m) b bs h =
 over_is _ b bs h = cc
 
 -- a token goes on over such a byte, and may end after it
-pub over_stays : (p : Place) (k : Behind) (b : ℕ) (bs : List ℕ) → goes_over p b ≡ true → stay (at p k) (b ∷ bs) ≡ Some (at p (behind_byte b))
+pub over_stays : (p : Place) (k : Behind) (b : ℕ) (bs : List ℕ) → goes_over p (b ∷ bs) ≡ true → stay (at p k) (b ∷ bs) ≡ Some (at p (behind_byte b))
 over_stays p k b bs h = let is = over_is p b bs h in goes b bs is.0 p k is.1 is.2
 
-pub over_ends : (p : Place) (b : ℕ) → goes_over p b ≡ true → may_end p ≡ true
-over_ends p b h = (over_is p b [] h).3
+pub over_ends : (p : Place) (b : ℕ) (bs : List ℕ) → goes_over p (b ∷ bs) ≡ true → may_end p ≡ true
+over_ends p b bs h = (over_is p b bs h).3
+
+-- the next ten bytes say whether a token goes over the first of them
+pub over_window : (p : Place) (b : ℕ) (bs : List ℕ) → goes_over p (b ∷ take 9 bs) ≡ goes_over p (b ∷ bs)
+over_window place.Text b [] = refl
+over_window place.Text b (c ∷ cs) = refl
+over_window _ b bs = refl
 
 abbrev is_none : Option Place → Bool
 is_none None = true

@@ -8,6 +8,8 @@ pub mod WhiteRuns
 pub mod Ascii
 pub mod Simple
 pub mod Easy
+pub mod TextRuns
+pub mod QuickTokens
 pub mod Leaps
 pub mod WhiteNext
 pub mod Signs

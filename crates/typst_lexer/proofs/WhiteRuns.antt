@@ -98,7 +98,7 @@ white_run (b ∷ bs) k =
     let found = white_by (goes_on b) (begins_char is_whitespace w) k h bs (λ h. white_run bs h) in
     (found.0 ∙ ap (λ (v : Bool). if goes_on b || v then suc (run_len is_whitespace bs) else 0) (char_window is_whitespace (b ∷ bs)), found.1)
 
-enters_white : (how : Mode) (k : Behind) (w : List ℕ) → is_markup how ≡ false → begins_char is_whitespace w ≡ true → enter how k w ≡ place.Blank
+pub enters_white : (how : Mode) (k : Behind) (w : List ℕ) → is_markup how ≡ false → begins_char is_whitespace w ≡ true → enter how k w ≡ place.Blank
 enters_white modes.Markup k w m e = cc
 enters_white modes.Math k w m e = if_true _ _ _ e
 enters_white modes.Argument k w m e = if_true _ _ _ e
@@ -186,7 +186,7 @@ enter_by true v x e = refl
 enter_by false true x e = refl
 enter_by false false x e = cc
 
-enters_blank : (k : Behind) (t : List ℕ) → begins_char is_blank t ≡ true → enter modes.Markup k (take 10 t) ≡ (if ends_line t then place.Line else place.Space)
+pub enters_blank : (k : Behind) (t : List ℕ) → begins_char is_blank t ≡ true → enter modes.Markup k (take 10 t) ≡ (if ends_line t then place.Line else place.Space)
 enters_blank k t e =
     enter_by (ends_line (take 10 t)) (begins_char is_blank (take 10 t)) _ (char_window is_blank t ∙ e)
     ∙ ap (λ (l : Bool). if l then place.Line else place.Space) (line_window t)

@@ -1,6 +1,6 @@
 -- What an ASCII byte decides at once. Private functions test for it before they go by the rules.
-use Rattle.std.specs.Prelude.{ℕ, ◌==◌, ◌&&◌, ◌||◌, not, nat_le, nat_lt, Bool, true, false, List, [], ◌∷◌, length, if◌then◌else◌}
-use Rattle.std.specs.Char.{is_ascii_alphanumeric, is_ascii_digit, is_whitespace}
+use Rattle.std.specs.Prelude.{ℕ, suc, ◌==◌, ◌&&◌, ◌||◌, not, nat_le, nat_lt, Bool, true, false, List, [], ◌∷◌, length, if◌then◌else◌}
+use Rattle.std.specs.Char.{is_ascii_alphabetic, is_ascii_alphanumeric, is_ascii_digit, is_whitespace}
 use Rattle.std.specs.List.{take_while}
 use Rattle.ucd_breaks.specs.declared.GraphemeClusterBreak.{GraphemeClusterBreak}
 use Rattle.ucd_breaks.specs.declared.GraphemeClusterBreak.TheVariants as breaks
@@ -8,7 +8,7 @@ use Rattle.typst_lexer.specs.declared.place.Behind.{Behind}
 use Rattle.typst_lexer.specs.declared.place.Behind.TheVariants as behind
 use Rattle.typst_lexer.specs.declared.place.Place.{Place}
 use Rattle.typst_lexer.specs.declared.place.Place.TheVariants as place
-use Rattle.typst_lexer.specs.Characters.{is_name, is_white}
+use Rattle.typst_lexer.specs.Characters.{begins, is_name, is_white}
 use Rattle.typst_lexer.specs.Classes.{is_blank, is_newline}
 use Rattle.typst_lexer.specs.Code.{is_suffix}
 use Rattle.typst_lexer.specs.Letters.{is_letter}
@@ -39,20 +39,38 @@ is_commented b = nat_lt b 128 && not (is_newline b || (b == 46))
 abbrev pub is_raw : ℕ → Bool
 is_raw b = nat_lt b 128 && not ((b == 96) || (b == 46))
 
--- A token inside of this goes on over the byte, and is inside of the same after it.
-abbrev pub goes_over : Place → ℕ → Bool
-goes_over place.Text b = is_letter b
-goes_over place.Blank b = is_white b
-goes_over place.Name b = is_name b
-goes_over place.FieldName b = is_name b
-goes_over place.Str b = is_quoted b
-goes_over place.LineComment b = is_commented b
-goes_over (place.RawText n run) b = (run == 0) && is_raw b
-goes_over _ b = false
+-- a digit, or one of `!%(),;?`
+abbrev pub is_mark : ℕ → Bool
+is_mark b = is_ascii_digit b || (b == 33) || (b == 37) || (b == 40) || (b == 41) || (b == 44) || (b == 59) || (b == 63)
+
+-- a byte of ASCII, but no `t`
+abbrev pub is_no_t : ℕ → Bool
+is_no_t b = nat_lt b 128 && not (b == 116)
+
+-- A text begins with a letter, a mark, a blank before a letter, or an `h` that begins no link.
+abbrev pub goes_over_text : List ℕ → Bool
+goes_over_text [] = false
+goes_over_text (b ∷ bs) = is_letter b || is_mark b || ((b == 32) && begins is_ascii_alphabetic bs) || ((b == 104) && begins is_no_t bs)
+
+-- how many bytes from the front on text goes over
+abbrev pub text_len : List ℕ → ℕ
+text_len [] = 0
+text_len (b ∷ bs) = if goes_over_text (b ∷ bs) then suc (text_len bs) else 0
+
+-- A token inside of this goes on over the first byte, and is inside of the same after it.
+abbrev pub goes_over : Place → List ℕ → Bool
+goes_over place.Text bytes = goes_over_text bytes
+goes_over place.Blank bytes = begins is_white bytes
+goes_over place.Name bytes = begins is_name bytes
+goes_over place.FieldName bytes = begins is_name bytes
+goes_over place.Str bytes = begins is_quoted bytes
+goes_over place.LineComment bytes = begins is_commented bytes
+goes_over (place.RawText n run) bytes = (run == 0) && begins is_raw bytes
+goes_over _ bytes = false
 
 -- how many bytes from the front on a token inside of this goes over
 abbrev pub easy_len : Place → List ℕ → ℕ
-easy_len place.Text bytes = length (take_while is_letter bytes)
+easy_len place.Text bytes = text_len bytes
 easy_len place.Blank bytes = length (take_while is_white bytes)
 easy_len place.Name bytes = length (take_while is_name bytes)
 easy_len place.FieldName bytes = length (take_while is_name bytes)

@@ -18,6 +18,7 @@ pub mod Letters
 pub mod Bytes
 pub mod Escapes
 pub mod Spaces
+pub mod Quick
 pub mod White
 pub mod Tokens
 pub mod Left

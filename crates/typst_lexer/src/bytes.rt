@@ -1,7 +1,7 @@
 //! What an ASCII byte decides at once, before a look at the rules: most bytes of a text are such bytes.
-ghost use Rattle.std.specs.Prelude.{◌≡◌, ◌≤◌, length};
+ghost use Rattle.std.specs.Prelude.{◌≡◌, ◌≤◌, ◌<◌, drop, length};
 ghost use Rattle.std.specs.List.{take_while};
-ghost use Rattle.typst_lexer.specs.Bytes.{behind_byte, behind_first, easy_len, ends_at, ends_before, is_alone, is_bracket, is_commented, is_other, is_quoted, is_raw, is_text_end, is_undotted};
+ghost use Rattle.typst_lexer.specs.Bytes.{behind_byte, behind_first, easy_len, ends_at, ends_before, goes_over_text, is_alone, is_bracket, is_commented, is_mark, is_no_t, is_other, is_quoted, is_raw, is_text_end, is_undotted, text_len};
 ghost use Rattle.typst_lexer.specs.Characters.{begins, is_name, is_white};
 ghost use Rattle.typst_lexer.specs.Classes.{is_blank, is_newline};
 ghost use Rattle.typst_lexer.specs.Letters.{is_letter};
@@ -85,16 +85,49 @@ fn is_raw(byte: u8) -> bool
     byte < 128 && !(byte == b'`' || byte == b'.')
 }
 
+/// Whether the byte is a digit, or a sign that text goes over in any case.
+fn is_mark(byte: u8) -> bool
+    ensures { result ≡ is_mark byte }
+{
+    matches!(
+        byte,
+        b'0'..=b'9' | b'!' | b'%' | b'(' | b')' | b',' | b';' | b'?'
+    )
+}
+
+/// Whether the byte is one of ASCII, but no `t`.
+fn is_no_t(byte: u8) -> bool
+    ensures { result ≡ is_no_t byte }
+{
+    byte < 128 && byte != b't'
+}
+
+/// Whether text goes over the byte at a place: a letter, a mark, a space before a letter, or an `h` that begins no link.
+fn goes_over_text(at: usize, bytes: &[u8]) -> bool
+    requires { at < length bytes.now }
+    ensures { result ≡ goes_over_text (drop at bytes.now) }
+{
+    let byte = bytes[at];
+    is_letter(byte)
+        || is_mark(byte)
+        || byte == b' ' && at + 1 < bytes.len() && bytes[at + 1].is_ascii_alphabetic()
+        || byte == b'h' && at + 1 < bytes.len() && is_no_t(bytes[at + 1])
+}
+
 /// How many bytes from the front text goes over.
-fn letters(bytes: &[u8]) -> usize
-    ensures value { result ≡ length (take_while is_letter bytes.now) }
+pub fn text_len(bytes: &[u8]) -> usize
+    ensures value { result ≡ text_len bytes.now }
     ensures within { result ≤ length bytes.now }
 {
-    bytes.iter().take_while(|byte| is_letter(**byte)).count()
+    let mut at = 0;
+    while at < bytes.len() && goes_over_text(at, bytes) {
+        at += 1;
+    }
+    at
 }
 
 /// How many bytes from the front are white space.
-fn blanks(bytes: &[u8]) -> usize
+pub fn blanks(bytes: &[u8]) -> usize
     ensures value { result ≡ length (take_while is_white bytes.now) }
     ensures within { result ≤ length bytes.now }
 {
@@ -102,7 +135,7 @@ fn blanks(bytes: &[u8]) -> usize
 }
 
 /// How many bytes from the front a name goes over.
-fn names(bytes: &[u8]) -> usize
+pub fn names(bytes: &[u8]) -> usize
     ensures value { result ≡ length (take_while is_name bytes.now) }
     ensures within { result ≤ length bytes.now }
 {
@@ -139,7 +172,7 @@ pub fn easy_len(place: Place, bytes: &[u8]) -> usize
     ensures within { result ≤ length bytes.now }
 {
     match place {
-        Place::Text => letters(bytes),
+        Place::Text => text_len(bytes),
         Place::Blank => blanks(bytes),
         Place::Name => names(bytes),
         Place::FieldName => names(bytes),

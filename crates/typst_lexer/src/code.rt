@@ -37,7 +37,7 @@ pub fn stay_name(here: Place, window: &[u8]) -> Option<Place>
 }
 
 /// Whether a dot or `@` is before the place, after which a keyword is a name.
-fn is_field(behind: Behind) -> bool
+pub fn is_field(behind: Behind) -> bool
     ensures { result ≡ is_field behind }
 {
     matches!(behind, Behind::Dot | Behind::At)

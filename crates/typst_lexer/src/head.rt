@@ -18,6 +18,7 @@ use crate::bytes::{behind_byte, easy_len, ends_at};
 use crate::machine::{accepts, begin, kind_of, stay};
 use crate::mode::Mode;
 use crate::place::{Behind, Place, Reading};
+use crate::quick::quick_token;
 use crate::token::TokenKind;
 use crate::window::window;
 
@@ -132,9 +133,8 @@ fn run_of(mode: Mode, behind: Behind, bytes: &[u8]) -> Run
     run
 }
 
-/// The first token of bytes of which there is one at least, in a mode, given what is directly before them. It takes a
-/// step for each byte that is looked at.
-pub fn token_of_bytes(mode: Mode, behind: Behind, bytes: &[u8]) -> FirstToken
+/// The first token of bytes of which there is one at least, as the machine finds it.
+fn token_by_run(mode: Mode, behind: Behind, bytes: &[u8]) -> FirstToken
     requires { 0 < length bytes.now }
     ensures { result ≡ first mode behind bytes.now }
 {
@@ -145,6 +145,24 @@ pub fn token_of_bytes(mode: Mode, behind: Behind, bytes: &[u8]) -> FirstToken
         look: run.passed + AHEAD,
         behind: run.last.behind,
     }
+}
+
+/// The first token of bytes of which there is one at least, in a mode, given what is directly before them. It takes a
+/// step for each byte that is looked at.
+pub fn token_of_bytes(mode: Mode, behind: Behind, bytes: &[u8]) -> FirstToken
+    requires { 0 < length bytes.now }
+    ensures { result ≡ first mode behind bytes.now }
+{
+    let quick = quick_token(mode, behind, bytes);
+    if quick.len > 0 {
+        return FirstToken {
+            kind: quick.kind,
+            len: quick.len,
+            look: quick.len + AHEAD,
+            behind: behind_byte(bytes[quick.len - 1]),
+        };
+    }
+    token_by_run(mode, behind, bytes)
 }
 
 #[tactic(auto, using(crate::proofs::FirstTokens::first_boundary, crate::proofs::FirstTokens::first_looks))]

@@ -48,6 +48,7 @@ pub mod mode;
 mod names;
 mod numbers;
 pub mod place;
+pub mod quick;
 mod shared;
 pub mod token;
 pub mod white;

@@ -23,7 +23,7 @@ pub fn is_start(behind: Behind) -> bool
 }
 
 /// Whether a wordy character is before the place.
-fn is_word(behind: Behind) -> bool
+pub fn is_word(behind: Behind) -> bool
     ensures { result ≡ is_word behind }
 {
     matches!(behind, Behind::Word)

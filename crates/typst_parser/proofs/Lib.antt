@@ -5,11 +5,12 @@ mod Columns
 mod Cutting
 mod Fars
 mod Finding
-mod Fresh
 pub mod FirstBlocks
+mod Fresh
 mod Good
 mod Growing
 mod Heights
+mod Lasts
 mod Links
 mod Local
 mod Loops
@@ -20,8 +21,8 @@ mod RawLaws
 mod RawLines
 mod Retags
 mod Rising
-mod Spanning
 mod Seen
+mod Spanning
 mod Sums
 mod Texts
 mod Tops

@@ -2,7 +2,8 @@
 use Rattle.std.proofs.Common.{◌≡◌, ℕ, zero, suc, ◌<◌, ◌≤◌, min, List, [], ◌∷◌, ◌++◌, length, get_or, refl, sym, ap, ◌∙◌, arith}
 use Rattle.std.proofs.Math.ListN.{set}
 use Rattle.typst_parser.specs.Actions.{rejoined, returned, returned_by}
-use Rattle.typst_parser.specs.Last.{last_of, last_push}
+use Rattle.typst_parser.specs.Last.{last_of}
+use Rattle.typst_parser.proofs.Lasts.{last_push}
 use Rattle.typst_parser.specs.Lists.{changed_at}
 use Rattle.typst_parser.specs.Stack.{Stack}
 use Rattle.typst_parser.specs.declared.stack.Frame.{Frame}

@@ -9,7 +9,8 @@ use Rattle.std.proofs.lemmas.List.Sums.{prefix_len-le-length, prefix_len_passes}
 use Rattle.std.proofs.lemmas.Str.{IsCharBoundary-after_ascii, IsCharBoundary-before_ascii, IsCharBoundary-end, IsCharBoundary-from_rest, IsCharBoundary-start, IsUtf8-between, IsUtf8-drop, IsUtf8-take}
 use Rattle.typst_base.specs.declared.kind.SyntaxKind.TheVariants as kinds
 use Rattle.typst_parser.specs.Events.{bytes, bytes_of, CanBeCut, CanBeCutFrom}
-use Rattle.typst_parser.specs.Last.{last_of, last_was}
+use Rattle.typst_parser.specs.Last.{last_of}
+use Rattle.typst_parser.proofs.Lasts.{last_was}
 use Rattle.typst_parser.specs.Lines.{is_blank, Line, line_len, lines, lines_from, newline_len, whites_len}
 use Rattle.typst_parser.specs.Raw.{block_pieces, body_events, close_len, cut_pieces, dedent, dedented, first_space, if_name, inner_events, is_backtick, is_marked, kept_lines, lang_len, open_len, Piece, piece_behind, pieces_from, plain_pieces, raw_events, raw_parts, shortened, some_lang, some_trimmed, trimmed_end}
 use Rattle.typst_parser.specs.declared.event.Event.{Event}

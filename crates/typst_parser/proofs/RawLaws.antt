@@ -8,7 +8,8 @@ use Rattle.std.specs.List.{prefix_len}
 use Rattle.typst_base.specs.declared.kind.SyntaxKind.{SyntaxKind}
 use Rattle.typst_base.specs.declared.kind.SyntaxKind.TheVariants as kinds
 use Rattle.typst_parser.specs.Events.{but_last, bytes, greatest, last_some, levels_onto}
-use Rattle.typst_parser.specs.Last.{last_of, last_was}
+use Rattle.typst_parser.specs.Last.{last_of}
+use Rattle.typst_parser.proofs.Lasts.{last_was}
 use Rattle.typst_parser.specs.Lines.{is_blank, Line, line_len, lines_from, newline_len}
 use Rattle.typst_parser.specs.Raw.{if_name, block_pieces, body_events, close_len, cut_pieces, dedent, dedented, first_space, inner_events, is_marked, kept_lines, lang_len, open_len, Piece, piece_behind, pieces_from, plain_pieces, raw_events, raw_parts, shortened, some_lang, some_trimmed, trimmed_end, is_backtick}
 use Rattle.typst_parser.specs.declared.event.Event.{Event}

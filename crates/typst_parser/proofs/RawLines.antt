@@ -9,7 +9,8 @@ use Rattle.std.proofs.Math.Seq.{drop-cons, drop-nil}
 use Rattle.typst_parser.specs.LineViews.{line_of}
 use Rattle.typst_parser.specs.Lines.{indent, indent_of, is_blank, Line, line_at, line_len, lines_from, newline_len, white_len, whites_len}
 use Rattle.typst_parser.specs.Raw.{close_len, dedent, inner_events, kept_lines, least_indent, open_len, raw_events, raw_parts, shortened, trimmed_end}
-use Rattle.typst_parser.specs.Last.{last_of, last_push}
+use Rattle.typst_parser.specs.Last.{last_of}
+use Rattle.typst_parser.proofs.Lasts.{last_push}
 use Rattle.typst_base.specs.declared.kind.SyntaxKind.TheVariants as kinds
 use Rattle.typst_parser.specs.declared.event.Event.{Event}
 use Rattle.typst_parser.specs.declared.event.Event.TheVariants.{Leaf, Node}

@@ -7,7 +7,8 @@ use Rattle.typst_parser.specs.Actions.{act, acts, as_unclosed, changed, expected
 use Rattle.typst_parser.specs.Classes.{fault_of}
 use Rattle.typst_parser.specs.Events.{greatest}
 use Rattle.typst_parser.specs.Frames.{ended, events_end, grown, is_looking, is_taken, looking, placed, pushed, settled, settled_by}
-use Rattle.typst_parser.specs.Last.{last_of, last_was}
+use Rattle.typst_parser.specs.Last.{last_of}
+use Rattle.typst_parser.proofs.Lasts.{last_was}
 use Rattle.typst_parser.specs.Lists.{changed_at}
 use Rattle.typst_parser.specs.Reads.{at_token, is_alike, is_read_in, is_settled, is_some_mode, is_white_at, known, mode_of_space, read, skipped, spaced, token_at, tokened, unspaced, whitened}
 use Rattle.typst_parser.specs.Mistakes.{mistaken}
