@@ -261,9 +261,9 @@ impl Stack {
         Ok(())
     }
 
-    /// Does what some actions say, one after the other.
-    #[inline(never)]
-    fn act_all(
+    /// Does what some actions say, one after the other, in a text. A tree has at most so many levels.
+    #[inline(always)]
+    pub(crate) fn acts(
         &mut self,
         alloc: Global,
         text: &[u8],
@@ -276,23 +276,5 @@ impl Stack {
             self.act(alloc, text, *action, most)?;
         }
         Ok(())
-    }
-
-    /// Does what some actions say, one after the other, in a text. A tree has at most so many levels. Most rows have
-    /// none, so no call is made then.
-    #[inline(always)]
-    pub(crate) fn acts(
-        &mut self,
-        alloc: Global,
-        text: &[u8],
-        actions: &[Action],
-        most: usize,
-    ) -> Result<(), AllocError>
-        ensures { OnOk result (stack_of self.new ≡ acts most text.now actions.now (stack_of self.old)) }
-    {
-        if actions.is_empty() {
-            return Ok(());
-        }
-        self.act_all(alloc, text, actions, most)
     }
 }

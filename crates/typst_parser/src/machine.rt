@@ -130,7 +130,7 @@ impl Stack {
         Ok(())
     }
 
-    /// Does what a row says.
+    /// Does what a row says. Most rows have no actions, and then no call is made.
     fn run(
         &mut self,
         alloc: Global,
@@ -141,9 +141,13 @@ impl Stack {
         ensures { OnOk result
             (stack_of self.new ≡ after_row (table_of table.now) text.now (row_of row.now) (stack_of self.old)) }
     {
-        self.acts(alloc, text, row.before, table.most_levels)?;
+        if !row.before.is_empty() {
+            self.acts(alloc, text, row.before, table.most_levels)?;
+        }
         self.take(alloc, text, row.take)?;
-        self.acts(alloc, text, row.after, table.most_levels)?;
+        if !row.after.is_empty() {
+            self.acts(alloc, text, row.after, table.most_levels)?;
+        }
         if let Some(call) = row.call {
             self.call(call)?;
         }

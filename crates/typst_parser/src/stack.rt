@@ -1,6 +1,6 @@
 //! The events so far, and the open frames.
-ghost use Rattle.std.specs.Prelude.{◌≡◌, IfOk, OnOk, Some};
-ghost use Rattle.typst_parser.specs.Frames.{counted, ended, events_end, grown, is_looking, judging, looking, placed, pushed, settled, settled_by};
+ghost use Rattle.std.specs.Prelude.{◌≡◌, IfOk, OnOk};
+ghost use Rattle.typst_parser.specs.Frames.{counted, ended, events_end, grown, is_looking, judging, looking, placed, pushed, settled};
 ghost use Rattle.typst_parser.specs.Lists.{changed_at};
 ghost use Rattle.typst_parser.specs.Stack.{beginning, outermost, start};
 ghost use Rattle.typst_parser.specs.View.{stack_of};
@@ -165,25 +165,17 @@ impl Stack {
     }
 
     /// Makes what is missing an error.
+    #[inline(always)]
     pub(crate) fn settle(&mut self) -> Result<(), AllocError>
         ensures { OnOk result (stack_of self.new ≡ settled (stack_of self.old)) }
     {
-        match self.missing {
-            None => Ok(()),
-            Some(what) => self.push_missing(what),
+        if let Some(what) = self.missing {
+            self.push(Event::Error {
+                fault: Fault::Expected(what),
+                len: 0,
+            })?;
+            self.missing = None;
         }
-    }
-
-    /// Makes an error of what is missing.
-    #[inline(never)]
-    fn push_missing(&mut self, what: Expectation) -> Result<(), AllocError>
-        ensures { OnOk result (stack_of self.new ≡ settled_by (Some what) (stack_of self.old)) }
-    {
-        self.push(Event::Error {
-            fault: Fault::Expected(what),
-            len: 0,
-        })?;
-        self.missing = None;
         Ok(())
     }
 
