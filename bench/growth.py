@@ -31,16 +31,16 @@ BOUNDS = {
     "script: find, run": (1_900, 1_900),
     "script: replace, run": (5_300, 5_400),
     # Texts. An edit is made and taken back: in the middle, or in turns at both ends, with the blocks between them.
-    "text: letter": (60_200, 133_000),
-    "text: letter far": (67_000, 232_000),
-    "text: letter list": (42_500, 131_000),
+    "text: letter": (52_300, 133_000),
+    "text: letter far": (59_000, 232_000),
+    "text: letter list": (39_300, 131_000),
     "text: lines letter": (2_000, 3_600),
     "text: byte_to_line": (210, 250),
     "text: line_column_to_byte": (170, 170),
     "text: place_of": (550, 590),
 }
 # The most instructions for each line of a text that is parsed: of paragraphs, of one block, and of items without blank lines.
-PER_LINE = {"text: parse": (12_500, 12_500), "text: parse block": (16_000, 16_000), "text: parse list": (14_800, 14_800)}
+PER_LINE = {"text: parse": (10_700, 10_700), "text: parse block": (12_600, 12_600), "text: parse list": (13_000, 13_000)}
 # The same for each piece of a text of one line that repeats it: brackets that nothing closes, operators, fields, calls, names.
 PER_PIECE = {
     "text: parse round": (3_240, 3_100),
