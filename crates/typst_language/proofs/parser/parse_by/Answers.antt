@@ -1,4 +1,4 @@
-use Rattle.std.proofs.Common.{refl, rules}
+use Rattle.std.proofs.Common.{refl}
 use Rattle.typst_parser.specs.View.{table_of}
 use Rattle.typst_language.proofs.Made.{made}
 use Rattle.typst_language.proofs.parser.parse_by.Goals as goal
