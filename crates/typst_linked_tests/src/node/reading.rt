@@ -4,7 +4,7 @@ use std::alloc::Global;
 use std::test::Fail;
 use typst_base::SyntaxKind;
 use typst_drawn::{DrawingError, drawn, drawn_all, numbered, sizes};
-use typst_node::{Diagnosis, SyntaxNode};
+use typst_node::{Diagnosis, SyntaxNode, count_nodes};
 
 /// What is shown, a tree, and the words for what is read from it: its kind, its form, its sizes, its diagnosis, its own
 /// text and its full text.
@@ -118,6 +118,19 @@ fn a_placeholder_is_an_empty_leaf(rt: HostRuntime) -> Result<(), Fail> {
     let is_end = SyntaxNode::default() == *end;
     assert_row(&rt, "the default is an end", is_end);
     assert_row(&rt, "a text is not empty", !text.is_empty());
+    Ok(())
+}
+
+#[test]
+fn nodes_of_a_list_are_counted_with_those_below_them(rt: HostRuntime) -> Result<(), Fail> {
+    let nodes = drawn_all(rt.alloc(), "Text:a Markup[ Strong[ Text:b ] Text: ] !m:#")?;
+    assert_row(&rt, "all of them", count_nodes(&nodes) == 6);
+    assert_row(
+        &rt,
+        "one of them",
+        count_nodes(nodes.get(1..2).unwrap_or(&[])) == 4,
+    );
+    assert_row(&rt, "none", count_nodes(&[]) == 0);
     Ok(())
 }
 
