@@ -1,5 +1,5 @@
 -- Columns past the text of a line.
-use Rattle.std.proofs.Common.{◌≡◌, ℕ, ◌+◌, ◌-◌, ◌<◌, ◌≤◌, inl, inr, List, length, take, drop, ap, sym, ◌∙◌, subst, arith, Option, Some, None, sum_by, length-take, length-drop}
+use Rattle.std.proofs.Common.{◌≡◌, ℕ, ◌+◌, ◌-◌, ◌<◌, ◌≤◌, inr, List, length, take, drop, ap, sym, ◌∙◌, arith, Option, Some, None, sum_by, length-take, length-drop}
 use Rattle.std.specs.List.{slice_range}
 use Rattle.std.specs.Prelude.{MatchOption}
 use Rattle.std.proofs.lemmas.List.{take-take}

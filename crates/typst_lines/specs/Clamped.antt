@@ -1,5 +1,5 @@
 -- Columns past the text of a line.
-use Rattle.std.specs.Prelude.{ℕ, ◌≡◌, ◌+◌, ◌-◌, ◌<◌, ◌≤◌, ◌⊎◌, ◌==◌, not, nat_lt, List, length, slice_index, slice_range, sum_by, take, if◌then◌else◌}
+use Rattle.std.specs.Prelude.{ℕ, ◌≡◌, ◌+◌, ◌-◌, ◌<◌, ◌≤◌, ◌⊎◌, ◌==◌, nat_lt, List, length, slice_index, slice_range, sum_by, take, if◌then◌else◌}
 use Rattle.std.specs.declared.ops.Range.{Range}
 use Rattle.typst_lines.specs.Columns.{width, IsPlace}
 use Rattle.typst_lines.specs.LineEnds.{newline_before, within_crlf}

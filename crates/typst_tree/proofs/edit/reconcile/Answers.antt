@@ -1,4 +1,4 @@
-use Rattle.std.proofs.Common.{◌≡◌, ◌∙◌, sym}
+use Rattle.std.proofs.Common.{◌∙◌, sym}
 use Rattle.std.proofs.lemmas.Bool.{false≢true}
 use Rattle.typst_tree.proofs.Refusals.{filed_at}
 use Rattle.typst_tree.proofs.edit.reconcile.Goals as goal
