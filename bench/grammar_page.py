@@ -56,13 +56,13 @@ def state_said(state, frames):
     notes = [f"Mode: {state.mode}."] if state in frames else ["Only what other states have in common."]
     notes += [NEWLINES[state.newline]] if state.newline else []
     notes += ["Deep."] if state.is_deep else []
-    notes += [f"Then the rows of `{state.base}`."] if state.base else []
+    notes += [f"{'Then the' if state.written else 'The'} rows of `{state.base}`."] if state.base else []
     yield f"#### `{state.name}`\n\n{head} {' '.join(notes)}\n"
-    if state.rows:
+    if state.written:
         yield "| token | what happens |\n|---|---|"
-    for signs, condition, actions in state.written:
-        yield f"| {signs_said(signs)}{condition_said(condition)} | {', '.join(map(action_said, actions))} |"
-    yield ""
+        for signs, condition, actions in state.written:
+            yield f"| {signs_said(signs)}{condition_said(condition)} | {', '.join(map(action_said, actions))} |"
+        yield ""
 
 
 def change_said(row):

@@ -87,25 +87,25 @@ row_7 = record {
 abbrev pub row_8 : Row
 row_8 = record {
   condition = conditions.Always;
-  before = [];
+  before = actions.Goto states.CodeEnd ∷ [];
   take = takes.Nothing;
   after = [];
-  call = Some (record { state = states.Statement; number = 0; enters = false; is_deep = false; newline = Some newlines.Context });
+  call = Some (record { state = states.Statement; number = 1; enters = false; is_deep = false; newline = Some newlines.Context });
 }
 
 abbrev pub row_9 : Row
 row_9 = record {
-  condition = conditions.Always;
-  before = actions.Goto states.StatementEnd ∷ [];
+  condition = conditions.Newline;
+  before = actions.Goto states.Code ∷ [];
   take = takes.Nothing;
   after = [];
-  call = Some (record { state = states.Expr; number = 1; enters = false; is_deep = false; newline = None });
+  call = None;
 }
 
 abbrev pub row_10 : Row
 row_10 = record {
   condition = conditions.Always;
-  before = actions.Return ∷ [];
+  before = actions.Expected expectations.SemicolonOrLineBreak ∷ actions.Goto states.Code ∷ [];
   take = takes.Nothing;
   after = [];
   call = None;
@@ -114,9 +114,9 @@ row_10 = record {
 abbrev pub row_11 : Row
 row_11 = record {
   condition = conditions.Always;
-  before = actions.Expected expectations.SemicolonOrLineBreak ∷ actions.Return ∷ [];
-  take = takes.Nothing;
-  after = [];
+  before = [];
+  take = takes.Eat;
+  after = actions.Goto states.Code ∷ [];
   call = None;
 }
 
@@ -187,15 +187,11 @@ code classes.Import = row_8 ∷ []
 code classes.Include = row_8 ∷ []
 code _ = row_7 ∷ []
 
--- an expression of a block of code
-abbrev pub statement : Class → List Row
-statement _ = row_9 ∷ []
-
 -- the end of an expression of a block of code
-abbrev pub statement_end : Class → List Row
-statement_end classes.End = row_10 ∷ []
-statement_end classes.RightBrace = row_10 ∷ []
-statement_end classes.RightBracket = row_10 ∷ []
-statement_end classes.RightParen = row_10 ∷ []
-statement_end classes.Semicolon = row_1 ∷ []
-statement_end _ = row_11 ∷ []
+abbrev pub code_end : Class → List Row
+code_end classes.End = row_9 ∷ row_6 ∷ []
+code_end classes.RightBrace = row_9 ∷ row_6 ∷ []
+code_end classes.RightBracket = row_9 ∷ row_6 ∷ []
+code_end classes.RightParen = row_9 ∷ row_6 ∷ []
+code_end classes.Semicolon = row_9 ∷ row_11 ∷ []
+code_end _ = row_9 ∷ row_10 ∷ []

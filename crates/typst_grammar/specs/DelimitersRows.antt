@@ -132,10 +132,10 @@ row_12 = record {
 abbrev pub row_13 : Row
 row_13 = record {
   condition = conditions.Always;
-  before = actions.Goto states.MathArgRest2 ∷ [];
+  before = actions.Goto states.MathValue ∷ [];
   take = takes.Nothing;
   after = [];
-  call = Some (record { state = states.MathValue; number = 0; enters = false; is_deep = false; newline = None });
+  call = None;
 }
 
 abbrev pub row_14 : Row
@@ -143,7 +143,7 @@ row_14 = record {
   condition = conditions.Always;
   before = [];
   take = takes.Eat;
-  after = actions.Goto states.MathArgRest1 ∷ [];
+  after = actions.Goto states.MathArgRest ∷ [];
   call = Some (record { state = states.MathValue; number = 0; enters = false; is_deep = false; newline = None });
 }
 
@@ -186,7 +186,7 @@ row_18 = record {
 abbrev pub row_19 : Row
 row_19 = record {
   condition = conditions.Always;
-  before = actions.Goto states.MathValue ∷ [];
+  before = actions.Flush ∷ actions.Wrap kinds.Math ∷ actions.Return ∷ [];
   take = takes.Nothing;
   after = [];
   call = None;
@@ -195,23 +195,14 @@ row_19 = record {
 abbrev pub row_20 : Row
 row_20 = record {
   condition = conditions.Always;
-  before = actions.Flush ∷ actions.Wrap kinds.Math ∷ actions.Return ∷ [];
-  take = takes.Nothing;
-  after = [];
-  call = None;
-}
-
-abbrev pub row_21 : Row
-row_21 = record {
-  condition = conditions.Always;
   before = actions.Goto states.MathValueOne ∷ [];
   take = takes.Nothing;
   after = [];
   call = Some (record { state = states.MathExpr; number = 0; enters = false; is_deep = false; newline = None });
 }
 
-abbrev pub row_22 : Row
-row_22 = record {
+abbrev pub row_21 : Row
+row_21 = record {
   condition = conditions.Always;
   before = actions.Goto states.MathValueMore ∷ [];
   take = takes.Nothing;
@@ -219,8 +210,8 @@ row_22 = record {
   call = None;
 }
 
-abbrev pub row_23 : Row
-row_23 = record {
+abbrev pub row_22 : Row
+row_22 = record {
   condition = conditions.Always;
   before = actions.Wrap kinds.Spread ∷ actions.Return ∷ [];
   take = takes.Nothing;
@@ -228,8 +219,8 @@ row_23 = record {
   call = None;
 }
 
-abbrev pub row_24 : Row
-row_24 = record {
+abbrev pub row_23 : Row
+row_23 = record {
   condition = conditions.Always;
   before = actions.Wrap kinds.Named ∷ actions.Return ∷ [];
   take = takes.Nothing;
@@ -322,32 +313,32 @@ math_named classes.Dollar = row_18 ∷ []
 math_named classes.RightParen = row_18 ∷ []
 math_named classes.Comma = row_18 ∷ []
 math_named classes.Semicolon = row_18 ∷ []
-math_named _ = row_19 ∷ []
+math_named _ = row_13 ∷ []
 
 -- the value of an argument
 abbrev pub math_value : Class → List Row
-math_value classes.End = row_20 ∷ []
-math_value classes.Linebreak = row_21 ∷ []
-math_value classes.Escape = row_21 ∷ []
-math_value classes.Hash = row_21 ∷ []
-math_value classes.Dollar = row_20 ∷ []
-math_value classes.LeftBrace = row_21 ∷ []
-math_value classes.RightBrace = row_21 ∷ []
-math_value classes.LeftParen = row_21 ∷ []
-math_value classes.RightParen = row_20 ∷ []
-math_value classes.Comma = row_20 ∷ []
-math_value classes.Semicolon = row_20 ∷ []
-math_value classes.Dot = row_21 ∷ []
-math_value classes.Field = row_21 ∷ []
-math_value classes.Str = row_21 ∷ []
-math_value classes.MathIdent = row_21 ∷ []
-math_value classes.MathLetter = row_21 ∷ []
-math_value classes.MathText = row_21 ∷ []
-math_value classes.MathPrimes = row_21 ∷ []
-math_value classes.Opening = row_21 ∷ []
-math_value classes.Closing = row_21 ∷ []
-math_value classes.Bang = row_21 ∷ []
-math_value classes.Root = row_21 ∷ []
+math_value classes.End = row_19 ∷ []
+math_value classes.Linebreak = row_20 ∷ []
+math_value classes.Escape = row_20 ∷ []
+math_value classes.Hash = row_20 ∷ []
+math_value classes.Dollar = row_19 ∷ []
+math_value classes.LeftBrace = row_20 ∷ []
+math_value classes.RightBrace = row_20 ∷ []
+math_value classes.LeftParen = row_20 ∷ []
+math_value classes.RightParen = row_19 ∷ []
+math_value classes.Comma = row_19 ∷ []
+math_value classes.Semicolon = row_19 ∷ []
+math_value classes.Dot = row_20 ∷ []
+math_value classes.Field = row_20 ∷ []
+math_value classes.Str = row_20 ∷ []
+math_value classes.MathIdent = row_20 ∷ []
+math_value classes.MathLetter = row_20 ∷ []
+math_value classes.MathText = row_20 ∷ []
+math_value classes.MathPrimes = row_20 ∷ []
+math_value classes.Opening = row_20 ∷ []
+math_value classes.Closing = row_20 ∷ []
+math_value classes.Bang = row_20 ∷ []
+math_value classes.Root = row_20 ∷ []
 math_value _ = row_3 ∷ []
 
 -- whether one expression is the value
@@ -357,7 +348,7 @@ math_value_one classes.Dollar = row_2 ∷ []
 math_value_one classes.RightParen = row_2 ∷ []
 math_value_one classes.Comma = row_2 ∷ []
 math_value_one classes.Semicolon = row_2 ∷ []
-math_value_one _ = row_22 ∷ []
+math_value_one _ = row_21 ∷ []
 
 -- the value of an argument from the second expression on
 abbrev pub math_value_more : Class → List Row
@@ -386,13 +377,9 @@ math_value_more classes.Root = row_4 ∷ []
 math_value_more _ = row_3 ∷ []
 
 -- the rest of a row of `math.arg`, once the frame that it opened has returned
-abbrev pub math_arg_rest1 : Class → List Row
-math_arg_rest1 _ = row_23 ∷ []
-
--- the rest of a row of `math.arg`, once the frame that it opened has returned
-abbrev pub math_arg_rest2 : Class → List Row
-math_arg_rest2 _ = row_2 ∷ []
+abbrev pub math_arg_rest : Class → List Row
+math_arg_rest _ = row_22 ∷ []
 
 -- the rest of a row of `math.arg.colon`, once the frame that it opened has returned
 abbrev pub math_arg_colon_rest : Class → List Row
-math_arg_colon_rest _ = row_24 ∷ []
+math_arg_colon_rest _ = row_23 ∷ []

@@ -15,7 +15,7 @@ use Rattle.typst_grammar.specs.Row.{Row}
 abbrev pub row_0 : Row
 row_0 = record {
   condition = conditions.Always;
-  before = actions.Goto states.ImportColon ∷ [];
+  before = actions.Wrap kinds.ModuleImport ∷ actions.Goto states.ExprAfter ∷ [];
   take = takes.Nothing;
   after = [];
   call = None;
@@ -26,30 +26,21 @@ row_1 = record {
   condition = conditions.Always;
   before = [];
   take = takes.Eat;
-  after = actions.Goto states.ImportColon ∷ [];
-  call = Some (record { state = states.Name; number = 0; enters = false; is_deep = false; newline = None });
+  after = actions.Goto states.ImportWhat ∷ [];
+  call = None;
 }
 
 abbrev pub row_2 : Row
 row_2 = record {
   condition = conditions.Always;
-  before = actions.Wrap kinds.ModuleImport ∷ actions.Goto states.ExprAfter ∷ [];
-  take = takes.Nothing;
-  after = [];
-  call = None;
+  before = [];
+  take = takes.Eat;
+  after = actions.Goto states.ImportColon ∷ [];
+  call = Some (record { state = states.Name; number = 0; enters = false; is_deep = false; newline = None });
 }
 
 abbrev pub row_3 : Row
 row_3 = record {
-  condition = conditions.Always;
-  before = [];
-  take = takes.Eat;
-  after = actions.Goto states.ImportWhat ∷ [];
-  call = None;
-}
-
-abbrev pub row_4 : Row
-row_4 = record {
   condition = conditions.Always;
   before = actions.Goto states.ImportWhatRest2 ∷ [];
   take = takes.Nothing;
@@ -57,8 +48,8 @@ row_4 = record {
   call = Some (record { state = states.Imports; number = 0; enters = false; is_deep = false; newline = None });
 }
 
-abbrev pub row_5 : Row
-row_5 = record {
+abbrev pub row_4 : Row
+row_4 = record {
   condition = conditions.Always;
   before = actions.Goto states.ImportWhatRest1 ∷ [];
   take = takes.Nothing;
@@ -66,8 +57,8 @@ row_5 = record {
   call = Some (record { state = states.ImportList; number = 0; enters = false; is_deep = true; newline = Some newlines.Go });
 }
 
-abbrev pub row_6 : Row
-row_6 = record {
+abbrev pub row_5 : Row
+row_5 = record {
   condition = conditions.Always;
   before = [];
   take = takes.Eat;
@@ -75,8 +66,8 @@ row_6 = record {
   call = None;
 }
 
-abbrev pub row_7 : Row
-row_7 = record {
+abbrev pub row_6 : Row
+row_6 = record {
   condition = conditions.Always;
   before = [];
   take = takes.Eat;
@@ -84,8 +75,8 @@ row_7 = record {
   call = Some (record { state = states.Imports; number = 0; enters = false; is_deep = false; newline = None });
 }
 
-abbrev pub row_8 : Row
-row_8 = record {
+abbrev pub row_7 : Row
+row_7 = record {
   condition = conditions.Always;
   before = actions.Wrap kinds.ImportItems ∷ actions.Return ∷ [];
   take = takes.Nothing;
@@ -93,8 +84,8 @@ row_8 = record {
   call = None;
 }
 
-abbrev pub row_9 : Row
-row_9 = record {
+abbrev pub row_8 : Row
+row_8 = record {
   condition = conditions.Always;
   before = actions.Goto states.ImportsComma ∷ [];
   take = takes.Nothing;
@@ -102,10 +93,19 @@ row_9 = record {
   call = Some (record { state = states.Imported; number = 0; enters = false; is_deep = false; newline = None });
 }
 
+abbrev pub row_9 : Row
+row_9 = record {
+  condition = conditions.Always;
+  before = actions.Goto states.Imports ∷ [];
+  take = takes.Nothing;
+  after = [];
+  call = None;
+}
+
 abbrev pub row_10 : Row
 row_10 = record {
   condition = conditions.Always;
-  before = actions.Goto states.Imports ∷ [];
+  before = actions.Expected expectations.Comma ∷ actions.Goto states.Imports ∷ [];
   take = takes.Nothing;
   after = [];
   call = None;
@@ -114,9 +114,9 @@ row_10 = record {
 abbrev pub row_11 : Row
 row_11 = record {
   condition = conditions.Always;
-  before = actions.Expected expectations.Comma ∷ actions.Goto states.Imports ∷ [];
-  take = takes.Nothing;
-  after = [];
+  before = [];
+  take = takes.Eat;
+  after = actions.Goto states.Imports ∷ [];
   call = None;
 }
 
@@ -124,8 +124,8 @@ abbrev pub row_12 : Row
 row_12 = record {
   condition = conditions.Always;
   before = [];
-  take = takes.Eat;
-  after = actions.Goto states.Imports ∷ [];
+  take = takes.Unexpected;
+  after = actions.Goto states.ImportedPath ∷ [];
   call = None;
 }
 
@@ -133,7 +133,7 @@ abbrev pub row_13 : Row
 row_13 = record {
   condition = conditions.Always;
   before = [];
-  take = takes.Unexpected;
+  take = takes.Eat;
   after = actions.Goto states.ImportedPath ∷ [];
   call = None;
 }
@@ -141,23 +141,14 @@ row_13 = record {
 abbrev pub row_14 : Row
 row_14 = record {
   condition = conditions.Always;
-  before = [];
-  take = takes.Eat;
-  after = actions.Goto states.ImportedPath ∷ [];
-  call = None;
-}
-
-abbrev pub row_15 : Row
-row_15 = record {
-  condition = conditions.Always;
   before = actions.Wrap kinds.ImportItemPath ∷ actions.Return ∷ [];
   take = takes.Nothing;
   after = [];
   call = None;
 }
 
-abbrev pub row_16 : Row
-row_16 = record {
+abbrev pub row_15 : Row
+row_15 = record {
   condition = conditions.Always;
   before = [];
   take = takes.Eat;
@@ -165,8 +156,8 @@ row_16 = record {
   call = Some (record { state = states.Name; number = 0; enters = false; is_deep = false; newline = None });
 }
 
-abbrev pub row_17 : Row
-row_17 = record {
+abbrev pub row_16 : Row
+row_16 = record {
   condition = conditions.Always;
   before = actions.Wrap kinds.ImportItemPath ∷ [];
   take = takes.Eat;
@@ -174,8 +165,8 @@ row_17 = record {
   call = Some (record { state = states.Name; number = 0; enters = false; is_deep = false; newline = None });
 }
 
-abbrev pub row_18 : Row
-row_18 = record {
+abbrev pub row_17 : Row
+row_17 = record {
   condition = conditions.Always;
   before = actions.Wrap kinds.RenamedImportItem ∷ actions.Return ∷ [];
   take = takes.Nothing;
@@ -185,64 +176,65 @@ row_18 = record {
 
 -- what follows the source of an import
 abbrev pub import_as : Class → List Row
-import_as classes.As = row_1 ∷ []
+import_as classes.Colon = row_1 ∷ []
+import_as classes.As = row_2 ∷ []
 import_as _ = row_0 ∷ []
 
 -- the colon of an import
 abbrev pub import_colon : Class → List Row
-import_colon classes.Colon = row_3 ∷ []
-import_colon _ = row_2 ∷ []
+import_colon classes.Colon = row_1 ∷ []
+import_colon _ = row_0 ∷ []
 
 -- what is imported
 abbrev pub import_what : Class → List Row
-import_what classes.LeftParen = row_5 ∷ []
-import_what classes.Star = row_6 ∷ []
-import_what _ = row_4 ∷ []
+import_what classes.LeftParen = row_4 ∷ []
+import_what classes.Star = row_5 ∷ []
+import_what _ = row_3 ∷ []
 
 -- items of an import in a parenthesis
 abbrev pub import_list : Class → List Row
-import_list classes.LeftParen = row_7 ∷ []
+import_list classes.LeftParen = row_6 ∷ []
 import_list _ = []
 
 -- the items of an import
 abbrev pub imports : Class → List Row
-imports classes.End = row_8 ∷ []
-imports classes.RightBrace = row_8 ∷ []
-imports classes.RightBracket = row_8 ∷ []
-imports classes.RightParen = row_8 ∷ []
-imports classes.Semicolon = row_8 ∷ []
-imports _ = row_9 ∷ []
+imports classes.End = row_7 ∷ []
+imports classes.RightBrace = row_7 ∷ []
+imports classes.RightBracket = row_7 ∷ []
+imports classes.RightParen = row_7 ∷ []
+imports classes.Semicolon = row_7 ∷ []
+imports _ = row_8 ∷ []
 
 -- the comma behind an item of an import
 abbrev pub imports_comma : Class → List Row
-imports_comma classes.End = row_10 ∷ []
-imports_comma classes.RightBrace = row_10 ∷ []
-imports_comma classes.RightBracket = row_10 ∷ []
-imports_comma classes.RightParen = row_10 ∷ []
-imports_comma classes.Comma = row_12 ∷ []
-imports_comma classes.Semicolon = row_10 ∷ []
-imports_comma _ = row_11 ∷ []
+imports_comma classes.End = row_9 ∷ []
+imports_comma classes.RightBrace = row_9 ∷ []
+imports_comma classes.RightBracket = row_9 ∷ []
+imports_comma classes.RightParen = row_9 ∷ []
+imports_comma classes.Comma = row_11 ∷ []
+imports_comma classes.Semicolon = row_9 ∷ []
+imports_comma _ = row_10 ∷ []
 
 -- an item of an import
 abbrev pub imported : Class → List Row
-imported classes.Ident = row_14 ∷ []
-imported _ = row_13 ∷ []
+imported classes.Ident = row_13 ∷ []
+imported _ = row_12 ∷ []
 
 -- the path of an item, and the name that it gets
 abbrev pub imported_path : Class → List Row
-imported_path classes.Dot = row_16 ∷ []
-imported_path classes.Field = row_16 ∷ []
-imported_path classes.As = row_17 ∷ []
-imported_path _ = row_15 ∷ []
+imported_path classes.Dot = row_15 ∷ []
+imported_path classes.Field = row_15 ∷ []
+imported_path classes.As = row_16 ∷ []
+imported_path _ = row_14 ∷ []
 
 -- the rest of a row of `import.what`, once the frame that it opened has returned
 abbrev pub import_what_rest1 : Class → List Row
-import_what_rest1 _ = row_2 ∷ []
+import_what_rest1 _ = row_0 ∷ []
 
 -- the rest of a row of `import.what`, once the frame that it opened has returned
 abbrev pub import_what_rest2 : Class → List Row
-import_what_rest2 _ = row_2 ∷ []
+import_what_rest2 _ = row_0 ∷ []
 
 -- the rest of a row of `imported.path`, once the frame that it opened has returned
 abbrev pub imported_path_rest : Class → List Row
-imported_path_rest _ = row_18 ∷ []
+imported_path_rest _ = row_17 ∷ []

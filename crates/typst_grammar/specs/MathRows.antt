@@ -160,88 +160,7 @@ row_15 = record {
 abbrev pub row_16 : Row
 row_16 = record {
   condition = conditions.Always;
-  before = actions.Goto states.MathJoined ∷ [];
-  take = takes.Nothing;
-  after = [];
-  call = None;
-}
-
-abbrev pub row_17 : Row
-row_17 = record {
-  condition = conditions.Direct;
-  before = actions.Goto states.MathIdentRest2 ∷ [];
-  take = takes.Nothing;
-  after = [];
-  call = Some (record { state = states.MathArgs; number = 0; enters = false; is_deep = true; newline = None });
-}
-
-abbrev pub row_18 : Row
-row_18 = record {
-  condition = conditions.Direct;
-  before = [];
-  take = takes.Eat;
-  after = actions.Goto states.MathIdentRest1 ∷ [];
-  call = Some (record { state = states.Field; number = 0; enters = false; is_deep = false; newline = None });
-}
-
-abbrev pub row_19 : Row
-row_19 = record {
-  condition = conditions.Always;
-  before = [];
-  take = takes.EatAs kinds.MathIdent;
-  after = actions.Return ∷ [];
-  call = None;
-}
-
-abbrev pub row_20 : Row
-row_20 = record {
-  condition = conditions.Always;
-  before = actions.Goto states.MathAfter ∷ [];
-  take = takes.Nothing;
-  after = [];
-  call = None;
-}
-
-abbrev pub row_21 : Row
-row_21 = record {
-  condition = conditions.Direct;
-  before = actions.Goto states.MathJoinedRest ∷ [];
-  take = takes.Nothing;
-  after = [];
-  call = Some (record { state = states.Delimited; number = 0; enters = false; is_deep = true; newline = None });
-}
-
-abbrev pub row_22 : Row
-row_22 = record {
-  condition = conditions.Always;
   before = actions.Retag maps.Unparen ∷ actions.Wrap kinds.MathRoot ∷ actions.Goto states.MathAfter ∷ [];
-  take = takes.Nothing;
-  after = [];
-  call = None;
-}
-
-abbrev pub row_23 : Row
-row_23 = record {
-  condition = conditions.Always;
-  before = actions.Wrap kinds.MathFieldAccess ∷ actions.Goto states.MathIdent ∷ [];
-  take = takes.Nothing;
-  after = [];
-  call = None;
-}
-
-abbrev pub row_24 : Row
-row_24 = record {
-  condition = conditions.Always;
-  before = actions.Wrap kinds.MathCall ∷ actions.Goto states.MathAfter ∷ [];
-  take = takes.Nothing;
-  after = [];
-  call = None;
-}
-
-abbrev pub row_25 : Row
-row_25 = record {
-  condition = conditions.Always;
-  before = actions.Wrap kinds.Math ∷ actions.Goto states.MathAfter ∷ [];
   take = takes.Nothing;
   after = [];
   call = None;
@@ -307,45 +226,14 @@ math_expr classes.Bang = row_11 ∷ []
 math_expr classes.Root = row_13 ∷ row_14 ∷ row_15 ∷ []
 math_expr _ = row_6 ∷ []
 
--- what may follow a name in math directly
-abbrev pub math_ident : Class → List Row
-math_ident classes.LeftParen = row_17 ∷ row_16 ∷ []
-math_ident classes.Field = row_18 ∷ row_16 ∷ []
-math_ident _ = row_16 ∷ []
-
--- the name of a field in math
-abbrev pub field : Class → List Row
-field classes.MathIdent = row_19 ∷ []
-field classes.MathLetter = row_19 ∷ []
-field _ = []
-
--- a delimiter directly behind a name, a letter or a string
-abbrev pub math_joined : Class → List Row
-math_joined classes.LeftBrace = row_21 ∷ row_20 ∷ []
-math_joined classes.LeftParen = row_21 ∷ row_20 ∷ []
-math_joined classes.Opening = row_21 ∷ row_20 ∷ []
-math_joined _ = row_20 ∷ []
-
 -- the rest of a row of `math.expr`, once the frame that it opened has returned
 abbrev pub math_expr_rest1 : Class → List Row
-math_expr_rest1 _ = row_22 ∷ []
+math_expr_rest1 _ = row_16 ∷ []
 
 -- the rest of a row of `math.expr`, once the frame that it opened has returned
 abbrev pub math_expr_rest2 : Class → List Row
-math_expr_rest2 _ = row_22 ∷ []
+math_expr_rest2 _ = row_16 ∷ []
 
 -- the rest of a row of `math.expr`, once the frame that it opened has returned
 abbrev pub math_expr_rest3 : Class → List Row
-math_expr_rest3 _ = row_22 ∷ []
-
--- the rest of a row of `math.ident`, once the frame that it opened has returned
-abbrev pub math_ident_rest1 : Class → List Row
-math_ident_rest1 _ = row_23 ∷ []
-
--- the rest of a row of `math.ident`, once the frame that it opened has returned
-abbrev pub math_ident_rest2 : Class → List Row
-math_ident_rest2 _ = row_24 ∷ []
-
--- the rest of a row of `math.joined`, once the frame that it opened has returned
-abbrev pub math_joined_rest : Class → List Row
-math_joined_rest _ = row_25 ∷ []
+math_expr_rest3 _ = row_16 ∷ []

@@ -1,6 +1,6 @@
 -- Written by bench/grammar_crate.py from crates/grammar.table: change that and run it.
 -- The rows of what may follow an expression in math.
-use Rattle.std.specs.Prelude.{List, [], ◌∷◌, false, Some, None}
+use Rattle.std.specs.Prelude.{List, [], ◌∷◌, true, false, Some, None}
 use Rattle.typst_base.specs.declared.kind.SyntaxKind.TheVariants as kinds
 use Rattle.typst_grammar.specs.declared.maps.Map.TheVariants as maps
 use Rattle.typst_grammar.specs.declared.row.Action.TheVariants as actions
@@ -22,6 +22,33 @@ row_0 = record {
 
 abbrev pub row_1 : Row
 row_1 = record {
+  condition = conditions.Direct;
+  before = actions.Goto states.MathJoinedRest ∷ [];
+  take = takes.Nothing;
+  after = [];
+  call = Some (record { state = states.Delimited; number = 0; enters = false; is_deep = true; newline = None });
+}
+
+abbrev pub row_2 : Row
+row_2 = record {
+  condition = conditions.Direct;
+  before = actions.Goto states.MathIdentRest2 ∷ [];
+  take = takes.Nothing;
+  after = [];
+  call = Some (record { state = states.MathArgs; number = 0; enters = false; is_deep = true; newline = None });
+}
+
+abbrev pub row_3 : Row
+row_3 = record {
+  condition = conditions.Direct;
+  before = [];
+  take = takes.Eat;
+  after = actions.Goto states.MathIdentRest1 ∷ [];
+  call = Some (record { state = states.Field; number = 0; enters = false; is_deep = false; newline = None });
+}
+
+abbrev pub row_4 : Row
+row_4 = record {
   condition = conditions.Is 0;
   before = actions.Retag maps.Unparen ∷ [];
   take = takes.Eat;
@@ -29,36 +56,9 @@ row_1 = record {
   call = Some (record { state = states.MathExpr; number = 1; enters = false; is_deep = false; newline = None });
 }
 
-abbrev pub row_2 : Row
-row_2 = record {
-  condition = conditions.Is 3;
-  before = actions.Return ∷ [];
-  take = takes.Nothing;
-  after = [];
-  call = None;
-}
-
-abbrev pub row_3 : Row
-row_3 = record {
-  condition = conditions.Always;
-  before = [];
-  take = takes.Eat;
-  after = actions.Goto states.MathAfterRest1 ∷ [];
-  call = Some (record { state = states.MathExpr; number = 2; enters = false; is_deep = false; newline = None });
-}
-
-abbrev pub row_4 : Row
-row_4 = record {
-  condition = conditions.Direct;
-  before = [];
-  take = takes.Eat;
-  after = actions.Goto states.MathPrimed ∷ [];
-  call = None;
-}
-
 abbrev pub row_5 : Row
 row_5 = record {
-  condition = conditions.Is 2;
+  condition = conditions.Is 3;
   before = actions.Return ∷ [];
   take = takes.Nothing;
   after = [];
@@ -70,23 +70,23 @@ row_6 = record {
   condition = conditions.Always;
   before = [];
   take = takes.Eat;
-  after = actions.Goto states.MathAfterRest2 ∷ [];
-  call = Some (record { state = states.MathExpr; number = 3; enters = false; is_deep = false; newline = None });
+  after = actions.Goto states.MathAfterRest1 ∷ [];
+  call = Some (record { state = states.MathExpr; number = 2; enters = false; is_deep = false; newline = None });
 }
 
 abbrev pub row_7 : Row
 row_7 = record {
   condition = conditions.Direct;
   before = [];
-  take = takes.EatAs kinds.MathText;
-  after = actions.Wrap kinds.Math ∷ actions.Goto states.MathAfter ∷ [];
+  take = takes.Eat;
+  after = actions.Goto states.MathPrimed ∷ [];
   call = None;
 }
 
 abbrev pub row_8 : Row
 row_8 = record {
-  condition = conditions.Always;
-  before = actions.Wrap kinds.MathAttach ∷ actions.Goto states.MathAfter ∷ [];
+  condition = conditions.Is 2;
+  before = actions.Return ∷ [];
   take = takes.Nothing;
   after = [];
   call = None;
@@ -94,6 +94,42 @@ row_8 = record {
 
 abbrev pub row_9 : Row
 row_9 = record {
+  condition = conditions.Always;
+  before = [];
+  take = takes.Eat;
+  after = actions.Goto states.MathAfterRest2 ∷ [];
+  call = Some (record { state = states.MathExpr; number = 3; enters = false; is_deep = false; newline = None });
+}
+
+abbrev pub row_10 : Row
+row_10 = record {
+  condition = conditions.Direct;
+  before = [];
+  take = takes.EatAs kinds.MathText;
+  after = actions.Wrap kinds.Math ∷ actions.Goto states.MathAfter ∷ [];
+  call = None;
+}
+
+abbrev pub row_11 : Row
+row_11 = record {
+  condition = conditions.Always;
+  before = [];
+  take = takes.EatAs kinds.MathIdent;
+  after = actions.Return ∷ [];
+  call = None;
+}
+
+abbrev pub row_12 : Row
+row_12 = record {
+  condition = conditions.Always;
+  before = actions.Wrap kinds.MathAttach ∷ actions.Goto states.MathAfter ∷ [];
+  take = takes.Nothing;
+  after = [];
+  call = None;
+}
+
+abbrev pub row_13 : Row
+row_13 = record {
   condition = conditions.Is 3;
   before = actions.Wrap kinds.MathAttach ∷ actions.Return ∷ [];
   take = takes.Nothing;
@@ -101,8 +137,8 @@ row_9 = record {
   call = None;
 }
 
-abbrev pub row_10 : Row
-row_10 = record {
+abbrev pub row_14 : Row
+row_14 = record {
   condition = conditions.Always;
   before = [];
   take = takes.Eat;
@@ -110,46 +146,10 @@ row_10 = record {
   call = Some (record { state = states.MathExpr; number = 2; enters = false; is_deep = false; newline = None });
 }
 
-abbrev pub row_11 : Row
-row_11 = record {
-  condition = conditions.Is 2;
-  before = actions.Wrap kinds.MathAttach ∷ actions.Return ∷ [];
-  take = takes.Nothing;
-  after = [];
-  call = None;
-}
-
-abbrev pub row_12 : Row
-row_12 = record {
-  condition = conditions.Always;
-  before = [];
-  take = takes.Eat;
-  after = actions.Goto states.MathPrimedRest2 ∷ [];
-  call = Some (record { state = states.MathExpr; number = 3; enters = false; is_deep = false; newline = None });
-}
-
-abbrev pub row_13 : Row
-row_13 = record {
-  condition = conditions.Always;
-  before = [];
-  take = takes.Eat;
-  after = actions.Goto states.MathBelowRest ∷ [];
-  call = Some (record { state = states.MathExpr; number = 1; enters = false; is_deep = false; newline = None });
-}
-
-abbrev pub row_14 : Row
-row_14 = record {
-  condition = conditions.Always;
-  before = [];
-  take = takes.Eat;
-  after = actions.Goto states.MathAboveRest ∷ [];
-  call = Some (record { state = states.MathExpr; number = 1; enters = false; is_deep = false; newline = None });
-}
-
 abbrev pub row_15 : Row
 row_15 = record {
-  condition = conditions.Always;
-  before = actions.Retag maps.Unparen ∷ actions.Goto states.MathBelow ∷ [];
+  condition = conditions.Is 2;
+  before = actions.Wrap kinds.MathAttach ∷ actions.Return ∷ [];
   take = takes.Nothing;
   after = [];
   call = None;
@@ -158,14 +158,77 @@ row_15 = record {
 abbrev pub row_16 : Row
 row_16 = record {
   condition = conditions.Always;
+  before = [];
+  take = takes.Eat;
+  after = actions.Goto states.MathPrimedRest2 ∷ [];
+  call = Some (record { state = states.MathExpr; number = 3; enters = false; is_deep = false; newline = None });
+}
+
+abbrev pub row_17 : Row
+row_17 = record {
+  condition = conditions.Always;
+  before = [];
+  take = takes.Eat;
+  after = actions.Goto states.MathBelowRest ∷ [];
+  call = Some (record { state = states.MathExpr; number = 1; enters = false; is_deep = false; newline = None });
+}
+
+abbrev pub row_18 : Row
+row_18 = record {
+  condition = conditions.Always;
+  before = [];
+  take = takes.Eat;
+  after = actions.Goto states.MathAboveRest ∷ [];
+  call = Some (record { state = states.MathExpr; number = 1; enters = false; is_deep = false; newline = None });
+}
+
+abbrev pub row_19 : Row
+row_19 = record {
+  condition = conditions.Always;
+  before = actions.Wrap kinds.MathFieldAccess ∷ actions.Goto states.MathIdent ∷ [];
+  take = takes.Nothing;
+  after = [];
+  call = None;
+}
+
+abbrev pub row_20 : Row
+row_20 = record {
+  condition = conditions.Always;
+  before = actions.Wrap kinds.MathCall ∷ actions.Goto states.MathAfter ∷ [];
+  take = takes.Nothing;
+  after = [];
+  call = None;
+}
+
+abbrev pub row_21 : Row
+row_21 = record {
+  condition = conditions.Always;
+  before = actions.Wrap kinds.Math ∷ actions.Goto states.MathAfter ∷ [];
+  take = takes.Nothing;
+  after = [];
+  call = None;
+}
+
+abbrev pub row_22 : Row
+row_22 = record {
+  condition = conditions.Always;
+  before = actions.Retag maps.Unparen ∷ actions.Goto states.MathBelow ∷ [];
+  take = takes.Nothing;
+  after = [];
+  call = None;
+}
+
+abbrev pub row_23 : Row
+row_23 = record {
+  condition = conditions.Always;
   before = actions.Retag maps.Unparen ∷ actions.Goto states.MathAbove ∷ [];
   take = takes.Nothing;
   after = [];
   call = None;
 }
 
-abbrev pub row_17 : Row
-row_17 = record {
+abbrev pub row_24 : Row
+row_24 = record {
   condition = conditions.Always;
   before = actions.Retag maps.Unparen ∷ actions.Wrap kinds.MathFrac ∷ actions.Goto states.MathAfter ∷ [];
   take = takes.Nothing;
@@ -173,8 +236,8 @@ row_17 = record {
   call = None;
 }
 
-abbrev pub row_18 : Row
-row_18 = record {
+abbrev pub row_25 : Row
+row_25 = record {
   condition = conditions.Always;
   before = actions.Retag maps.Unparen ∷ actions.Wrap kinds.MathAttach ∷ actions.Goto states.MathAfter ∷ [];
   take = takes.Nothing;
@@ -182,55 +245,98 @@ row_18 = record {
   call = None;
 }
 
+-- what may follow a name in math directly
+abbrev pub math_ident : Class → List Row
+math_ident classes.LeftBrace = row_1 ∷ row_0 ∷ []
+math_ident classes.LeftParen = row_2 ∷ row_1 ∷ row_0 ∷ []
+math_ident classes.Field = row_3 ∷ row_0 ∷ []
+math_ident classes.Slash = row_4 ∷ row_0 ∷ []
+math_ident classes.Underscore = row_5 ∷ row_6 ∷ []
+math_ident classes.MathPrimes = row_7 ∷ row_0 ∷ []
+math_ident classes.Opening = row_1 ∷ row_0 ∷ []
+math_ident classes.Hat = row_8 ∷ row_9 ∷ []
+math_ident classes.Bang = row_10 ∷ row_0 ∷ []
+math_ident _ = row_0 ∷ []
+
+-- the name of a field in math
+abbrev pub field : Class → List Row
+field classes.MathIdent = row_11 ∷ []
+field classes.MathLetter = row_11 ∷ []
+field _ = []
+
+-- a delimiter directly behind a name, a letter or a string
+abbrev pub math_joined : Class → List Row
+math_joined classes.LeftBrace = row_1 ∷ row_0 ∷ []
+math_joined classes.LeftParen = row_1 ∷ row_0 ∷ []
+math_joined classes.Slash = row_4 ∷ row_0 ∷ []
+math_joined classes.Underscore = row_5 ∷ row_6 ∷ []
+math_joined classes.MathPrimes = row_7 ∷ row_0 ∷ []
+math_joined classes.Opening = row_1 ∷ row_0 ∷ []
+math_joined classes.Hat = row_8 ∷ row_9 ∷ []
+math_joined classes.Bang = row_10 ∷ row_0 ∷ []
+math_joined _ = row_0 ∷ []
+
 -- what may follow an expression in math
 abbrev pub math_after : Class → List Row
-math_after classes.Slash = row_1 ∷ row_0 ∷ []
-math_after classes.Underscore = row_2 ∷ row_3 ∷ []
-math_after classes.MathPrimes = row_4 ∷ row_0 ∷ []
-math_after classes.Hat = row_5 ∷ row_6 ∷ []
-math_after classes.Bang = row_7 ∷ row_0 ∷ []
+math_after classes.Slash = row_4 ∷ row_0 ∷ []
+math_after classes.Underscore = row_5 ∷ row_6 ∷ []
+math_after classes.MathPrimes = row_7 ∷ row_0 ∷ []
+math_after classes.Hat = row_8 ∷ row_9 ∷ []
+math_after classes.Bang = row_10 ∷ row_0 ∷ []
 math_after _ = row_0 ∷ []
 
 -- what may follow primes
 abbrev pub math_primed : Class → List Row
-math_primed classes.Underscore = row_9 ∷ row_10 ∷ []
-math_primed classes.Hat = row_11 ∷ row_12 ∷ []
-math_primed _ = row_8 ∷ []
+math_primed classes.Underscore = row_13 ∷ row_14 ∷ []
+math_primed classes.Hat = row_15 ∷ row_16 ∷ []
+math_primed _ = row_12 ∷ []
 
 -- whether a script above follows the one below
 abbrev pub math_below : Class → List Row
-math_below classes.Hat = row_13 ∷ []
-math_below _ = row_8 ∷ []
+math_below classes.Hat = row_17 ∷ []
+math_below _ = row_12 ∷ []
 
 -- whether a script below follows the one above
 abbrev pub math_above : Class → List Row
-math_above classes.Underscore = row_14 ∷ []
-math_above _ = row_8 ∷ []
+math_above classes.Underscore = row_18 ∷ []
+math_above _ = row_12 ∷ []
+
+-- the rest of a row of `math.ident`, once the frame that it opened has returned
+abbrev pub math_ident_rest1 : Class → List Row
+math_ident_rest1 _ = row_19 ∷ []
+
+-- the rest of a row of `math.ident`, once the frame that it opened has returned
+abbrev pub math_ident_rest2 : Class → List Row
+math_ident_rest2 _ = row_20 ∷ []
+
+-- the rest of a row of `math.joined`, once the frame that it opened has returned
+abbrev pub math_joined_rest : Class → List Row
+math_joined_rest _ = row_21 ∷ []
 
 -- the rest of a row of `math.after`, once the frame that it opened has returned
 abbrev pub math_after_rest1 : Class → List Row
-math_after_rest1 _ = row_15 ∷ []
+math_after_rest1 _ = row_22 ∷ []
 
 -- the rest of a row of `math.after`, once the frame that it opened has returned
 abbrev pub math_after_rest2 : Class → List Row
-math_after_rest2 _ = row_16 ∷ []
+math_after_rest2 _ = row_23 ∷ []
 
 -- the rest of a row of `math.after`, once the frame that it opened has returned
 abbrev pub math_after_rest3 : Class → List Row
-math_after_rest3 _ = row_17 ∷ []
+math_after_rest3 _ = row_24 ∷ []
 
 -- the rest of a row of `math.primed`, once the frame that it opened has returned
 abbrev pub math_primed_rest1 : Class → List Row
-math_primed_rest1 _ = row_15 ∷ []
+math_primed_rest1 _ = row_22 ∷ []
 
 -- the rest of a row of `math.primed`, once the frame that it opened has returned
 abbrev pub math_primed_rest2 : Class → List Row
-math_primed_rest2 _ = row_16 ∷ []
+math_primed_rest2 _ = row_23 ∷ []
 
 -- the rest of a row of `math.below`, once the frame that it opened has returned
 abbrev pub math_below_rest : Class → List Row
-math_below_rest _ = row_18 ∷ []
+math_below_rest _ = row_25 ∷ []
 
 -- the rest of a row of `math.above`, once the frame that it opened has returned
 abbrev pub math_above_rest : Class → List Row
-math_above_rest _ = row_18 ∷ []
+math_above_rest _ = row_25 ∷ []

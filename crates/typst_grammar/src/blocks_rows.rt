@@ -2,7 +2,7 @@
 //! The rows of names and blocks of code.
 ghost use Rattle.std.specs.Prelude.{◌≡◌};
 ghost use Rattle.typst_grammar.specs.Row.{rows_of};
-ghost use Rattle.typst_grammar.specs.BlocksRows.{braces, braces_close, code, name, statement, statement_end};
+ghost use Rattle.typst_grammar.specs.BlocksRows.{braces, braces_close, code, code_end, name};
 
 use crate::expectation::Expectation;
 use crate::row::{Action, Call, Condition, Newline, Row, Take};
@@ -95,54 +95,48 @@ const ROW_7: Row = Row {
     call: None,
 };
 
-/// `| statement`
+/// `| -> code.end; statement 1`
 const ROW_8: Row = Row {
     condition: Condition::Always,
-    before: &[],
+    before: &[Action::Goto(State::CodeEnd)],
     take: Take::Nothing,
     after: &[],
     call: Some(Call {
         state: State::Statement,
-        number: 0,
+        number: 1,
         enters: false,
         is_deep: false,
         newline: Some(Newline::Context),
     }),
 };
 
-/// `| -> statement.end; expr 1`
+/// `if newline | -> code`
 const ROW_9: Row = Row {
-    condition: Condition::Always,
-    before: &[Action::Goto(State::StatementEnd)],
-    take: Take::Nothing,
-    after: &[],
-    call: Some(Call {
-        state: State::Expr,
-        number: 1,
-        enters: false,
-        is_deep: false,
-        newline: None,
-    }),
-};
-
-/// `| return`
-const ROW_10: Row = Row {
-    condition: Condition::Always,
-    before: &[Action::Return],
+    condition: Condition::Newline,
+    before: &[Action::Goto(State::Code)],
     take: Take::Nothing,
     after: &[],
     call: None,
 };
 
-/// `| expected semicolon or line break; return`
-const ROW_11: Row = Row {
+/// `| expected semicolon or line break; -> code`
+const ROW_10: Row = Row {
     condition: Condition::Always,
     before: &[
         Action::Expected(Expectation::SemicolonOrLineBreak),
-        Action::Return,
+        Action::Goto(State::Code),
     ],
     take: Take::Nothing,
     after: &[],
+    call: None,
+};
+
+/// `| eat; -> code`
+const ROW_11: Row = Row {
+    condition: Condition::Always,
+    before: &[],
+    take: Take::Eat,
+    after: &[Action::Goto(State::Code)],
     call: None,
 };
 
@@ -230,20 +224,13 @@ pub(crate) fn code(class: Class) -> &'static [Row]
     }
 }
 
-/// An expression of a block of code.
-pub(crate) fn statement(_class: Class) -> &'static [Row]
-    ensures { rows_of result.now ≡ statement _class }
-{
-    &[ROW_9]
-}
-
 /// The end of an expression of a block of code.
-pub(crate) fn statement_end(class: Class) -> &'static [Row]
-    ensures { rows_of result.now ≡ statement_end class }
+pub(crate) fn code_end(class: Class) -> &'static [Row]
+    ensures { rows_of result.now ≡ code_end class }
 {
     match class {
-        Class::End | Class::RightBrace | Class::RightBracket | Class::RightParen => &[ROW_10],
-        Class::Semicolon => &[ROW_1],
-        _ => &[ROW_11],
+        Class::End | Class::RightBrace | Class::RightBracket | Class::RightParen => &[ROW_9, ROW_6],
+        Class::Semicolon => &[ROW_9, ROW_11],
+        _ => &[ROW_9, ROW_10],
     }
 }

@@ -2,7 +2,7 @@
 //! The rows of code.
 ghost use Rattle.std.specs.Prelude.{◌≡◌};
 ghost use Rattle.typst_grammar.specs.Row.{rows_of};
-ghost use Rattle.typst_grammar.specs.CodeRows.{embedded, embedded_expr, embedded_statement, expr, expr_rest1, expr_rest2, expr_rest3, expr_rest4, expr_rest5, expr_rest6, expr_rest6_rest, expr_rest7, expr_rest8};
+ghost use Rattle.typst_grammar.specs.CodeRows.{embedded, embedded_expr, embedded_statement, expr, expr_rest1, expr_rest2, expr_rest3, expr_rest4, expr_rest5, expr_rest6, expr_rest6_rest, expr_rest7, expr_rest8, statement};
 
 use crate::expectation::Expectation;
 use crate::row::{Action, Call, Condition, Newline, Row, Take, Unique};
@@ -539,6 +539,36 @@ pub(crate) fn embedded_expr(class: Class) -> &'static [Row]
 /// An expression.
 pub(crate) fn expr(class: Class) -> &'static [Row]
     ensures { rows_of result.now ≡ expr class }
+{
+    match class {
+        Class::Label | Class::Raw | Class::Str | Class::Literal | Class::Constant => &[ROW_9],
+        Class::Dollar => &[ROW_10],
+        Class::LeftBrace => &[ROW_11],
+        Class::LeftBracket => &[ROW_12],
+        Class::LeftParen => &[ROW_13],
+        Class::Underscore => &[ROW_14, ROW_8],
+        Class::Sign => &[ROW_15, ROW_8],
+        Class::Ident => &[ROW_16],
+        Class::Not => &[ROW_17, ROW_8],
+        Class::Let => &[ROW_18],
+        Class::Set => &[ROW_19],
+        Class::Show => &[ROW_20],
+        Class::Context => &[ROW_21, ROW_22],
+        Class::If => &[ROW_23],
+        Class::For => &[ROW_24],
+        Class::While => &[ROW_25],
+        Class::Break => &[ROW_26],
+        Class::Continue => &[ROW_27],
+        Class::Return => &[ROW_28],
+        Class::Import => &[ROW_29],
+        Class::Include => &[ROW_30],
+        _ => &[ROW_8],
+    }
+}
+
+/// An expression of a block of code.
+pub(crate) fn statement(class: Class) -> &'static [Row]
+    ensures { rows_of result.now ≡ statement class }
 {
     match class {
         Class::Label | Class::Raw | Class::Str | Class::Literal | Class::Constant => &[ROW_9],

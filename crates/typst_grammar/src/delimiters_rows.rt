@@ -2,7 +2,7 @@
 //! The rows of delimiters and arguments in math.
 ghost use Rattle.std.specs.Prelude.{◌≡◌};
 ghost use Rattle.typst_grammar.specs.Row.{rows_of};
-ghost use Rattle.typst_grammar.specs.DelimitersRows.{delimited, delimited_body, delimited_close, math_arg, math_arg_colon, math_arg_colon_rest, math_arg_rest1, math_arg_rest2, math_args, math_args_close, math_args_comma, math_args_item, math_named, math_value, math_value_more, math_value_one};
+ghost use Rattle.typst_grammar.specs.DelimitersRows.{delimited, delimited_body, delimited_close, math_arg, math_arg_colon, math_arg_colon_rest, math_arg_rest, math_args, math_args_close, math_args_comma, math_args_item, math_named, math_value, math_value_more, math_value_one};
 
 use crate::expectation::Expectation;
 use crate::row::{Action, Call, Condition, Row, Take, Unique};
@@ -159,27 +159,21 @@ const ROW_12: Row = Row {
     call: None,
 };
 
-/// `| -> math.arg.rest2; math.value`
+/// `| -> math.value`
 const ROW_13: Row = Row {
     condition: Condition::Always,
-    before: &[Action::Goto(State::MathArgRest2)],
+    before: &[Action::Goto(State::MathValue)],
     take: Take::Nothing,
     after: &[],
-    call: Some(Call {
-        state: State::MathValue,
-        number: 0,
-        enters: false,
-        is_deep: false,
-        newline: None,
-    }),
+    call: None,
 };
 
-/// `| eat; -> math.arg.rest1; math.value`
+/// `| eat; -> math.arg.rest; math.value`
 const ROW_14: Row = Row {
     condition: Condition::Always,
     before: &[],
     take: Take::Eat,
-    after: &[Action::Goto(State::MathArgRest1)],
+    after: &[Action::Goto(State::MathArgRest)],
     call: Some(Call {
         state: State::MathValue,
         number: 0,
@@ -231,17 +225,8 @@ const ROW_18: Row = Row {
     call: None,
 };
 
-/// `| -> math.value`
-const ROW_19: Row = Row {
-    condition: Condition::Always,
-    before: &[Action::Goto(State::MathValue)],
-    take: Take::Nothing,
-    after: &[],
-    call: None,
-};
-
 /// `| flush; wrap Math; return`
-const ROW_20: Row = Row {
+const ROW_19: Row = Row {
     condition: Condition::Always,
     before: &[
         Action::Flush,
@@ -254,7 +239,7 @@ const ROW_20: Row = Row {
 };
 
 /// `| -> math.value.one; math.expr`
-const ROW_21: Row = Row {
+const ROW_20: Row = Row {
     condition: Condition::Always,
     before: &[Action::Goto(State::MathValueOne)],
     take: Take::Nothing,
@@ -269,7 +254,7 @@ const ROW_21: Row = Row {
 };
 
 /// `| -> math.value.more`
-const ROW_22: Row = Row {
+const ROW_21: Row = Row {
     condition: Condition::Always,
     before: &[Action::Goto(State::MathValueMore)],
     take: Take::Nothing,
@@ -278,7 +263,7 @@ const ROW_22: Row = Row {
 };
 
 /// `| wrap Spread; return`
-const ROW_23: Row = Row {
+const ROW_22: Row = Row {
     condition: Condition::Always,
     before: &[Action::Wrap(SyntaxKind::Spread), Action::Return],
     take: Take::Nothing,
@@ -287,7 +272,7 @@ const ROW_23: Row = Row {
 };
 
 /// `| wrap Named; return`
-const ROW_24: Row = Row {
+const ROW_23: Row = Row {
     condition: Condition::Always,
     before: &[Action::Wrap(SyntaxKind::Named), Action::Return],
     take: Take::Nothing,
@@ -416,7 +401,7 @@ pub(crate) fn math_named(class: Class) -> &'static [Row]
         Class::End | Class::Dollar | Class::RightParen | Class::Comma | Class::Semicolon => &[
             ROW_18,
         ],
-        _ => &[ROW_19],
+        _ => &[ROW_13],
     }
 }
 
@@ -426,7 +411,7 @@ pub(crate) fn math_value(class: Class) -> &'static [Row]
 {
     match class {
         Class::End | Class::Dollar | Class::RightParen | Class::Comma | Class::Semicolon => &[
-            ROW_20,
+            ROW_19,
         ],
         Class::Linebreak
         | Class::Escape
@@ -444,7 +429,7 @@ pub(crate) fn math_value(class: Class) -> &'static [Row]
         | Class::Opening
         | Class::Closing
         | Class::Bang
-        | Class::Root => &[ROW_21],
+        | Class::Root => &[ROW_20],
         _ => &[ROW_3],
     }
 }
@@ -457,7 +442,7 @@ pub(crate) fn math_value_one(class: Class) -> &'static [Row]
         Class::End | Class::Dollar | Class::RightParen | Class::Comma | Class::Semicolon => &[
             ROW_2,
         ],
-        _ => &[ROW_22],
+        _ => &[ROW_21],
     }
 }
 
@@ -491,22 +476,15 @@ pub(crate) fn math_value_more(class: Class) -> &'static [Row]
 }
 
 /// The rest of a row of `math.arg`, once the frame that it opened has returned.
-pub(crate) fn math_arg_rest1(_class: Class) -> &'static [Row]
-    ensures { rows_of result.now ≡ math_arg_rest1 _class }
+pub(crate) fn math_arg_rest(_class: Class) -> &'static [Row]
+    ensures { rows_of result.now ≡ math_arg_rest _class }
 {
-    &[ROW_23]
-}
-
-/// The rest of a row of `math.arg`, once the frame that it opened has returned.
-pub(crate) fn math_arg_rest2(_class: Class) -> &'static [Row]
-    ensures { rows_of result.now ≡ math_arg_rest2 _class }
-{
-    &[ROW_2]
+    &[ROW_22]
 }
 
 /// The rest of a row of `math.arg.colon`, once the frame that it opened has returned.
 pub(crate) fn math_arg_colon_rest(_class: Class) -> &'static [Row]
     ensures { rows_of result.now ≡ math_arg_colon_rest _class }
 {
-    &[ROW_24]
+    &[ROW_23]
 }

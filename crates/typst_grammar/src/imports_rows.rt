@@ -9,17 +9,29 @@ use crate::row::{Action, Call, Condition, Newline, Row, Take};
 use crate::rows::{Class, State};
 use typst_base::SyntaxKind;
 
-/// `| -> import.colon`
+/// `| wrap ModuleImport; -> expr.after`
 const ROW_0: Row = Row {
     condition: Condition::Always,
-    before: &[Action::Goto(State::ImportColon)],
+    before: &[
+        Action::Wrap(SyntaxKind::ModuleImport),
+        Action::Goto(State::ExprAfter),
+    ],
     take: Take::Nothing,
     after: &[],
     call: None,
 };
 
-/// `| eat; -> import.colon; name`
+/// `| eat; -> import.what`
 const ROW_1: Row = Row {
+    condition: Condition::Always,
+    before: &[],
+    take: Take::Eat,
+    after: &[Action::Goto(State::ImportWhat)],
+    call: None,
+};
+
+/// `| eat; -> import.colon; name`
+const ROW_2: Row = Row {
     condition: Condition::Always,
     before: &[],
     take: Take::Eat,
@@ -33,29 +45,8 @@ const ROW_1: Row = Row {
     }),
 };
 
-/// `| wrap ModuleImport; -> expr.after`
-const ROW_2: Row = Row {
-    condition: Condition::Always,
-    before: &[
-        Action::Wrap(SyntaxKind::ModuleImport),
-        Action::Goto(State::ExprAfter),
-    ],
-    take: Take::Nothing,
-    after: &[],
-    call: None,
-};
-
-/// `| eat; -> import.what`
-const ROW_3: Row = Row {
-    condition: Condition::Always,
-    before: &[],
-    take: Take::Eat,
-    after: &[Action::Goto(State::ImportWhat)],
-    call: None,
-};
-
 /// `| -> import.what.rest2; imports`
-const ROW_4: Row = Row {
+const ROW_3: Row = Row {
     condition: Condition::Always,
     before: &[Action::Goto(State::ImportWhatRest2)],
     take: Take::Nothing,
@@ -70,7 +61,7 @@ const ROW_4: Row = Row {
 };
 
 /// `| -> import.what.rest1; import.list`
-const ROW_5: Row = Row {
+const ROW_4: Row = Row {
     condition: Condition::Always,
     before: &[Action::Goto(State::ImportWhatRest1)],
     take: Take::Nothing,
@@ -85,7 +76,7 @@ const ROW_5: Row = Row {
 };
 
 /// `| eat; wrap ModuleImport; -> expr.after`
-const ROW_6: Row = Row {
+const ROW_5: Row = Row {
     condition: Condition::Always,
     before: &[],
     take: Take::Eat,
@@ -97,7 +88,7 @@ const ROW_6: Row = Row {
 };
 
 /// `| eat; -> arguments.close; imports`
-const ROW_7: Row = Row {
+const ROW_6: Row = Row {
     condition: Condition::Always,
     before: &[],
     take: Take::Eat,
@@ -112,7 +103,7 @@ const ROW_7: Row = Row {
 };
 
 /// `| wrap ImportItems; return`
-const ROW_8: Row = Row {
+const ROW_7: Row = Row {
     condition: Condition::Always,
     before: &[Action::Wrap(SyntaxKind::ImportItems), Action::Return],
     take: Take::Nothing,
@@ -121,7 +112,7 @@ const ROW_8: Row = Row {
 };
 
 /// `| -> imports.comma; imported`
-const ROW_9: Row = Row {
+const ROW_8: Row = Row {
     condition: Condition::Always,
     before: &[Action::Goto(State::ImportsComma)],
     take: Take::Nothing,
@@ -136,7 +127,7 @@ const ROW_9: Row = Row {
 };
 
 /// `| -> imports`
-const ROW_10: Row = Row {
+const ROW_9: Row = Row {
     condition: Condition::Always,
     before: &[Action::Goto(State::Imports)],
     take: Take::Nothing,
@@ -145,7 +136,7 @@ const ROW_10: Row = Row {
 };
 
 /// `| expected comma; -> imports`
-const ROW_11: Row = Row {
+const ROW_10: Row = Row {
     condition: Condition::Always,
     before: &[
         Action::Expected(Expectation::Comma),
@@ -157,7 +148,7 @@ const ROW_11: Row = Row {
 };
 
 /// `| eat; -> imports`
-const ROW_12: Row = Row {
+const ROW_11: Row = Row {
     condition: Condition::Always,
     before: &[],
     take: Take::Eat,
@@ -166,7 +157,7 @@ const ROW_12: Row = Row {
 };
 
 /// `| unexpected; -> imported.path`
-const ROW_13: Row = Row {
+const ROW_12: Row = Row {
     condition: Condition::Always,
     before: &[],
     take: Take::Unexpected,
@@ -175,7 +166,7 @@ const ROW_13: Row = Row {
 };
 
 /// `| eat; -> imported.path`
-const ROW_14: Row = Row {
+const ROW_13: Row = Row {
     condition: Condition::Always,
     before: &[],
     take: Take::Eat,
@@ -184,7 +175,7 @@ const ROW_14: Row = Row {
 };
 
 /// `| wrap ImportItemPath; return`
-const ROW_15: Row = Row {
+const ROW_14: Row = Row {
     condition: Condition::Always,
     before: &[Action::Wrap(SyntaxKind::ImportItemPath), Action::Return],
     take: Take::Nothing,
@@ -193,7 +184,7 @@ const ROW_15: Row = Row {
 };
 
 /// `| eat; -> imported.path; name`
-const ROW_16: Row = Row {
+const ROW_15: Row = Row {
     condition: Condition::Always,
     before: &[],
     take: Take::Eat,
@@ -208,7 +199,7 @@ const ROW_16: Row = Row {
 };
 
 /// `| wrap ImportItemPath; eat; -> imported.path.rest; name`
-const ROW_17: Row = Row {
+const ROW_16: Row = Row {
     condition: Condition::Always,
     before: &[Action::Wrap(SyntaxKind::ImportItemPath)],
     take: Take::Eat,
@@ -223,7 +214,7 @@ const ROW_17: Row = Row {
 };
 
 /// `| wrap RenamedImportItem; return`
-const ROW_18: Row = Row {
+const ROW_17: Row = Row {
     condition: Condition::Always,
     before: &[Action::Wrap(SyntaxKind::RenamedImportItem), Action::Return],
     take: Take::Nothing,
@@ -236,7 +227,8 @@ pub(crate) fn import_as(class: Class) -> &'static [Row]
     ensures { rows_of result.now ≡ import_as class }
 {
     match class {
-        Class::As => &[ROW_1],
+        Class::Colon => &[ROW_1],
+        Class::As => &[ROW_2],
         _ => &[ROW_0],
     }
 }
@@ -246,8 +238,8 @@ pub(crate) fn import_colon(class: Class) -> &'static [Row]
     ensures { rows_of result.now ≡ import_colon class }
 {
     match class {
-        Class::Colon => &[ROW_3],
-        _ => &[ROW_2],
+        Class::Colon => &[ROW_1],
+        _ => &[ROW_0],
     }
 }
 
@@ -256,9 +248,9 @@ pub(crate) fn import_what(class: Class) -> &'static [Row]
     ensures { rows_of result.now ≡ import_what class }
 {
     match class {
-        Class::LeftParen => &[ROW_5],
-        Class::Star => &[ROW_6],
-        _ => &[ROW_4],
+        Class::LeftParen => &[ROW_4],
+        Class::Star => &[ROW_5],
+        _ => &[ROW_3],
     }
 }
 
@@ -267,7 +259,7 @@ pub(crate) fn import_list(class: Class) -> &'static [Row]
     ensures { rows_of result.now ≡ import_list class }
 {
     match class {
-        Class::LeftParen => &[ROW_7],
+        Class::LeftParen => &[ROW_6],
         _ => &[],
     }
 }
@@ -281,8 +273,8 @@ pub(crate) fn imports(class: Class) -> &'static [Row]
         | Class::RightBrace
         | Class::RightBracket
         | Class::RightParen
-        | Class::Semicolon => &[ROW_8],
-        _ => &[ROW_9],
+        | Class::Semicolon => &[ROW_7],
+        _ => &[ROW_8],
     }
 }
 
@@ -295,9 +287,9 @@ pub(crate) fn imports_comma(class: Class) -> &'static [Row]
         | Class::RightBrace
         | Class::RightBracket
         | Class::RightParen
-        | Class::Semicolon => &[ROW_10],
-        Class::Comma => &[ROW_12],
-        _ => &[ROW_11],
+        | Class::Semicolon => &[ROW_9],
+        Class::Comma => &[ROW_11],
+        _ => &[ROW_10],
     }
 }
 
@@ -306,8 +298,8 @@ pub(crate) fn imported(class: Class) -> &'static [Row]
     ensures { rows_of result.now ≡ imported class }
 {
     match class {
-        Class::Ident => &[ROW_14],
-        _ => &[ROW_13],
+        Class::Ident => &[ROW_13],
+        _ => &[ROW_12],
     }
 }
 
@@ -316,9 +308,9 @@ pub(crate) fn imported_path(class: Class) -> &'static [Row]
     ensures { rows_of result.now ≡ imported_path class }
 {
     match class {
-        Class::Dot | Class::Field => &[ROW_16],
-        Class::As => &[ROW_17],
-        _ => &[ROW_15],
+        Class::Dot | Class::Field => &[ROW_15],
+        Class::As => &[ROW_16],
+        _ => &[ROW_14],
     }
 }
 
@@ -326,19 +318,19 @@ pub(crate) fn imported_path(class: Class) -> &'static [Row]
 pub(crate) fn import_what_rest1(_class: Class) -> &'static [Row]
     ensures { rows_of result.now ≡ import_what_rest1 _class }
 {
-    &[ROW_2]
+    &[ROW_0]
 }
 
 /// The rest of a row of `import.what`, once the frame that it opened has returned.
 pub(crate) fn import_what_rest2(_class: Class) -> &'static [Row]
     ensures { rows_of result.now ≡ import_what_rest2 _class }
 {
-    &[ROW_2]
+    &[ROW_0]
 }
 
 /// The rest of a row of `imported.path`, once the frame that it opened has returned.
 pub(crate) fn imported_path_rest(_class: Class) -> &'static [Row]
     ensures { rows_of result.now ≡ imported_path_rest _class }
 {
-    &[ROW_18]
+    &[ROW_17]
 }

@@ -2,7 +2,7 @@
 //! The rows of math.
 ghost use Rattle.std.specs.Prelude.{◌≡◌};
 ghost use Rattle.typst_grammar.specs.Row.{rows_of};
-ghost use Rattle.typst_grammar.specs.MathRows.{equation, equation_close, field, math, math_expr, math_expr_rest1, math_expr_rest2, math_expr_rest3, math_ident, math_ident_rest1, math_ident_rest2, math_joined, math_joined_rest};
+ghost use Rattle.typst_grammar.specs.MathRows.{equation, equation_close, math, math_expr, math_expr_rest1, math_expr_rest2, math_expr_rest3};
 
 use crate::expectation::Expectation;
 use crate::maps::Map;
@@ -203,120 +203,12 @@ const ROW_15: Row = Row {
     }),
 };
 
-/// `| -> math.joined`
-const ROW_16: Row = Row {
-    condition: Condition::Always,
-    before: &[Action::Goto(State::MathJoined)],
-    take: Take::Nothing,
-    after: &[],
-    call: None,
-};
-
-/// `if direct | -> math.ident.rest2; math.args`
-const ROW_17: Row = Row {
-    condition: Condition::Direct,
-    before: &[Action::Goto(State::MathIdentRest2)],
-    take: Take::Nothing,
-    after: &[],
-    call: Some(Call {
-        state: State::MathArgs,
-        number: 0,
-        enters: false,
-        is_deep: true,
-        newline: None,
-    }),
-};
-
-/// `if direct | eat; -> math.ident.rest1; field`
-const ROW_18: Row = Row {
-    condition: Condition::Direct,
-    before: &[],
-    take: Take::Eat,
-    after: &[Action::Goto(State::MathIdentRest1)],
-    call: Some(Call {
-        state: State::Field,
-        number: 0,
-        enters: false,
-        is_deep: false,
-        newline: None,
-    }),
-};
-
-/// `| eat MathIdent; return`
-const ROW_19: Row = Row {
-    condition: Condition::Always,
-    before: &[],
-    take: Take::EatAs(SyntaxKind::MathIdent),
-    after: &[Action::Return],
-    call: None,
-};
-
-/// `| -> math.after`
-const ROW_20: Row = Row {
-    condition: Condition::Always,
-    before: &[Action::Goto(State::MathAfter)],
-    take: Take::Nothing,
-    after: &[],
-    call: None,
-};
-
-/// `if direct | -> math.joined.rest; delimited`
-const ROW_21: Row = Row {
-    condition: Condition::Direct,
-    before: &[Action::Goto(State::MathJoinedRest)],
-    take: Take::Nothing,
-    after: &[],
-    call: Some(Call {
-        state: State::Delimited,
-        number: 0,
-        enters: false,
-        is_deep: true,
-        newline: None,
-    }),
-};
-
 /// `| retag unparen; wrap MathRoot; -> math.after`
-const ROW_22: Row = Row {
+const ROW_16: Row = Row {
     condition: Condition::Always,
     before: &[
         Action::Retag(Map::Unparen),
         Action::Wrap(SyntaxKind::MathRoot),
-        Action::Goto(State::MathAfter),
-    ],
-    take: Take::Nothing,
-    after: &[],
-    call: None,
-};
-
-/// `| wrap MathFieldAccess; -> math.ident`
-const ROW_23: Row = Row {
-    condition: Condition::Always,
-    before: &[
-        Action::Wrap(SyntaxKind::MathFieldAccess),
-        Action::Goto(State::MathIdent),
-    ],
-    take: Take::Nothing,
-    after: &[],
-    call: None,
-};
-
-/// `| wrap MathCall; -> math.after`
-const ROW_24: Row = Row {
-    condition: Condition::Always,
-    before: &[
-        Action::Wrap(SyntaxKind::MathCall),
-        Action::Goto(State::MathAfter),
-    ],
-    take: Take::Nothing,
-    after: &[],
-    call: None,
-};
-
-/// `| wrap Math; -> math.after`
-const ROW_25: Row = Row {
-    condition: Condition::Always,
-    before: &[
-        Action::Wrap(SyntaxKind::Math),
         Action::Goto(State::MathAfter),
     ],
     take: Take::Nothing,
@@ -396,75 +288,23 @@ pub(crate) fn math_expr(class: Class) -> &'static [Row]
     }
 }
 
-/// What may follow a name in math directly.
-pub(crate) fn math_ident(class: Class) -> &'static [Row]
-    ensures { rows_of result.now ≡ math_ident class }
-{
-    match class {
-        Class::LeftParen => &[ROW_17, ROW_16],
-        Class::Field => &[ROW_18, ROW_16],
-        _ => &[ROW_16],
-    }
-}
-
-/// The name of a field in math.
-pub(crate) fn field(class: Class) -> &'static [Row]
-    ensures { rows_of result.now ≡ field class }
-{
-    match class {
-        Class::MathIdent | Class::MathLetter => &[ROW_19],
-        _ => &[],
-    }
-}
-
-/// A delimiter directly behind a name, a letter or a string.
-pub(crate) fn math_joined(class: Class) -> &'static [Row]
-    ensures { rows_of result.now ≡ math_joined class }
-{
-    match class {
-        Class::LeftBrace | Class::LeftParen | Class::Opening => &[ROW_21, ROW_20],
-        _ => &[ROW_20],
-    }
-}
-
 /// The rest of a row of `math.expr`, once the frame that it opened has returned.
 pub(crate) fn math_expr_rest1(_class: Class) -> &'static [Row]
     ensures { rows_of result.now ≡ math_expr_rest1 _class }
 {
-    &[ROW_22]
+    &[ROW_16]
 }
 
 /// The rest of a row of `math.expr`, once the frame that it opened has returned.
 pub(crate) fn math_expr_rest2(_class: Class) -> &'static [Row]
     ensures { rows_of result.now ≡ math_expr_rest2 _class }
 {
-    &[ROW_22]
+    &[ROW_16]
 }
 
 /// The rest of a row of `math.expr`, once the frame that it opened has returned.
 pub(crate) fn math_expr_rest3(_class: Class) -> &'static [Row]
     ensures { rows_of result.now ≡ math_expr_rest3 _class }
 {
-    &[ROW_22]
-}
-
-/// The rest of a row of `math.ident`, once the frame that it opened has returned.
-pub(crate) fn math_ident_rest1(_class: Class) -> &'static [Row]
-    ensures { rows_of result.now ≡ math_ident_rest1 _class }
-{
-    &[ROW_23]
-}
-
-/// The rest of a row of `math.ident`, once the frame that it opened has returned.
-pub(crate) fn math_ident_rest2(_class: Class) -> &'static [Row]
-    ensures { rows_of result.now ≡ math_ident_rest2 _class }
-{
-    &[ROW_24]
-}
-
-/// The rest of a row of `math.joined`, once the frame that it opened has returned.
-pub(crate) fn math_joined_rest(_class: Class) -> &'static [Row]
-    ensures { rows_of result.now ≡ math_joined_rest _class }
-{
-    &[ROW_25]
+    &[ROW_16]
 }

@@ -196,17 +196,8 @@ const ROW_13: Row = Row {
     }),
 };
 
-/// `| -> expr.after`
-const ROW_14: Row = Row {
-    condition: Condition::Always,
-    before: &[Action::Goto(State::ExprAfter)],
-    take: Take::Nothing,
-    after: &[],
-    call: None,
-};
-
 /// `if upto 8 | wrap Params; eat; -> expr.name.rest; expr 1`
-const ROW_15: Row = Row {
+const ROW_14: Row = Row {
     condition: Condition::UpTo(8),
     before: &[Action::Wrap(SyntaxKind::Params)],
     take: Take::Eat,
@@ -221,7 +212,7 @@ const ROW_15: Row = Row {
 };
 
 /// `if is 0 | return`
-const ROW_16: Row = Row {
+const ROW_15: Row = Row {
     condition: Condition::Is(0),
     before: &[Action::Return],
     take: Take::Nothing,
@@ -230,7 +221,7 @@ const ROW_16: Row = Row {
 };
 
 /// `| wrong expression; -> expr.after`
-const ROW_17: Row = Row {
+const ROW_16: Row = Row {
     condition: Condition::Always,
     before: &[
         Action::Wrong(Expectation::Expression),
@@ -242,7 +233,7 @@ const ROW_17: Row = Row {
 };
 
 /// `| wrap Params; eat; -> expr.blank.rest1; expr 1`
-const ROW_18: Row = Row {
+const ROW_17: Row = Row {
     condition: Condition::Always,
     before: &[Action::Wrap(SyntaxKind::Params)],
     take: Take::Eat,
@@ -257,7 +248,7 @@ const ROW_18: Row = Row {
 };
 
 /// `| eat; -> expr.blank.rest2; expr 1`
-const ROW_19: Row = Row {
+const ROW_18: Row = Row {
     condition: Condition::Always,
     before: &[],
     take: Take::Eat,
@@ -272,7 +263,7 @@ const ROW_19: Row = Row {
 };
 
 /// `if is 9 | retag value; unique key; -> expr.after`
-const ROW_20: Row = Row {
+const ROW_19: Row = Row {
     condition: Condition::Is(9),
     before: &[
         Action::Retag(Map::Value),
@@ -285,7 +276,7 @@ const ROW_20: Row = Row {
 };
 
 /// `| retag value; unique key; -> expr.after`
-const ROW_21: Row = Row {
+const ROW_20: Row = Row {
     condition: Condition::Always,
     before: &[
         Action::Retag(Map::Value),
@@ -298,7 +289,7 @@ const ROW_21: Row = Row {
 };
 
 /// `| retag params; unique parameter; eat; -> expr.group.rest1; expr 1`
-const ROW_22: Row = Row {
+const ROW_21: Row = Row {
     condition: Condition::Always,
     before: &[
         Action::Retag(Map::Params),
@@ -316,7 +307,7 @@ const ROW_22: Row = Row {
 };
 
 /// `if last array | retag target; unique sink; eat; -> expr.group.rest2; expr 1`
-const ROW_23: Row = Row {
+const ROW_22: Row = Row {
     condition: Condition::Last(SyntaxKind::Array),
     before: &[Action::Retag(Map::Target), Action::Unique(Unique::Sink)],
     take: Take::Eat,
@@ -331,7 +322,7 @@ const ROW_23: Row = Row {
 };
 
 /// `if last dict | retag target; unique sink; eat; -> expr.group.rest2; expr 1`
-const ROW_24: Row = Row {
+const ROW_23: Row = Row {
     condition: Condition::Last(SyntaxKind::Dict),
     before: &[Action::Retag(Map::Target), Action::Unique(Unique::Sink)],
     take: Take::Eat,
@@ -346,7 +337,7 @@ const ROW_24: Row = Row {
 };
 
 /// `| wrap FuncCall; -> expr.after`
-const ROW_25: Row = Row {
+const ROW_24: Row = Row {
     condition: Condition::Always,
     before: &[
         Action::Wrap(SyntaxKind::FuncCall),
@@ -358,7 +349,7 @@ const ROW_25: Row = Row {
 };
 
 /// `| wrap FieldAccess; -> expr.after`
-const ROW_26: Row = Row {
+const ROW_25: Row = Row {
     condition: Condition::Always,
     before: &[
         Action::Wrap(SyntaxKind::FieldAccess),
@@ -370,7 +361,7 @@ const ROW_26: Row = Row {
 };
 
 /// `| wrap Binary; -> expr.after`
-const ROW_27: Row = Row {
+const ROW_26: Row = Row {
     condition: Condition::Always,
     before: &[
         Action::Wrap(SyntaxKind::Binary),
@@ -382,7 +373,7 @@ const ROW_27: Row = Row {
 };
 
 /// `| wrap Closure; -> expr.after`
-const ROW_28: Row = Row {
+const ROW_27: Row = Row {
     condition: Condition::Always,
     before: &[
         Action::Wrap(SyntaxKind::Closure),
@@ -394,7 +385,7 @@ const ROW_28: Row = Row {
 };
 
 /// `| wrap DestructAssignment; -> expr.after`
-const ROW_29: Row = Row {
+const ROW_28: Row = Row {
     condition: Condition::Always,
     before: &[
         Action::Wrap(SyntaxKind::DestructAssignment),
@@ -439,8 +430,18 @@ pub(crate) fn expr_name(class: Class) -> &'static [Row]
     ensures { rows_of result.now ≡ expr_name class }
 {
     match class {
-        Class::Arrow => &[ROW_15, ROW_14],
-        _ => &[ROW_14],
+        Class::LeftBracket | Class::LeftParen => &[ROW_2, ROW_0, ROW_1],
+        Class::Dot => &[ROW_0, ROW_3],
+        Class::Field => &[ROW_4, ROW_0, ROW_3],
+        Class::Arrow => &[ROW_14, ROW_0, ROW_1],
+        Class::Star | Class::Slash => &[ROW_0, ROW_5, ROW_1],
+        Class::Eq | Class::Assignment => &[ROW_0, ROW_6, ROW_1],
+        Class::Sign => &[ROW_0, ROW_7, ROW_1],
+        Class::Comparison | Class::In => &[ROW_0, ROW_8, ROW_1],
+        Class::Not => &[ROW_0, ROW_9, ROW_1],
+        Class::And => &[ROW_0, ROW_10, ROW_1],
+        Class::Or => &[ROW_0, ROW_11, ROW_1],
+        _ => &[ROW_0, ROW_1],
     }
 }
 
@@ -455,10 +456,10 @@ pub(crate) fn expr_blank(class: Class) -> &'static [Row]
         | Class::RightParen
         | Class::Comma
         | Class::Semicolon
-        | Class::Colon => &[ROW_16, ROW_17],
-        Class::Arrow => &[ROW_18],
-        Class::Eq => &[ROW_19],
-        _ => &[ROW_17],
+        | Class::Colon => &[ROW_15, ROW_16],
+        Class::Arrow => &[ROW_17],
+        Class::Eq => &[ROW_18],
+        _ => &[ROW_16],
     }
 }
 
@@ -473,10 +474,10 @@ pub(crate) fn expr_group(class: Class) -> &'static [Row]
         | Class::RightParen
         | Class::Comma
         | Class::Semicolon
-        | Class::Colon => &[ROW_20, ROW_16, ROW_21],
-        Class::Arrow => &[ROW_20, ROW_22],
-        Class::Eq => &[ROW_20, ROW_23, ROW_24, ROW_21],
-        _ => &[ROW_20, ROW_21],
+        | Class::Colon => &[ROW_19, ROW_15, ROW_20],
+        Class::Arrow => &[ROW_19, ROW_21],
+        Class::Eq => &[ROW_19, ROW_22, ROW_23, ROW_20],
+        _ => &[ROW_19, ROW_20],
     }
 }
 
@@ -484,103 +485,103 @@ pub(crate) fn expr_group(class: Class) -> &'static [Row]
 pub(crate) fn expr_after_rest1(_class: Class) -> &'static [Row]
     ensures { rows_of result.now ≡ expr_after_rest1 _class }
 {
-    &[ROW_25]
+    &[ROW_24]
 }
 
 /// The rest of a row of `expr.after`, once the frame that it opened has returned.
 pub(crate) fn expr_after_rest2(_class: Class) -> &'static [Row]
     ensures { rows_of result.now ≡ expr_after_rest2 _class }
 {
-    &[ROW_26]
+    &[ROW_25]
 }
 
 /// The rest of a row of `expr.after`, once the frame that it opened has returned.
 pub(crate) fn expr_after_rest3(_class: Class) -> &'static [Row]
     ensures { rows_of result.now ≡ expr_after_rest3 _class }
 {
-    &[ROW_26]
+    &[ROW_25]
 }
 
 /// The rest of a row of `expr.after`, once the frame that it opened has returned.
 pub(crate) fn expr_after_rest4(_class: Class) -> &'static [Row]
     ensures { rows_of result.now ≡ expr_after_rest4 _class }
 {
-    &[ROW_27]
+    &[ROW_26]
 }
 
 /// The rest of a row of `expr.after`, once the frame that it opened has returned.
 pub(crate) fn expr_after_rest5(_class: Class) -> &'static [Row]
     ensures { rows_of result.now ≡ expr_after_rest5 _class }
 {
-    &[ROW_27]
+    &[ROW_26]
 }
 
 /// The rest of a row of `expr.after`, once the frame that it opened has returned.
 pub(crate) fn expr_after_rest6(_class: Class) -> &'static [Row]
     ensures { rows_of result.now ≡ expr_after_rest6 _class }
 {
-    &[ROW_27]
+    &[ROW_26]
 }
 
 /// The rest of a row of `expr.after`, once the frame that it opened has returned.
 pub(crate) fn expr_after_rest7(_class: Class) -> &'static [Row]
     ensures { rows_of result.now ≡ expr_after_rest7 _class }
 {
-    &[ROW_27]
+    &[ROW_26]
 }
 
 /// The rest of a row of `expr.after`, once the frame that it opened has returned.
 pub(crate) fn expr_after_rest8(_class: Class) -> &'static [Row]
     ensures { rows_of result.now ≡ expr_after_rest8 _class }
 {
-    &[ROW_27]
+    &[ROW_26]
 }
 
 /// The rest of a row of `expr.after`, once the frame that it opened has returned.
 pub(crate) fn expr_after_rest9(_class: Class) -> &'static [Row]
     ensures { rows_of result.now ≡ expr_after_rest9 _class }
 {
-    &[ROW_27]
+    &[ROW_26]
 }
 
 /// The rest of a row of `expr.not`, once the frame that it opened has returned.
 pub(crate) fn expr_not_rest(_class: Class) -> &'static [Row]
     ensures { rows_of result.now ≡ expr_not_rest _class }
 {
-    &[ROW_27]
+    &[ROW_26]
 }
 
 /// The rest of a row of `expr.name`, once the frame that it opened has returned.
 pub(crate) fn expr_name_rest(_class: Class) -> &'static [Row]
     ensures { rows_of result.now ≡ expr_name_rest _class }
 {
-    &[ROW_28]
+    &[ROW_27]
 }
 
 /// The rest of a row of `expr.blank`, once the frame that it opened has returned.
 pub(crate) fn expr_blank_rest1(_class: Class) -> &'static [Row]
     ensures { rows_of result.now ≡ expr_blank_rest1 _class }
 {
-    &[ROW_28]
+    &[ROW_27]
 }
 
 /// The rest of a row of `expr.blank`, once the frame that it opened has returned.
 pub(crate) fn expr_blank_rest2(_class: Class) -> &'static [Row]
     ensures { rows_of result.now ≡ expr_blank_rest2 _class }
 {
-    &[ROW_29]
+    &[ROW_28]
 }
 
 /// The rest of a row of `expr.group`, once the frame that it opened has returned.
 pub(crate) fn expr_group_rest1(_class: Class) -> &'static [Row]
     ensures { rows_of result.now ≡ expr_group_rest1 _class }
 {
-    &[ROW_28]
+    &[ROW_27]
 }
 
 /// The rest of a row of `expr.group`, once the frame that it opened has returned.
 pub(crate) fn expr_group_rest2(_class: Class) -> &'static [Row]
     ensures { rows_of result.now ≡ expr_group_rest2 _class }
 {
-    &[ROW_29]
+    &[ROW_28]
 }

@@ -2,7 +2,7 @@
 //! The rows of patterns.
 ghost use Rattle.std.specs.Prelude.{◌≡◌};
 ghost use Rattle.typst_grammar.specs.Row.{rows_of};
-ghost use Rattle.typst_grammar.specs.PatternsRows.{element, element_colon, element_colon_rest1, element_colon_rest2, leaf, leaf_check, pattern, pattern_rest1, pattern_rest2, tuple, tuple_close, tuple_comma, tuple_first, tuple_item, tuple_more, tuple_one};
+ghost use Rattle.typst_grammar.specs.PatternsRows.{element, element_colon, element_colon_rest1, element_colon_rest2, leaf, leaf_check, pattern, pattern_rest, tuple, tuple_close, tuple_comma, tuple_first, tuple_item, tuple_more, tuple_one};
 
 use crate::expectation::Expectation;
 use crate::row::{Action, Call, Condition, Newline, Row, Take};
@@ -60,25 +60,10 @@ const ROW_4: Row = Row {
     call: None,
 };
 
-/// `| -> pattern.rest2; leaf`
+/// `| -> pattern.rest; tuple`
 const ROW_5: Row = Row {
     condition: Condition::Always,
-    before: &[Action::Goto(State::PatternRest2)],
-    take: Take::Nothing,
-    after: &[],
-    call: Some(Call {
-        state: State::Leaf,
-        number: 0,
-        enters: false,
-        is_deep: false,
-        newline: None,
-    }),
-};
-
-/// `| -> pattern.rest1; tuple`
-const ROW_6: Row = Row {
-    condition: Condition::Always,
-    before: &[Action::Goto(State::PatternRest1)],
+    before: &[Action::Goto(State::PatternRest)],
     take: Take::Nothing,
     after: &[],
     call: Some(Call {
@@ -91,7 +76,7 @@ const ROW_6: Row = Row {
 };
 
 /// `| eat; return`
-const ROW_7: Row = Row {
+const ROW_6: Row = Row {
     condition: Condition::Always,
     before: &[],
     take: Take::Eat,
@@ -100,7 +85,7 @@ const ROW_7: Row = Row {
 };
 
 /// `| eat; -> tuple.first`
-const ROW_8: Row = Row {
+const ROW_7: Row = Row {
     condition: Condition::Always,
     before: &[],
     take: Take::Eat,
@@ -109,7 +94,7 @@ const ROW_8: Row = Row {
 };
 
 /// `| -> tuple.close`
-const ROW_9: Row = Row {
+const ROW_8: Row = Row {
     condition: Condition::Always,
     before: &[Action::Goto(State::TupleClose)],
     take: Take::Nothing,
@@ -118,7 +103,7 @@ const ROW_9: Row = Row {
 };
 
 /// `| unexpected`
-const ROW_10: Row = Row {
+const ROW_9: Row = Row {
     condition: Condition::Always,
     before: &[],
     take: Take::Unexpected,
@@ -127,7 +112,7 @@ const ROW_10: Row = Row {
 };
 
 /// `| -> tuple.one; element`
-const ROW_11: Row = Row {
+const ROW_10: Row = Row {
     condition: Condition::Always,
     before: &[Action::Goto(State::TupleOne)],
     take: Take::Nothing,
@@ -142,7 +127,7 @@ const ROW_11: Row = Row {
 };
 
 /// `if last named | -> tuple.comma`
-const ROW_12: Row = Row {
+const ROW_11: Row = Row {
     condition: Condition::Last(SyntaxKind::Named),
     before: &[Action::Goto(State::TupleComma)],
     take: Take::Nothing,
@@ -151,7 +136,7 @@ const ROW_12: Row = Row {
 };
 
 /// `if last spread | -> tuple.comma`
-const ROW_13: Row = Row {
+const ROW_12: Row = Row {
     condition: Condition::Last(SyntaxKind::Spread),
     before: &[Action::Goto(State::TupleComma)],
     take: Take::Nothing,
@@ -160,7 +145,7 @@ const ROW_13: Row = Row {
 };
 
 /// `| -> group.close`
-const ROW_14: Row = Row {
+const ROW_13: Row = Row {
     condition: Condition::Always,
     before: &[Action::Goto(State::GroupClose)],
     take: Take::Nothing,
@@ -169,7 +154,7 @@ const ROW_14: Row = Row {
 };
 
 /// `| expected comma; -> tuple.more`
-const ROW_15: Row = Row {
+const ROW_14: Row = Row {
     condition: Condition::Always,
     before: &[
         Action::Expected(Expectation::Comma),
@@ -181,7 +166,7 @@ const ROW_15: Row = Row {
 };
 
 /// `| eat; -> tuple.item`
-const ROW_16: Row = Row {
+const ROW_15: Row = Row {
     condition: Condition::Always,
     before: &[],
     take: Take::Eat,
@@ -190,7 +175,7 @@ const ROW_16: Row = Row {
 };
 
 /// `| -> tuple.item`
-const ROW_17: Row = Row {
+const ROW_16: Row = Row {
     condition: Condition::Always,
     before: &[Action::Goto(State::TupleItem)],
     take: Take::Nothing,
@@ -199,7 +184,7 @@ const ROW_17: Row = Row {
 };
 
 /// `| -> tuple.comma; element`
-const ROW_18: Row = Row {
+const ROW_17: Row = Row {
     condition: Condition::Always,
     before: &[Action::Goto(State::TupleComma)],
     take: Take::Nothing,
@@ -214,7 +199,7 @@ const ROW_18: Row = Row {
 };
 
 /// `| expected comma; -> tuple.item`
-const ROW_19: Row = Row {
+const ROW_18: Row = Row {
     condition: Condition::Always,
     before: &[
         Action::Expected(Expectation::Comma),
@@ -226,7 +211,7 @@ const ROW_19: Row = Row {
 };
 
 /// `| unclosed; wrap Destructuring; return`
-const ROW_20: Row = Row {
+const ROW_19: Row = Row {
     condition: Condition::Always,
     before: &[
         Action::Unclosed,
@@ -239,7 +224,7 @@ const ROW_20: Row = Row {
 };
 
 /// `| eat; wrap Destructuring; return`
-const ROW_21: Row = Row {
+const ROW_20: Row = Row {
     condition: Condition::Always,
     before: &[],
     take: Take::Eat,
@@ -248,7 +233,7 @@ const ROW_21: Row = Row {
 };
 
 /// `| -> element.colon; pattern`
-const ROW_22: Row = Row {
+const ROW_21: Row = Row {
     condition: Condition::Always,
     before: &[Action::Goto(State::ElementColon)],
     take: Take::Nothing,
@@ -263,7 +248,7 @@ const ROW_22: Row = Row {
 };
 
 /// `| eat; -> sink`
-const ROW_23: Row = Row {
+const ROW_22: Row = Row {
     condition: Condition::Always,
     before: &[],
     take: Take::Eat,
@@ -272,7 +257,7 @@ const ROW_23: Row = Row {
 };
 
 /// `| return`
-const ROW_24: Row = Row {
+const ROW_23: Row = Row {
     condition: Condition::Always,
     before: &[Action::Return],
     take: Take::Nothing,
@@ -281,7 +266,7 @@ const ROW_24: Row = Row {
 };
 
 /// `if only ident | eat; -> element.colon.rest1; pattern`
-const ROW_25: Row = Row {
+const ROW_24: Row = Row {
     condition: Condition::Only(SyntaxKind::Ident),
     before: &[],
     take: Take::Eat,
@@ -296,7 +281,7 @@ const ROW_25: Row = Row {
 };
 
 /// `| wrong identifier; eat; -> element.colon.rest2; pattern`
-const ROW_26: Row = Row {
+const ROW_25: Row = Row {
     condition: Condition::Always,
     before: &[Action::Wrong(Expectation::Identifier)],
     take: Take::Eat,
@@ -311,7 +296,7 @@ const ROW_26: Row = Row {
 };
 
 /// `| wrap Named; return`
-const ROW_27: Row = Row {
+const ROW_26: Row = Row {
     condition: Condition::Always,
     before: &[Action::Wrap(SyntaxKind::Named), Action::Return],
     take: Take::Nothing,
@@ -368,9 +353,36 @@ pub(crate) fn pattern(class: Class) -> &'static [Row]
     ensures { rows_of result.now ≡ pattern class }
 {
     match class {
-        Class::LeftParen => &[ROW_6],
-        Class::Underscore => &[ROW_7],
-        _ => &[ROW_5],
+        Class::Label
+        | Class::Raw
+        | Class::Dollar
+        | Class::LeftBrace
+        | Class::LeftBracket
+        | Class::Ident
+        | Class::Str
+        | Class::Literal => &[ROW_1],
+        Class::LeftParen => &[ROW_5],
+        Class::Underscore => &[ROW_6],
+        Class::Constant
+        | Class::Not
+        | Class::And
+        | Class::Or
+        | Class::Let
+        | Class::Set
+        | Class::Show
+        | Class::Context
+        | Class::If
+        | Class::Else
+        | Class::For
+        | Class::In
+        | Class::While
+        | Class::Break
+        | Class::Continue
+        | Class::Return
+        | Class::Import
+        | Class::Include
+        | Class::As => &[ROW_2],
+        _ => &[ROW_0],
     }
 }
 
@@ -379,7 +391,7 @@ pub(crate) fn tuple(class: Class) -> &'static [Row]
     ensures { rows_of result.now ≡ tuple class }
 {
     match class {
-        Class::LeftParen => &[ROW_8],
+        Class::LeftParen => &[ROW_7],
         _ => &[],
     }
 }
@@ -393,7 +405,7 @@ pub(crate) fn tuple_first(class: Class) -> &'static [Row]
         | Class::RightBrace
         | Class::RightBracket
         | Class::RightParen
-        | Class::Semicolon => &[ROW_9],
+        | Class::Semicolon => &[ROW_8],
         Class::Label
         | Class::Raw
         | Class::Dollar
@@ -417,8 +429,8 @@ pub(crate) fn tuple_first(class: Class) -> &'static [Row]
         | Class::Continue
         | Class::Return
         | Class::Import
-        | Class::Include => &[ROW_11],
-        _ => &[ROW_10],
+        | Class::Include => &[ROW_10],
+        _ => &[ROW_9],
     }
 }
 
@@ -431,9 +443,9 @@ pub(crate) fn tuple_one(class: Class) -> &'static [Row]
         | Class::RightBrace
         | Class::RightBracket
         | Class::RightParen
-        | Class::Semicolon => &[ROW_12, ROW_13, ROW_14],
-        Class::Comma => &[ROW_12, ROW_13, ROW_16],
-        _ => &[ROW_12, ROW_13, ROW_15],
+        | Class::Semicolon => &[ROW_11, ROW_12, ROW_13],
+        Class::Comma => &[ROW_11, ROW_12, ROW_15],
+        _ => &[ROW_11, ROW_12, ROW_14],
     }
 }
 
@@ -446,7 +458,45 @@ pub(crate) fn tuple_more(class: Class) -> &'static [Row]
         | Class::RightBrace
         | Class::RightBracket
         | Class::RightParen
-        | Class::Semicolon => &[ROW_14],
+        | Class::Semicolon => &[ROW_13],
+        Class::Label
+        | Class::Raw
+        | Class::Dollar
+        | Class::LeftBrace
+        | Class::LeftBracket
+        | Class::LeftParen
+        | Class::Dots
+        | Class::Underscore
+        | Class::Ident
+        | Class::Str
+        | Class::Literal
+        | Class::Constant
+        | Class::Let
+        | Class::Set
+        | Class::Show
+        | Class::Context
+        | Class::If
+        | Class::For
+        | Class::While
+        | Class::Break
+        | Class::Continue
+        | Class::Return
+        | Class::Import
+        | Class::Include => &[ROW_16],
+        _ => &[ROW_9],
+    }
+}
+
+/// An item of a pattern, if another one comes.
+pub(crate) fn tuple_item(class: Class) -> &'static [Row]
+    ensures { rows_of result.now ≡ tuple_item class }
+{
+    match class {
+        Class::End
+        | Class::RightBrace
+        | Class::RightBracket
+        | Class::RightParen
+        | Class::Semicolon => &[ROW_8],
         Class::Label
         | Class::Raw
         | Class::Dollar
@@ -471,45 +521,7 @@ pub(crate) fn tuple_more(class: Class) -> &'static [Row]
         | Class::Return
         | Class::Import
         | Class::Include => &[ROW_17],
-        _ => &[ROW_10],
-    }
-}
-
-/// An item of a pattern, if another one comes.
-pub(crate) fn tuple_item(class: Class) -> &'static [Row]
-    ensures { rows_of result.now ≡ tuple_item class }
-{
-    match class {
-        Class::End
-        | Class::RightBrace
-        | Class::RightBracket
-        | Class::RightParen
-        | Class::Semicolon => &[ROW_9],
-        Class::Label
-        | Class::Raw
-        | Class::Dollar
-        | Class::LeftBrace
-        | Class::LeftBracket
-        | Class::LeftParen
-        | Class::Dots
-        | Class::Underscore
-        | Class::Ident
-        | Class::Str
-        | Class::Literal
-        | Class::Constant
-        | Class::Let
-        | Class::Set
-        | Class::Show
-        | Class::Context
-        | Class::If
-        | Class::For
-        | Class::While
-        | Class::Break
-        | Class::Continue
-        | Class::Return
-        | Class::Import
-        | Class::Include => &[ROW_18],
-        _ => &[ROW_10],
+        _ => &[ROW_9],
     }
 }
 
@@ -522,9 +534,9 @@ pub(crate) fn tuple_comma(class: Class) -> &'static [Row]
         | Class::RightBrace
         | Class::RightBracket
         | Class::RightParen
-        | Class::Semicolon => &[ROW_9],
-        Class::Comma => &[ROW_16],
-        _ => &[ROW_19],
+        | Class::Semicolon => &[ROW_8],
+        Class::Comma => &[ROW_15],
+        _ => &[ROW_18],
     }
 }
 
@@ -533,8 +545,8 @@ pub(crate) fn tuple_close(class: Class) -> &'static [Row]
     ensures { rows_of result.now ≡ tuple_close class }
 {
     match class {
-        Class::RightParen => &[ROW_21],
-        _ => &[ROW_20],
+        Class::RightParen => &[ROW_20],
+        _ => &[ROW_19],
     }
 }
 
@@ -565,8 +577,8 @@ pub(crate) fn element(class: Class) -> &'static [Row]
         | Class::Continue
         | Class::Return
         | Class::Import
-        | Class::Include => &[ROW_22],
-        Class::Dots => &[ROW_23],
+        | Class::Include => &[ROW_21],
+        Class::Dots => &[ROW_22],
         _ => &[],
     }
 }
@@ -576,35 +588,28 @@ pub(crate) fn element_colon(class: Class) -> &'static [Row]
     ensures { rows_of result.now ≡ element_colon class }
 {
     match class {
-        Class::Colon => &[ROW_25, ROW_26],
-        _ => &[ROW_24],
+        Class::Colon => &[ROW_24, ROW_25],
+        _ => &[ROW_23],
     }
 }
 
 /// The rest of a row of `pattern`, once the frame that it opened has returned.
-pub(crate) fn pattern_rest1(_class: Class) -> &'static [Row]
-    ensures { rows_of result.now ≡ pattern_rest1 _class }
+pub(crate) fn pattern_rest(_class: Class) -> &'static [Row]
+    ensures { rows_of result.now ≡ pattern_rest _class }
 {
-    &[ROW_24]
-}
-
-/// The rest of a row of `pattern`, once the frame that it opened has returned.
-pub(crate) fn pattern_rest2(_class: Class) -> &'static [Row]
-    ensures { rows_of result.now ≡ pattern_rest2 _class }
-{
-    &[ROW_24]
+    &[ROW_23]
 }
 
 /// The rest of a row of `element.colon`, once the frame that it opened has returned.
 pub(crate) fn element_colon_rest1(_class: Class) -> &'static [Row]
     ensures { rows_of result.now ≡ element_colon_rest1 _class }
 {
-    &[ROW_27]
+    &[ROW_26]
 }
 
 /// The rest of a row of `element.colon`, once the frame that it opened has returned.
 pub(crate) fn element_colon_rest2(_class: Class) -> &'static [Row]
     ensures { rows_of result.now ≡ element_colon_rest2 _class }
 {
-    &[ROW_27]
+    &[ROW_26]
 }

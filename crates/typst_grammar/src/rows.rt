@@ -208,6 +208,8 @@ pub enum State {
     EmbeddedExpr,
     /// An expression.
     Expr,
+    /// An expression of a block of code.
+    Statement,
     /// What may follow an expression.
     ExprAfter,
     /// What has to follow `not` behind an expression.
@@ -226,10 +228,8 @@ pub enum State {
     BracesClose,
     /// The expressions of a block of code.
     Code,
-    /// An expression of a block of code.
-    Statement,
     /// The end of an expression of a block of code.
-    StatementEnd,
+    CodeEnd,
     /// A parenthesis, an array or a dictionary.
     Group,
     /// The first item, or the colon of a dictionary.
@@ -497,9 +497,7 @@ pub enum State {
     /// The rest of a row of `sink`, once the frame that it opened has returned.
     SinkRest,
     /// The rest of a row of `pattern`, once the frame that it opened has returned.
-    PatternRest1,
-    /// The rest of a row of `pattern`, once the frame that it opened has returned.
-    PatternRest2,
+    PatternRest,
     /// The rest of a row of `element.colon`, once the frame that it opened has returned.
     ElementColonRest1,
     /// The rest of a row of `element.colon`, once the frame that it opened has returned.
@@ -571,9 +569,7 @@ pub enum State {
     /// The rest of a row of `math.above`, once the frame that it opened has returned.
     MathAboveRest,
     /// The rest of a row of `math.arg`, once the frame that it opened has returned.
-    MathArgRest1,
-    /// The rest of a row of `math.arg`, once the frame that it opened has returned.
-    MathArgRest2,
+    MathArgRest,
     /// The rest of a row of `math.arg.colon`, once the frame that it opened has returned.
     MathArgColonRest,
 }
@@ -609,6 +605,7 @@ pub fn rows(state: State, class: Class) -> &'static [Row]
         State::EmbeddedStatement => code_rows::embedded_statement(class),
         State::EmbeddedExpr => code_rows::embedded_expr(class),
         State::Expr => code_rows::expr(class),
+        State::Statement => code_rows::statement(class),
         State::ExprAfter => operators_rows::expr_after(class),
         State::ExprNot => operators_rows::expr_not(class),
         State::ExprName => operators_rows::expr_name(class),
@@ -618,8 +615,7 @@ pub fn rows(state: State, class: Class) -> &'static [Row]
         State::Braces => blocks_rows::braces(class),
         State::BracesClose => blocks_rows::braces_close(class),
         State::Code => blocks_rows::code(class),
-        State::Statement => blocks_rows::statement(class),
-        State::StatementEnd => blocks_rows::statement_end(class),
+        State::CodeEnd => blocks_rows::code_end(class),
         State::Group => groups_rows::group(class),
         State::GroupFirst => groups_rows::group_first(class),
         State::GroupOne => groups_rows::group_one(class),
@@ -694,9 +690,9 @@ pub fn rows(state: State, class: Class) -> &'static [Row]
         State::EquationClose => math_rows::equation_close(class),
         State::Math => math_rows::math(class),
         State::MathExpr => math_rows::math_expr(class),
-        State::MathIdent => math_rows::math_ident(class),
-        State::Field => math_rows::field(class),
-        State::MathJoined => math_rows::math_joined(class),
+        State::MathIdent => scripts_rows::math_ident(class),
+        State::Field => scripts_rows::field(class),
+        State::MathJoined => scripts_rows::math_joined(class),
         State::MathAfter => scripts_rows::math_after(class),
         State::MathPrimed => scripts_rows::math_primed(class),
         State::MathBelow => scripts_rows::math_below(class),
@@ -753,8 +749,7 @@ pub fn rows(state: State, class: Class) -> &'static [Row]
         State::ArgumentColonRest1 => arguments_rows::argument_colon_rest1(class),
         State::ArgumentColonRest2 => arguments_rows::argument_colon_rest2(class),
         State::SinkRest => parameters_rows::sink_rest(class),
-        State::PatternRest1 => patterns_rows::pattern_rest1(class),
-        State::PatternRest2 => patterns_rows::pattern_rest2(class),
+        State::PatternRest => patterns_rows::pattern_rest(class),
         State::ElementColonRest1 => patterns_rows::element_colon_rest1(class),
         State::ElementColonRest2 => patterns_rows::element_colon_rest2(class),
         State::BindingRest => statements_rows::binding_rest(class),
@@ -780,9 +775,9 @@ pub fn rows(state: State, class: Class) -> &'static [Row]
         State::MathExprRest1 => math_rows::math_expr_rest1(class),
         State::MathExprRest2 => math_rows::math_expr_rest2(class),
         State::MathExprRest3 => math_rows::math_expr_rest3(class),
-        State::MathIdentRest1 => math_rows::math_ident_rest1(class),
-        State::MathIdentRest2 => math_rows::math_ident_rest2(class),
-        State::MathJoinedRest => math_rows::math_joined_rest(class),
+        State::MathIdentRest1 => scripts_rows::math_ident_rest1(class),
+        State::MathIdentRest2 => scripts_rows::math_ident_rest2(class),
+        State::MathJoinedRest => scripts_rows::math_joined_rest(class),
         State::MathAfterRest1 => scripts_rows::math_after_rest1(class),
         State::MathAfterRest2 => scripts_rows::math_after_rest2(class),
         State::MathAfterRest3 => scripts_rows::math_after_rest3(class),
@@ -790,8 +785,7 @@ pub fn rows(state: State, class: Class) -> &'static [Row]
         State::MathPrimedRest2 => scripts_rows::math_primed_rest2(class),
         State::MathBelowRest => scripts_rows::math_below_rest(class),
         State::MathAboveRest => scripts_rows::math_above_rest(class),
-        State::MathArgRest1 => delimiters_rows::math_arg_rest1(class),
-        State::MathArgRest2 => delimiters_rows::math_arg_rest2(class),
+        State::MathArgRest => delimiters_rows::math_arg_rest(class),
         State::MathArgColonRest => delimiters_rows::math_arg_colon_rest(class),
     }
 }

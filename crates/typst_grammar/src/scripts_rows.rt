@@ -2,7 +2,7 @@
 //! The rows of what may follow an expression in math.
 ghost use Rattle.std.specs.Prelude.{◌≡◌};
 ghost use Rattle.typst_grammar.specs.Row.{rows_of};
-ghost use Rattle.typst_grammar.specs.ScriptsRows.{math_above, math_above_rest, math_after, math_after_rest1, math_after_rest2, math_after_rest3, math_below, math_below_rest, math_primed, math_primed_rest1, math_primed_rest2};
+ghost use Rattle.typst_grammar.specs.ScriptsRows.{field, math_above, math_above_rest, math_after, math_after_rest1, math_after_rest2, math_after_rest3, math_below, math_below_rest, math_ident, math_ident_rest1, math_ident_rest2, math_joined, math_joined_rest, math_primed, math_primed_rest1, math_primed_rest2};
 
 use crate::maps::Map;
 use crate::row::{Action, Call, Condition, Row, Take};
@@ -18,8 +18,53 @@ const ROW_0: Row = Row {
     call: None,
 };
 
-/// `if is 0 | retag unparen; eat; -> math.after.rest3; math.expr 1`
+/// `if direct | -> math.joined.rest; delimited`
 const ROW_1: Row = Row {
+    condition: Condition::Direct,
+    before: &[Action::Goto(State::MathJoinedRest)],
+    take: Take::Nothing,
+    after: &[],
+    call: Some(Call {
+        state: State::Delimited,
+        number: 0,
+        enters: false,
+        is_deep: true,
+        newline: None,
+    }),
+};
+
+/// `if direct | -> math.ident.rest2; math.args`
+const ROW_2: Row = Row {
+    condition: Condition::Direct,
+    before: &[Action::Goto(State::MathIdentRest2)],
+    take: Take::Nothing,
+    after: &[],
+    call: Some(Call {
+        state: State::MathArgs,
+        number: 0,
+        enters: false,
+        is_deep: true,
+        newline: None,
+    }),
+};
+
+/// `if direct | eat; -> math.ident.rest1; field`
+const ROW_3: Row = Row {
+    condition: Condition::Direct,
+    before: &[],
+    take: Take::Eat,
+    after: &[Action::Goto(State::MathIdentRest1)],
+    call: Some(Call {
+        state: State::Field,
+        number: 0,
+        enters: false,
+        is_deep: false,
+        newline: None,
+    }),
+};
+
+/// `if is 0 | retag unparen; eat; -> math.after.rest3; math.expr 1`
+const ROW_4: Row = Row {
     condition: Condition::Is(0),
     before: &[Action::Retag(Map::Unparen)],
     take: Take::Eat,
@@ -34,7 +79,7 @@ const ROW_1: Row = Row {
 };
 
 /// `if is 3 | return`
-const ROW_2: Row = Row {
+const ROW_5: Row = Row {
     condition: Condition::Is(3),
     before: &[Action::Return],
     take: Take::Nothing,
@@ -43,7 +88,7 @@ const ROW_2: Row = Row {
 };
 
 /// `| eat; -> math.after.rest1; math.expr 2`
-const ROW_3: Row = Row {
+const ROW_6: Row = Row {
     condition: Condition::Always,
     before: &[],
     take: Take::Eat,
@@ -58,7 +103,7 @@ const ROW_3: Row = Row {
 };
 
 /// `if direct | eat; -> math.primed`
-const ROW_4: Row = Row {
+const ROW_7: Row = Row {
     condition: Condition::Direct,
     before: &[],
     take: Take::Eat,
@@ -67,7 +112,7 @@ const ROW_4: Row = Row {
 };
 
 /// `if is 2 | return`
-const ROW_5: Row = Row {
+const ROW_8: Row = Row {
     condition: Condition::Is(2),
     before: &[Action::Return],
     take: Take::Nothing,
@@ -76,7 +121,7 @@ const ROW_5: Row = Row {
 };
 
 /// `| eat; -> math.after.rest2; math.expr 3`
-const ROW_6: Row = Row {
+const ROW_9: Row = Row {
     condition: Condition::Always,
     before: &[],
     take: Take::Eat,
@@ -91,7 +136,7 @@ const ROW_6: Row = Row {
 };
 
 /// `if direct | eat MathText; wrap Math; -> math.after`
-const ROW_7: Row = Row {
+const ROW_10: Row = Row {
     condition: Condition::Direct,
     before: &[],
     take: Take::EatAs(SyntaxKind::MathText),
@@ -102,8 +147,17 @@ const ROW_7: Row = Row {
     call: None,
 };
 
+/// `| eat MathIdent; return`
+const ROW_11: Row = Row {
+    condition: Condition::Always,
+    before: &[],
+    take: Take::EatAs(SyntaxKind::MathIdent),
+    after: &[Action::Return],
+    call: None,
+};
+
 /// `| wrap MathAttach; -> math.after`
-const ROW_8: Row = Row {
+const ROW_12: Row = Row {
     condition: Condition::Always,
     before: &[
         Action::Wrap(SyntaxKind::MathAttach),
@@ -115,7 +169,7 @@ const ROW_8: Row = Row {
 };
 
 /// `if is 3 | wrap MathAttach; return`
-const ROW_9: Row = Row {
+const ROW_13: Row = Row {
     condition: Condition::Is(3),
     before: &[Action::Wrap(SyntaxKind::MathAttach), Action::Return],
     take: Take::Nothing,
@@ -124,7 +178,7 @@ const ROW_9: Row = Row {
 };
 
 /// `| eat; -> math.primed.rest1; math.expr 2`
-const ROW_10: Row = Row {
+const ROW_14: Row = Row {
     condition: Condition::Always,
     before: &[],
     take: Take::Eat,
@@ -139,7 +193,7 @@ const ROW_10: Row = Row {
 };
 
 /// `if is 2 | wrap MathAttach; return`
-const ROW_11: Row = Row {
+const ROW_15: Row = Row {
     condition: Condition::Is(2),
     before: &[Action::Wrap(SyntaxKind::MathAttach), Action::Return],
     take: Take::Nothing,
@@ -148,7 +202,7 @@ const ROW_11: Row = Row {
 };
 
 /// `| eat; -> math.primed.rest2; math.expr 3`
-const ROW_12: Row = Row {
+const ROW_16: Row = Row {
     condition: Condition::Always,
     before: &[],
     take: Take::Eat,
@@ -163,7 +217,7 @@ const ROW_12: Row = Row {
 };
 
 /// `| eat; -> math.below.rest; math.expr 1`
-const ROW_13: Row = Row {
+const ROW_17: Row = Row {
     condition: Condition::Always,
     before: &[],
     take: Take::Eat,
@@ -178,7 +232,7 @@ const ROW_13: Row = Row {
 };
 
 /// `| eat; -> math.above.rest; math.expr 1`
-const ROW_14: Row = Row {
+const ROW_18: Row = Row {
     condition: Condition::Always,
     before: &[],
     take: Take::Eat,
@@ -192,8 +246,44 @@ const ROW_14: Row = Row {
     }),
 };
 
+/// `| wrap MathFieldAccess; -> math.ident`
+const ROW_19: Row = Row {
+    condition: Condition::Always,
+    before: &[
+        Action::Wrap(SyntaxKind::MathFieldAccess),
+        Action::Goto(State::MathIdent),
+    ],
+    take: Take::Nothing,
+    after: &[],
+    call: None,
+};
+
+/// `| wrap MathCall; -> math.after`
+const ROW_20: Row = Row {
+    condition: Condition::Always,
+    before: &[
+        Action::Wrap(SyntaxKind::MathCall),
+        Action::Goto(State::MathAfter),
+    ],
+    take: Take::Nothing,
+    after: &[],
+    call: None,
+};
+
+/// `| wrap Math; -> math.after`
+const ROW_21: Row = Row {
+    condition: Condition::Always,
+    before: &[
+        Action::Wrap(SyntaxKind::Math),
+        Action::Goto(State::MathAfter),
+    ],
+    take: Take::Nothing,
+    after: &[],
+    call: None,
+};
+
 /// `| retag unparen; -> math.below`
-const ROW_15: Row = Row {
+const ROW_22: Row = Row {
     condition: Condition::Always,
     before: &[Action::Retag(Map::Unparen), Action::Goto(State::MathBelow)],
     take: Take::Nothing,
@@ -202,7 +292,7 @@ const ROW_15: Row = Row {
 };
 
 /// `| retag unparen; -> math.above`
-const ROW_16: Row = Row {
+const ROW_23: Row = Row {
     condition: Condition::Always,
     before: &[Action::Retag(Map::Unparen), Action::Goto(State::MathAbove)],
     take: Take::Nothing,
@@ -211,7 +301,7 @@ const ROW_16: Row = Row {
 };
 
 /// `| retag unparen; wrap MathFrac; -> math.after`
-const ROW_17: Row = Row {
+const ROW_24: Row = Row {
     condition: Condition::Always,
     before: &[
         Action::Retag(Map::Unparen),
@@ -224,7 +314,7 @@ const ROW_17: Row = Row {
 };
 
 /// `| retag unparen; wrap MathAttach; -> math.after`
-const ROW_18: Row = Row {
+const ROW_25: Row = Row {
     condition: Condition::Always,
     before: &[
         Action::Retag(Map::Unparen),
@@ -236,16 +326,58 @@ const ROW_18: Row = Row {
     call: None,
 };
 
+/// What may follow a name in math directly.
+pub(crate) fn math_ident(class: Class) -> &'static [Row]
+    ensures { rows_of result.now ≡ math_ident class }
+{
+    match class {
+        Class::LeftBrace | Class::Opening => &[ROW_1, ROW_0],
+        Class::LeftParen => &[ROW_2, ROW_1, ROW_0],
+        Class::Field => &[ROW_3, ROW_0],
+        Class::Slash => &[ROW_4, ROW_0],
+        Class::Underscore => &[ROW_5, ROW_6],
+        Class::MathPrimes => &[ROW_7, ROW_0],
+        Class::Hat => &[ROW_8, ROW_9],
+        Class::Bang => &[ROW_10, ROW_0],
+        _ => &[ROW_0],
+    }
+}
+
+/// The name of a field in math.
+pub(crate) fn field(class: Class) -> &'static [Row]
+    ensures { rows_of result.now ≡ field class }
+{
+    match class {
+        Class::MathIdent | Class::MathLetter => &[ROW_11],
+        _ => &[],
+    }
+}
+
+/// A delimiter directly behind a name, a letter or a string.
+pub(crate) fn math_joined(class: Class) -> &'static [Row]
+    ensures { rows_of result.now ≡ math_joined class }
+{
+    match class {
+        Class::LeftBrace | Class::LeftParen | Class::Opening => &[ROW_1, ROW_0],
+        Class::Slash => &[ROW_4, ROW_0],
+        Class::Underscore => &[ROW_5, ROW_6],
+        Class::MathPrimes => &[ROW_7, ROW_0],
+        Class::Hat => &[ROW_8, ROW_9],
+        Class::Bang => &[ROW_10, ROW_0],
+        _ => &[ROW_0],
+    }
+}
+
 /// What may follow an expression in math.
 pub(crate) fn math_after(class: Class) -> &'static [Row]
     ensures { rows_of result.now ≡ math_after class }
 {
     match class {
-        Class::Slash => &[ROW_1, ROW_0],
-        Class::Underscore => &[ROW_2, ROW_3],
-        Class::MathPrimes => &[ROW_4, ROW_0],
-        Class::Hat => &[ROW_5, ROW_6],
-        Class::Bang => &[ROW_7, ROW_0],
+        Class::Slash => &[ROW_4, ROW_0],
+        Class::Underscore => &[ROW_5, ROW_6],
+        Class::MathPrimes => &[ROW_7, ROW_0],
+        Class::Hat => &[ROW_8, ROW_9],
+        Class::Bang => &[ROW_10, ROW_0],
         _ => &[ROW_0],
     }
 }
@@ -255,9 +387,9 @@ pub(crate) fn math_primed(class: Class) -> &'static [Row]
     ensures { rows_of result.now ≡ math_primed class }
 {
     match class {
-        Class::Underscore => &[ROW_9, ROW_10],
-        Class::Hat => &[ROW_11, ROW_12],
-        _ => &[ROW_8],
+        Class::Underscore => &[ROW_13, ROW_14],
+        Class::Hat => &[ROW_15, ROW_16],
+        _ => &[ROW_12],
     }
 }
 
@@ -266,8 +398,8 @@ pub(crate) fn math_below(class: Class) -> &'static [Row]
     ensures { rows_of result.now ≡ math_below class }
 {
     match class {
-        Class::Hat => &[ROW_13],
-        _ => &[ROW_8],
+        Class::Hat => &[ROW_17],
+        _ => &[ROW_12],
     }
 }
 
@@ -276,56 +408,77 @@ pub(crate) fn math_above(class: Class) -> &'static [Row]
     ensures { rows_of result.now ≡ math_above class }
 {
     match class {
-        Class::Underscore => &[ROW_14],
-        _ => &[ROW_8],
+        Class::Underscore => &[ROW_18],
+        _ => &[ROW_12],
     }
+}
+
+/// The rest of a row of `math.ident`, once the frame that it opened has returned.
+pub(crate) fn math_ident_rest1(_class: Class) -> &'static [Row]
+    ensures { rows_of result.now ≡ math_ident_rest1 _class }
+{
+    &[ROW_19]
+}
+
+/// The rest of a row of `math.ident`, once the frame that it opened has returned.
+pub(crate) fn math_ident_rest2(_class: Class) -> &'static [Row]
+    ensures { rows_of result.now ≡ math_ident_rest2 _class }
+{
+    &[ROW_20]
+}
+
+/// The rest of a row of `math.joined`, once the frame that it opened has returned.
+pub(crate) fn math_joined_rest(_class: Class) -> &'static [Row]
+    ensures { rows_of result.now ≡ math_joined_rest _class }
+{
+    &[ROW_21]
 }
 
 /// The rest of a row of `math.after`, once the frame that it opened has returned.
 pub(crate) fn math_after_rest1(_class: Class) -> &'static [Row]
     ensures { rows_of result.now ≡ math_after_rest1 _class }
 {
-    &[ROW_15]
+    &[ROW_22]
 }
 
 /// The rest of a row of `math.after`, once the frame that it opened has returned.
 pub(crate) fn math_after_rest2(_class: Class) -> &'static [Row]
     ensures { rows_of result.now ≡ math_after_rest2 _class }
 {
-    &[ROW_16]
+    &[ROW_23]
 }
 
 /// The rest of a row of `math.after`, once the frame that it opened has returned.
 pub(crate) fn math_after_rest3(_class: Class) -> &'static [Row]
     ensures { rows_of result.now ≡ math_after_rest3 _class }
 {
-    &[ROW_17]
+    &[ROW_24]
 }
 
 /// The rest of a row of `math.primed`, once the frame that it opened has returned.
 pub(crate) fn math_primed_rest1(_class: Class) -> &'static [Row]
     ensures { rows_of result.now ≡ math_primed_rest1 _class }
 {
-    &[ROW_15]
+    &[ROW_22]
 }
 
 /// The rest of a row of `math.primed`, once the frame that it opened has returned.
 pub(crate) fn math_primed_rest2(_class: Class) -> &'static [Row]
     ensures { rows_of result.now ≡ math_primed_rest2 _class }
 {
-    &[ROW_16]
+    &[ROW_23]
 }
 
 /// The rest of a row of `math.below`, once the frame that it opened has returned.
 pub(crate) fn math_below_rest(_class: Class) -> &'static [Row]
     ensures { rows_of result.now ≡ math_below_rest _class }
 {
-    &[ROW_18]
+    &[ROW_25]
 }
 
 /// The rest of a row of `math.above`, once the frame that it opened has returned.
 pub(crate) fn math_above_rest(_class: Class) -> &'static [Row]
     ensures { rows_of result.now ≡ math_above_rest _class }
 {
-    &[ROW_18]
+    &[ROW_25]
 }
