@@ -1,6 +1,6 @@
 -- A token is white space or a comment exactly if the text begins as such a token does.
-use Rattle.std.proofs.Common.{◌≡◌, ℕ, Bool, true, false, List, [], ◌∷◌, take, refl, sym, ap, ◌∙◌, arith}
-use Rattle.std.specs.Prelude.{◌||◌, ◌&&◌, eqb, codes, Some, None, if◌then◌else◌}
+use Rattle.std.proofs.Common.{◌≡◌, ℕ, ◌<◌, Bool, true, false, List, [], ◌∷◌, take, refl, sym, ap, ◌∙◌, arith}
+use Rattle.std.specs.Prelude.{◌||◌, ◌&&◌, eqb, not, slice_index, codes, Some, None, if◌then◌else◌}
 use Rattle.std.specs.Char.{is_whitespace}
 use Rattle.std.proofs.lemmas.Bool.Decides.{nat_tests}
 use Rattle.typst_lexer.specs.declared.mode.Mode.{Mode}
@@ -14,7 +14,9 @@ use Rattle.typst_lexer.specs.Characters.{begins_with}
 use Rattle.typst_lexer.specs.Classes.{begins_char, ends_line, first_char, is_blank}
 use Rattle.typst_lexer.specs.Machine.{enter}
 use Rattle.typst_lexer.specs.Markup.{enter_content, is_start}
-use Rattle.typst_lexer.specs.White.{begins_white, is_white, is_white_next}
+use Rattle.typst_lexer.specs.White.{begins_white, is_solid, is_white, is_white_next}
+use Rattle.typst_lexer.specs.Spaces.{is_markup}
+use Rattle.typst_lexer.proofs.Ascii.{all_below, begins_is, has_not}
 use Rattle.typst_lexer.proofs.MachineLaws.{content_fresh, expression_fresh, formula_fresh, operation_fresh, value_fresh}
 use Rattle.typst_lexer.proofs.WhiteRuns.{line_is_blank, nothing_begins}
 
@@ -135,3 +137,35 @@ white_is modes.Math k [] = nothing k
 white_is modes.Argument k [] = nothing k
 white_is modes.Code k [] = nothing k
 white_is modes.Operator k [] = nothing k
+
+-- no white space and no comment
+pub solid_is : (m : Mode) (k : Behind) (text : List ℕ) → is_solid (slice_index text 0) ≡ true → begins_white m k text ≡ false
+solid_is m k [] e = refl
+solid_is m k (b ∷ bs) e =
+    sym (white_is m k (b ∷ bs))
+    ∙ none _ _ _ _ (no_space (is_markup m)) (no (λ c. begins_with (codes "//") (c ∷ rest)) refl) (no (λ c. begins_with (codes "/*") (c ∷ rest)) refl)
+    (never_both (is_start k) (is_markup m) _ (no (λ c. begins_with (codes "#!") (c ∷ rest)) refl))
+  where
+    rest : List ℕ
+    rest = take 9 bs
+
+    low : (c : ℕ) → is_solid c ≡ true → c < 128
+    low c h = grind (arith, nat_tests)
+
+    no : (p : ℕ → Bool) → all_below (λ c. not (is_solid c) || not (p c)) 128 ≡ true → p b ≡ false
+    no p ok = has_not is_solid p b (low b e) e ok
+
+    no_space : (v : Bool) → (if v then begins_char is_blank (b ∷ rest) else begins_char is_whitespace (b ∷ rest)) ≡ false
+    no_space true = begins_is b rest (low b e) is_blank ∙ no is_blank refl
+    no_space false = begins_is b rest (low b e) is_whitespace ∙ no is_whitespace refl
+
+    none : (u v w x : Bool) → u ≡ false → v ≡ false → w ≡ false → x ≡ false → (u || v || w || x) ≡ false
+    none false false false x a b c d = d
+    none true v w x a b c d = cc
+    none false true w x a b c d = cc
+    none false false true x a b c d = cc
+
+    never_both : (u v w : Bool) → w ≡ false → (u && v && w) ≡ false
+    never_both true true w h = h
+    never_both true false w h = refl
+    never_both false v w h = refl

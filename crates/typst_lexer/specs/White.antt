@@ -1,6 +1,6 @@
 -- White space and comments before a token.
-use Rattle.std.specs.Prelude.{ℕ, ◌&&◌, ◌||◌, Bool, true, false, List, [], ◌∷◌, codes, take, if◌then◌else◌}
-use Rattle.std.specs.Char.{is_whitespace}
+use Rattle.std.specs.Prelude.{ℕ, ◌==◌, ◌&&◌, ◌||◌, not, Bool, true, false, List, [], ◌∷◌, codes, take, if◌then◌else◌}
+use Rattle.std.specs.Char.{is_ascii_graphic, is_whitespace}
 use Rattle.typst_lexer.specs.declared.mode.Mode.{Mode}
 use Rattle.typst_lexer.specs.declared.place.Behind.{Behind}
 use Rattle.typst_lexer.specs.declared.place.Place.{Place}
@@ -27,6 +27,10 @@ is_white _ = false
 abbrev pub begins_white : Mode → Behind → List ℕ → Bool
 begins_white m behind [] = false
 begins_white m behind (b ∷ bs) = is_white (begin m behind (take 10 (b ∷ bs))).place
+
+-- a printed character of ASCII with which neither white space nor a comment begins
+abbrev pub is_solid : ℕ → Bool
+is_solid b = is_ascii_graphic b && not ((b == 35) || (b == 47))
 
 -- white space of a mode is next
 abbrev pub is_space_next : Mode → List ℕ → Bool

@@ -1,7 +1,9 @@
 //! White space and comments before a token.
-ghost use Rattle.std.specs.Prelude.{◌≡◌};
+ghost use Rattle.std.specs.Prelude.{true, false, ◌≡◌};
+ghost use Rattle.typst_lexer.specs.declared.mode.Mode.{Mode};
+ghost use Rattle.typst_lexer.specs.declared.place.Behind.{Behind};
 ghost use Rattle.typst_lexer.specs.Spaces.{is_markup};
-ghost use Rattle.typst_lexer.specs.White.{begins_white, is_space_next, is_white_next};
+ghost use Rattle.typst_lexer.specs.White.{begins_white, is_solid, is_space_next, is_white_next};
 
 use crate::AHEAD;
 use crate::classes::{begins_blank, begins_space};
@@ -38,11 +40,26 @@ fn is_white_next(mode: Mode, behind: Behind, window: &[u8]) -> bool
         || is_start(behind) && is_markup(mode) && window.starts_with(b"#!")
 }
 
+/// Whether neither white space nor a comment begins with the byte in any case.
+fn is_solid(byte: u8) -> bool
+    ensures { result ≡ is_solid byte }
+{
+    byte.is_ascii_graphic() && !(byte == b'#' || byte == b'/')
+}
+
+/// Whether such a byte is next.
+#[tactic(auto, using(crate::proofs::WhiteNext::solid_is))]
+fn begins_solid(text: &[u8]) -> bool
+    ensures { result ≡ true → (mode : Mode) (behind : Behind) → begins_white mode behind text.now ≡ false }
+{
+    matches!(text, [byte, ..] if is_solid(*byte))
+}
+
 #[tactic(auto, using(crate::proofs::WhiteNext::white_is))]
 /// Whether the first token of a text is white space or a comment, in a mode, given what is directly before the text. It
 /// looks at ten bytes.
 pub fn begins_white(mode: Mode, behind: Behind, text: &[u8]) -> bool
     ensures { result ≡ begins_white mode behind text.now }
 {
-    is_white_next(mode, behind, window(text, 0, AHEAD))
+    !begins_solid(text) && is_white_next(mode, behind, window(text, 0, AHEAD))
 }
