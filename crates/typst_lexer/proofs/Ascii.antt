@@ -34,7 +34,7 @@ last_or_less : (c n : ℕ) → c < suc n → (c < n) ⊎ (c ≡ n)
 last_or_less c n low = elim (cases_lt c n) as (λ _. (c < n) ⊎ (c ≡ n)) [ inl less ↦ inl less | inr ge ↦ inr (omega arith) ]
 
 -- a test that all numbers below n pass
-below_at : (test : ℕ → Bool) (n c : ℕ) → all_below test n ≡ true → c < n → test c ≡ true
+pub below_at : (test : ℕ → Bool) (n c : ℕ) → all_below test n ≡ true → c < n → test c ≡ true
 below_at test zero c ok low = absurd (omega arith)
 below_at test (suc n) c ok low = elim (last_or_less c n low) as (λ _. test c ≡ true) [
   | inl less ↦ below_at test n c (both (test n) (all_below test n) ok).1 less
@@ -118,13 +118,13 @@ module _ (b : ℕ) (bs : List ℕ) (low : b < 128) where
   abbrev after : Option Place → Behind → Option Reading
   after o k = elim o as (λ _. Option Reading) [ None ↦ None | Some now ↦ Some (record { place = now; behind = if goes_on b then k else behind_char k (b ∷ bs) }) ]
 
-  -- a token goes on over the byte
-  pub goes : (p : Place) (k : Behind) → stay_at p (b ∷ bs) ≡ Some p → (b == 46) ≡ false → stay (at p k) (b ∷ bs) ≡ Some (at p (behind_byte b))
-  goes p k e dot =
+  -- a token goes on over the byte, and is inside of this after it
+  pub moves : (p q : Place) (k : Behind) → stay_at p (b ∷ bs) ≡ Some q → (b == 46) ≡ false → stay (at p k) (b ∷ bs) ≡ Some (at q (behind_byte b))
+  moves p q k e dot =
       ap (λ (v : Bool). after (if v then Some p else stay_at p (b ∷ bs)) k) no_middle
       ∙ ap (λ (o : Option Place). after o k) e
-      ∙ ap (λ (v : Bool). (let o : Option Reading = Some (record { place = p; behind = if v then k else behind_char k (b ∷ bs) }) in o)) no_middle
-      ∙ ap (λ (h : Behind). (let o : Option Reading = Some (record { place = p; behind = h }) in o)) (behind_is k dot)
+      ∙ ap (λ (v : Bool). (let o : Option Reading = Some (record { place = q; behind = if v then k else behind_char k (b ∷ bs) }) in o)) no_middle
+      ∙ ap (λ (h : Behind). (let o : Option Reading = Some (record { place = q; behind = h }) in o)) (behind_is k dot)
 
   -- a token ends before the byte
   pub ends : (p : Place) (k : Behind) → stay_at p (b ∷ bs) ≡ None → stay (at p k) (b ∷ bs) ≡ None

@@ -21,7 +21,7 @@ use Rattle.typst_lexer.specs.Letters.{is_letter}
 use Rattle.typst_lexer.specs.Machine.{may_end, stay, stay_at}
 use Rattle.typst_lexer.specs.Markup.{is_at_sign, is_hyphen, is_letter_h, is_period, is_plain, is_slash, is_space_in_text, text_goes_on}
 use Rattle.typst_lexer.specs.Math.{is_math_part, longer_kind, name_with}
-use Rattle.typst_lexer.proofs.Ascii.{begins_is, both, ends, first_is, goes, has, has_not, not_true, pick, same, skip}
+use Rattle.typst_lexer.proofs.Ascii.{begins_is, both, ends, first_is, has, has_not, moves, not_true, pick, same, skip}
 use Rattle.typst_lexer.proofs.Simple.{other_joins}
 use Rattle.typst_lexer.proofs.WhiteRuns.{at}
 
@@ -29,11 +29,11 @@ name_part_is : (b : ℕ) → b < 128 → is_name_part b ≡ is_name b
 unfolding tables.in_ranges xid_continue_ranges is_xid_continue
 name_part_is b low = same is_name_part is_name b low refl
 
-math_part_is : (b : ℕ) → b < 128 → is_math_part b ≡ is_ascii_alphanumeric b
+pub math_part_is : (b : ℕ) → b < 128 → is_math_part b ≡ is_ascii_alphanumeric b
 unfolding tables.in_ranges xid_continue_ranges is_xid_continue
 math_part_is b low = same is_math_part is_ascii_alphanumeric b low refl
 
-numeric_is : (b : ℕ) → b < 128 → is_numeric b ≡ is_ascii_digit b
+pub numeric_is : (b : ℕ) → b < 128 → is_numeric b ≡ is_ascii_digit b
 unfolding in_ranges numeric_ranges is_numeric
 numeric_is b low = same is_numeric is_ascii_digit b low refl
 
@@ -147,7 +147,7 @@ over_is _ b bs h = cc
 
 -- a token goes on over such a byte, and may end after it
 pub over_stays : (p : Place) (k : Behind) (b : ℕ) (bs : List ℕ) → goes_over p (b ∷ bs) ≡ true → stay (at p k) (b ∷ bs) ≡ Some (at p (behind_byte b))
-over_stays p k b bs h = let is = over_is p b bs h in goes b bs is.0 p k is.1 is.2
+over_stays p k b bs h = let is = over_is p b bs h in moves b bs is.0 p p k is.1 is.2
 
 pub over_ends : (p : Place) (b : ℕ) (bs : List ℕ) → goes_over p (b ∷ bs) ≡ true → may_end p ≡ true
 over_ends p b bs h = (over_is p b bs h).3
@@ -194,7 +194,7 @@ ends_is : (p : Place) (b : ℕ) (bs : List ℕ) → b < 128 → ends_before p b 
 ends_is place.Space b bs low h = space_ends b bs _ _ low h
 ends_is place.Line b bs low h = space_ends b bs _ _ low h
 ends_is place.Parbreak b bs low h = space_ends b bs _ _ low h
-ends_is place.Text b bs low h = skip _ _ _ (text_ends b bs low (both _ _ h).1)
+ends_is place.Text b bs low h = skip _ _ _ (text_ends b bs low h)
 ends_is place.Blank b bs low h = skip _ _ _ (begins_is b bs low is_whitespace ∙ not_true _ h)
 ends_is place.Integer b bs low h = none_from _ (has (λ c. not (is_suffix c || (c == 46))) (λ c. is_none (stay_integer (c ∷ bs))) b low h refl)
 ends_is place.Name b bs low h = ends_name b bs _ low h

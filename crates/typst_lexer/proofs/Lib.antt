@@ -10,6 +10,7 @@ pub mod Simple
 pub mod Easy
 pub mod TextRuns
 pub mod QuickTokens
+pub mod QuickMath
 pub mod Leaps
 pub mod WhiteNext
 pub mod Signs

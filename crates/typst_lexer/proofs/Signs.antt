@@ -167,7 +167,7 @@ alone (b ∷ bs) h =
     no_first : (p : ℕ → Bool) → all_below (λ c. not (is_alone c) || not (p c)) 128 ≡ true → p b ≡ false
     no_first p ok = has_not is_alone p b (alone_low b h) h ok
 
-alphanumeric_low : (b : ℕ) → is_ascii_alphanumeric b ≡ true → b < 128
+pub alphanumeric_low : (b : ℕ) → is_ascii_alphanumeric b ≡ true → b < 128
 alphanumeric_low b h = grind (arith, nat_tests)
 
 -- a letter or a digit of math

@@ -12,7 +12,6 @@ use Rattle.typst_lexer.specs.Characters.{begins, is_name, is_white}
 use Rattle.typst_lexer.specs.Classes.{is_blank, is_newline}
 use Rattle.typst_lexer.specs.Code.{is_suffix}
 use Rattle.typst_lexer.specs.Letters.{is_letter}
-use Rattle.typst_lexer.specs.Markup.{is_plain}
 
 -- what is directly before a place after the byte, which is no dot
 abbrev pub behind_byte : ℕ → Behind
@@ -79,9 +78,11 @@ easy_len place.LineComment bytes = length (take_while is_commented bytes)
 easy_len (place.RawText n run) bytes = if run == 0 then length (take_while is_raw bytes) else 0
 easy_len _ bytes = 0
 
--- the sign or the white space before which text ends, whatever comes next
+-- white space but a blank, or one of `"#$'*:<>[\]_~` and a backtick, before which text ends, whatever comes next
 abbrev pub is_text_end : ℕ → Bool
-is_text_end b = not (is_plain b || (b == 32) || (b == 45) || (b == 46) || (b == 47) || (b == 64) || (b == 104))
+is_text_end b =
+    (nat_le 9 b && nat_le b 13) || (b == 34) || (b == 35) || (b == 36) || (b == 39) || (b == 42) || (b == 58) || (b == 60) || (b == 62)
+    || (b == 91) || (b == 92) || (b == 93) || (b == 95) || (b == 96) || (b == 126)
 
 -- the class that most characters have
 abbrev pub is_other : GraphemeClusterBreak → Bool
@@ -93,7 +94,7 @@ abbrev pub ends_before : Place → ℕ → Bool
 ends_before place.Space b = not (is_blank b)
 ends_before place.Line b = not (is_blank b)
 ends_before place.Parbreak b = not (is_blank b)
-ends_before place.Text b = not (is_letter b) && is_text_end b
+ends_before place.Text b = is_text_end b
 ends_before place.Blank b = not (is_whitespace b)
 ends_before place.Integer b = not (is_suffix b || (b == 46))
 ends_before place.Name b = not (is_name b)

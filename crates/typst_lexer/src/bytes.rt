@@ -9,7 +9,6 @@ ghost use Rattle.typst_lexer.specs.Letters.{is_letter};
 use crate::characters::{is_name, is_white};
 use crate::classes::{is_blank, is_newline};
 use crate::code::is_suffix;
-use crate::markup::is_plain;
 use crate::place::{Behind, Place};
 use ucd_breaks::GraphemeClusterBreak;
 
@@ -184,16 +183,27 @@ pub fn easy_len(place: Place, bytes: &[u8]) -> usize
 }
 
 /// Whether text ends before the byte, whatever comes next.
-fn is_text_end(byte: u8) -> bool
+pub fn is_text_end(byte: u8) -> bool
     ensures { result ≡ is_text_end byte }
 {
-    !(is_plain(byte as char)
-        || byte == b' '
-        || byte == b'-'
-        || byte == b'.'
-        || byte == b'/'
-        || byte == b'@'
-        || byte == b'h')
+    matches!(
+        byte,
+        b'\t'..=b'\r'
+            | b'"'
+            | b'#'
+            | b'$'
+            | b'\''
+            | b'*'
+            | b':'
+            | b'<'
+            | b'>'
+            | b'['
+            | b'\\'
+            | b']'
+            | b'_'
+            | b'`'
+            | b'~'
+    )
 }
 
 /// Whether the class is that of most characters.
@@ -209,7 +219,7 @@ fn ends_before(place: Place, byte: u8) -> bool
 {
     match place {
         Place::Space | Place::Line | Place::Parbreak => !is_blank(byte as char),
-        Place::Text => !is_letter(byte) && is_text_end(byte),
+        Place::Text => is_text_end(byte),
         Place::Blank => !(byte as char).is_whitespace(),
         Place::Integer => !(is_suffix(byte) || byte == b'.'),
         Place::Name | Place::FieldName => !is_name(byte),
@@ -246,7 +256,7 @@ pub fn begins_bracket(window: &[u8]) -> bool
 }
 
 /// Whether the byte is one of ASCII that no shorthand of math begins with.
-fn is_alone(byte: u8) -> bool
+pub fn is_alone(byte: u8) -> bool
     ensures { result ≡ is_alone byte }
 {
     byte < 128
