@@ -1,7 +1,7 @@
 -- A search that finds nothing a second time.
 use Rattle.std.proofs.Common.{◌≡◌, ℕ, ◌&&◌, ◌||◌, Bool, true, false, List, [], ◌∷◌, ◌++◌, Option, Some, None, if◌then◌else◌, refl, sym, ap, ◌∙◌, append_assoc}
 use Rattle.std.specs.Cmp.{nat_eq_equiv}
-use Rattle.std.specs.HashSet.{HashSet}
+use Rattle.std.specs.BTreeSet.{BTreeSet}
 use Rattle.std.specs.List.{list_any}
 use Rattle.std.specs.Option.{is_some, option_map}
 use Rattle.std.proofs.lemmas.Cmp.{nat_list_eq_equiv}
@@ -84,16 +84,16 @@ clean_some (Some g ∷ xs) f c a =
     (clean_some xs f p.1 q.1)
 
 -- What was found comes before what is left, exactly that was seen, and nothing came a second time.
-pub record IsFresh {S : Type 0} (seen : HashSet Key S) (left whole : List (Option Found)) : Type 0 where
+pub record IsFresh (seen : BTreeSet Key) (left whole : List (Option Found)) : Type 0 where
   pub before : List (Option Found)
   pub split : before ++ left ≡ whole
   pub saw : (q : CodeFound) → is_seen seen q ≡ is_among (found_of q) before
   pub clean : list_any is_some (faults_of before) ≡ false
 
-pub fresh_first : {S : Type 0} (seen : HashSet Key S) (left whole : List (Option Found)) → ((q : CodeFound) → is_seen seen q ≡ false) → left ≡ whole → IsFresh seen left whole
+pub fresh_first : (seen : BTreeSet Key) (left whole : List (Option Found)) → ((q : CodeFound) → is_seen seen q ≡ false) → left ≡ whole → IsFresh seen left whole
 fresh_first seen left whole none is = record { before = []; split = is; saw = none; clean = refl }
 
-pub fresh_next : {S : Type 0} (s t : HashSet Key S) (one : Option CodeFound) (left next whole : List (Option Found)) → IsFresh s left whole → left ≡ option_map found_of one ∷ next
+pub fresh_next : (s t : BTreeSet Key) (one : Option CodeFound) (left next whole : List (Option Found)) → IsFresh s left whole → left ≡ option_map found_of one ∷ next
     → ((q : CodeFound) → is_seen t q ≡ seen_with s one q) → is_some (fault_if_seen s one) ≡ false → IsFresh t next whole
 fresh_next s t None left next whole f is more none = record {
   before = f.before ++ None ∷ [];
@@ -109,6 +109,6 @@ fresh_next s t (Some one) left next whole f is more none = record {
   clean = clean_some f.before (found_of one) f.clean (sym (f.saw one) ∙ not_some (is_seen s one) one.fault none);
 }
 
-pub fresh_end : {S : Type 0} (seen : HashSet Key S) (left whole : List (Option Found)) → IsFresh seen left whole → left ≡ [] → list_any is_some (faults_of whole) ≡ false
+pub fresh_end : (seen : BTreeSet Key) (left whole : List (Option Found)) → IsFresh seen left whole → left ≡ [] → list_any is_some (faults_of whole) ≡ false
 fresh_end seen left whole f none =
     ap (λ fs. list_any is_some (faults_of fs)) (sym (sym (append-nil f.before) ∙ ap (λ v. f.before ++ v) (sym none) ∙ f.split)) ∙ f.clean

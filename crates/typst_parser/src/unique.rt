@@ -16,7 +16,7 @@ use crate::fault::Fault;
 use crate::role::{Role, first_role, others_role, root_role};
 use crate::span::{span, width};
 use std::alloc::{AllocError, Global};
-use std::collections::HashSet;
+use std::collections::BTreeSet;
 use typst_base::SyntaxKind;
 use typst_grammar::Unique;
 
@@ -224,7 +224,7 @@ fn find<'a>(
 }
 
 /// The names and sinks that were seen, each with the number of its list.
-type Seen<'a> = HashSet<(usize, Option<&'a [u8]>)>;
+type Seen<'a> = BTreeSet<(usize, Option<&'a [u8]>)>;
 
 /// Why it is an error, if it was seen. From then on it is seen.
 fn see<'a>(seen: &mut Seen<'a>, one: Found<'a>) -> Result<Option<Fault>, AllocError>
@@ -259,7 +259,7 @@ fn are_unique(
 ) -> Result<bool, AllocError>
     ensures { IfOk result (λ unique. unique ≡ true → events.now ≡ made_unique what text.now events.now) }
 {
-    let mut seen = HashSet::new(alloc);
+    let mut seen = BTreeSet::new(alloc);
     let mut search = Search::new(alloc, what, text, events)?;
     while let Some(one) = search.next(what, events)? {
         if see_any(&mut seen, one)?.is_some() {
@@ -273,7 +273,7 @@ fn are_unique(
 fn faults_of(alloc: Global, found: &[Option<Found<'_>>]) -> Result<Vec<Option<Fault>>, AllocError>
     ensures { IfOk result (λ faults. faults.items ≡ faults_of (map (option_map found_of) found.now)) }
 {
-    let mut seen = HashSet::new(alloc);
+    let mut seen = BTreeSet::new(alloc);
     let mut faults = Vec::new(alloc);
     let mut left = found.len();
     while left > 0 {
@@ -336,7 +336,7 @@ fn take_faulted(
 /// Makes errors of names that come again in the last tree, and of second sinks. The text ends with that tree. After an
 /// error the events are gone.
 ///
-/// It takes time in proportion to the events of the tree and to the bytes of its names, as far as hashes tell names apart.
+/// It takes time in proportion to the events of the tree, and for each name to its bytes and to the logarithm of how many there are.
 pub(crate) fn make_unique(
     alloc: Global,
     events: &mut Vec<Event>,
