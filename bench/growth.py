@@ -53,6 +53,8 @@ PER_PIECE = {
     "text: parse items": (2_250, 1_990),
     "text: parse keys": (10_100, 10_100),
 }
+# The same for each function of code and for each equation: of so many.
+PIECES, PER_LONG_PIECE = (100, 1_600), {"text: parse code": (220_000, 220_000), "text: parse equations": (120_000, 120_000)}
 # The most instructions for each level of a chain, whose leaf a reconciliation changes: at so many levels.
 LEVELS, PER_LEVEL = (30, 480), {"text: reconcile chain": (1_500, 1_300)}
 # The most bytes of memory that a call may ask for.
@@ -100,6 +102,8 @@ def rows():
         yield name, "instructions a line", bounds, [of_call(name, size, 2) // size for size in SIZES]
     for name, bounds in PER_PIECE.items():
         yield name, "instructions a piece", bounds, [of_call(name, size, 2) // size for size in SIZES]
+    for name, bounds in PER_LONG_PIECE.items():
+        yield name, "instructions a piece", bounds, [of_call(name, size, 2) // size for size in PIECES]
     for name, bounds in PER_LEVEL.items():
         yield name, "instructions a level", bounds, [of_call(name, size) // size for size in LEVELS]
     for name, bounds in BYTES.items():

@@ -139,9 +139,22 @@ def resized(_shape, size, rounds):
     return lengths + len(come)
 
 
+# A function as in a package for Typst, and an equation as in a textbook.
+FUNCTION = """#let entry(title, page, fill: 1fr) = {
+  // The page stands at the right margin.
+  let width = measure(title).width + 2em
+  if width > page.width {
+    return par(hanging-indent: 1em, title)
+  }
+  box(width: fill, stroke: none, title)
+}
+
+"""
+EQUATION = '$ sum_(k = 1)^n k^2 = (n (n + 1) (2 n + 1)) / 6 quad "for all" n in NN $\n\n'
 # Texts of the same piece again and again: how many bytes the beginning, the piece and the end have.
-REPEATS = {"stars": (0, 1, 0), "nested": (0, 2, 0), "round": (1, 1, 0), "square": (1, 1, 0), "curly": (1, 1, 0), "dollars": (0, 1, 0),
-           "minus": (2, 2, 0), "fields": (2, 2, 0), "calls": (1, 2, 0), "items": (0, 2, 0), "keys": (2, 9, 1)}
+REPEATS = {"code": (0, len(FUNCTION), 0), "equations": (0, len(EQUATION), 0), "stars": (0, 1, 0), "nested": (0, 2, 0), "round": (1, 1, 0),
+           "square": (1, 1, 0), "curly": (1, 1, 0), "dollars": (0, 1, 0), "minus": (2, 2, 0), "fields": (2, 2, 0), "calls": (1, 2, 0),
+           "items": (0, 2, 0), "keys": (2, 9, 1)}
 
 def parsed(shape, size, rounds):
     """How many bytes the trees of a text have in all rounds."""
@@ -291,6 +304,8 @@ TABLES = {
     "Building": [
         Row("parse a text of 1,000 lines, a line", "parse 1000 50", 1_000),
         Row("parse a text of 100,000 lines, a line", "parse 100000 1", 100_000),
+        Row("parse 100 functions of code, a byte", "parse code 100 50", 100 * len(FUNCTION)),
+        Row("parse 300 equations, a byte", "parse equations 300 50", 300 * len(EQUATION)),
         over("a node of 10^6 leaves, a node", "build", "wide", 1_000_000, 4),
         over("10^6 leaves, ten a node, a node", "build", "ten", 1_000_000, 3),
         over("a document of 10^6 nodes, a node", "build", "document", MILLION, 3),

@@ -8,8 +8,34 @@ struct Repeat {
     piece: &'static str,
 }
 
-/// What such texts are made of: delimiters that nothing closes, operators, fields, calls and items.
+/// A function as in a package for Typst.
+const FUNCTION: &str = "#let entry(title, page, fill: 1fr) = {
+  // The page stands at the right margin.
+  let width = measure(title).width + 2em
+  if width > page.width {
+    return par(hanging-indent: 1em, title)
+  }
+  box(width: fill, stroke: none, title)
+}
+
+";
+
+/// An equation as in a textbook.
+const EQUATION: &str =
+    "$ sum_(k = 1)^n k^2 = (n (n + 1) (2 n + 1)) / 6 quad \"for all\" n in NN $\n\n";
+
+/// What such texts are made of: functions, equations, delimiters that nothing closes, operators, fields, calls and items.
 const REPEATS: &[Repeat] = &[
+    Repeat {
+        name: "code",
+        head: "",
+        piece: FUNCTION,
+    },
+    Repeat {
+        name: "equations",
+        head: "",
+        piece: EQUATION,
+    },
     Repeat {
         name: "stars",
         head: "",
