@@ -31,30 +31,30 @@ BOUNDS = {
     "script: find, run": (1_900, 1_900),
     "script: replace, run": (5_300, 5_400),
     # Texts. An edit is made and taken back: in the middle, or in turns at both ends, with the blocks between them.
-    "text: letter": (52_300, 133_000),
-    "text: letter far": (59_000, 232_000),
-    "text: letter list": (39_300, 131_000),
+    "text: letter": (45_500, 112_500),
+    "text: letter far": (51_600, 208_000),
+    "text: letter list": (34_000, 118_000),
     "text: lines letter": (2_000, 3_600),
     "text: byte_to_line": (210, 250),
     "text: line_column_to_byte": (170, 170),
     "text: place_of": (550, 590),
 }
 # The most instructions for each line of a text that is parsed: of paragraphs, of one block, and of items without blank lines.
-PER_LINE = {"text: parse": (10_700, 10_700), "text: parse block": (12_600, 12_600), "text: parse list": (13_000, 13_000)}
+PER_LINE = {"text: parse": (10_000, 10_100), "text: parse block": (11_900, 11_800), "text: parse list": (12_100, 12_100)}
 # The same for each piece of a text of one line that repeats it: brackets that nothing closes, operators, fields, calls, names.
 PER_PIECE = {
-    "text: parse round": (3_240, 3_100),
-    "text: parse square": (1_180, 1_170),
-    "text: parse curly": (2_940, 2_720),
-    "text: parse dollars": (2_850, 2_830),
-    "text: parse minus": (80, 70),
-    "text: parse fields": (4_240, 4_250),
-    "text: parse calls": (73_000, 75_200),
-    "text: parse items": (2_250, 1_990),
-    "text: parse keys": (10_100, 10_100),
+    "text: parse round": (2_900, 2_800),
+    "text: parse square": (840, 830),
+    "text: parse curly": (2_700, 2_570),
+    "text: parse dollars": (2_330, 2_310),
+    "text: parse minus": (65, 55),
+    "text: parse fields": (3_930, 3_930),
+    "text: parse calls": (37_200, 38_100),
+    "text: parse items": (1_600, 1_360),
+    "text: parse keys": (8_600, 8_700),
 }
 # The same for each function of code and for each equation: of so many.
-PIECES, PER_LONG_PIECE = (100, 1_600), {"text: parse code": (220_000, 220_000), "text: parse equations": (120_000, 120_000)}
+PIECES, PER_LONG_PIECE = (100, 1_600), {"text: parse code": (145_000, 146_000), "text: parse equations": (87_000, 88_500)}
 # The most instructions for each level of a chain, whose leaf a reconciliation changes: at so many levels.
 LEVELS, PER_LEVEL = (30, 480), {"text: reconcile chain": (1_500, 1_300)}
 # The most bytes of memory that a call may ask for.
@@ -95,19 +95,16 @@ def of_call(name, size, calls=CALLS, what=INSTRUCTIONS):
 
 
 def rows():
-    """Each name with what is counted, its bounds, and what is found at each size."""
+    """Each name with what is counted, at which sizes, its bounds, and what is found at each size."""
     for name, bounds in BOUNDS.items():
-        yield name, "instructions", bounds, [of_call(name, size) for size in SIZES]
-    for name, bounds in PER_LINE.items():
-        yield name, "instructions a line", bounds, [of_call(name, size, 2) // size for size in SIZES]
-    for name, bounds in PER_PIECE.items():
-        yield name, "instructions a piece", bounds, [of_call(name, size, 2) // size for size in SIZES]
-    for name, bounds in PER_LONG_PIECE.items():
-        yield name, "instructions a piece", bounds, [of_call(name, size, 2) // size for size in PIECES]
+        yield name, "instructions", SIZES, bounds, [of_call(name, size) for size in SIZES]
+    for sizes, unit, group in ((SIZES, "line", PER_LINE), (SIZES, "piece", PER_PIECE), (PIECES, "piece", PER_LONG_PIECE)):
+        for name, bounds in group.items():
+            yield name, f"instructions a {unit}", sizes, bounds, [of_call(name, size, 2) // size for size in sizes]
     for name, bounds in PER_LEVEL.items():
-        yield name, "instructions a level", bounds, [of_call(name, size) // size for size in LEVELS]
+        yield name, "instructions a level", LEVELS, bounds, [of_call(name, size) // size for size in LEVELS]
     for name, bounds in BYTES.items():
-        yield name, "bytes of memory", bounds, [of_call(name, size, CALLS, ASKED) for size in SIZES]
+        yield name, "bytes of memory", SIZES, bounds, [of_call(name, size, CALLS, ASKED) for size in SIZES]
 
 
 def main():
@@ -116,12 +113,12 @@ def main():
         print("growth: no valgrind, so no instructions are counted")
         return 0
     wrong, count = [], 0
-    for name, what, bounds, found in rows():
+    for name, what, sizes, bounds, found in rows():
         count += 1
         if is_asked:
             print(f"{name}: {found} {what}")
             continue
-        for size, taken, most in zip(SIZES, found, bounds):
+        for size, taken, most in zip(sizes, found, bounds):
             if taken > most:
                 wrong.append(f"{name}: {taken} {what} at the size {size}, and {most} are the most")
     return ended(wrong, f"{count} rows counted at two sizes, {len(wrong)} of the figures above their bound")
