@@ -89,6 +89,11 @@ class Parts:
     def states(self, part):
         return [state for state in self.table.frames if state.part == part]
 
+    def alike(self, state):
+        """The frame of the same part whose rows a state has, if it has none of its own."""
+        base = self.table.states.get(state.base)
+        return base if base in self.states(state.part) and not state.rows else None
+
 
 # In code.
 
@@ -149,6 +154,14 @@ const ROW_{number}: Row = Row {{
 
 
 def state_in_code(parts, state):
+    if base := parts.alike(state):
+        return f"""/// {head_of(state.what)}.
+pub(crate) fn {snake(state.name)}(class: Class) -> &'static [Row]
+    ensures {{ rows_of result.now ≡ {snake(state.name)} class }}
+{{
+    {snake(base.name)}(class)
+}}
+"""
     arms = [arm("Class", classes, [f"ROW_{row}" for row in cell]) for cell, classes in parts.others(state).items()]
     arms.append(arm("Class", [], [f"ROW_{row}" for row in parts.most(state)]))
     name, body = snake(state.name), "\n".join(arms)
@@ -319,6 +332,8 @@ def row_in_specs(table, number, row):
 
 
 def state_in_specs(parts, state):
+    if base := parts.alike(state):
+        return f"-- {state.what}\nabbrev pub {snake(state.name)} : Class → List Row\n{snake(state.name)} class = {snake(base.name)} class\n"
     name, order = snake(state.name), [token.name for token in parts.table.classes]
     lists = [(cls, cell) for cell, classes in parts.others(state).items() for cls in classes]
     lines = [

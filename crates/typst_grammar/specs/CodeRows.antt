@@ -425,32 +425,7 @@ expr _ = row_8 ∷ []
 
 -- an expression of a block of code
 abbrev pub statement : Class → List Row
-statement classes.Label = row_9 ∷ []
-statement classes.Raw = row_9 ∷ []
-statement classes.Dollar = row_10 ∷ []
-statement classes.LeftBrace = row_11 ∷ []
-statement classes.LeftBracket = row_12 ∷ []
-statement classes.LeftParen = row_13 ∷ []
-statement classes.Underscore = row_14 ∷ row_8 ∷ []
-statement classes.Sign = row_15 ∷ row_8 ∷ []
-statement classes.Ident = row_16 ∷ []
-statement classes.Str = row_9 ∷ []
-statement classes.Literal = row_9 ∷ []
-statement classes.Constant = row_9 ∷ []
-statement classes.Not = row_17 ∷ row_8 ∷ []
-statement classes.Let = row_18 ∷ []
-statement classes.Set = row_19 ∷ []
-statement classes.Show = row_20 ∷ []
-statement classes.Context = row_21 ∷ row_22 ∷ []
-statement classes.If = row_23 ∷ []
-statement classes.For = row_24 ∷ []
-statement classes.While = row_25 ∷ []
-statement classes.Break = row_26 ∷ []
-statement classes.Continue = row_27 ∷ []
-statement classes.Return = row_28 ∷ []
-statement classes.Import = row_29 ∷ []
-statement classes.Include = row_30 ∷ []
-statement _ = row_8 ∷ []
+statement class = expr class
 
 -- the rest of a row of `expr`, once the frame that it opened has returned
 abbrev pub expr_rest1 : Class → List Row

@@ -570,30 +570,7 @@ pub(crate) fn expr(class: Class) -> &'static [Row]
 pub(crate) fn statement(class: Class) -> &'static [Row]
     ensures { rows_of result.now ≡ statement class }
 {
-    match class {
-        Class::Label | Class::Raw | Class::Str | Class::Literal | Class::Constant => &[ROW_9],
-        Class::Dollar => &[ROW_10],
-        Class::LeftBrace => &[ROW_11],
-        Class::LeftBracket => &[ROW_12],
-        Class::LeftParen => &[ROW_13],
-        Class::Underscore => &[ROW_14, ROW_8],
-        Class::Sign => &[ROW_15, ROW_8],
-        Class::Ident => &[ROW_16],
-        Class::Not => &[ROW_17, ROW_8],
-        Class::Let => &[ROW_18],
-        Class::Set => &[ROW_19],
-        Class::Show => &[ROW_20],
-        Class::Context => &[ROW_21, ROW_22],
-        Class::If => &[ROW_23],
-        Class::For => &[ROW_24],
-        Class::While => &[ROW_25],
-        Class::Break => &[ROW_26],
-        Class::Continue => &[ROW_27],
-        Class::Return => &[ROW_28],
-        Class::Import => &[ROW_29],
-        Class::Include => &[ROW_30],
-        _ => &[ROW_8],
-    }
+    expr(class)
 }
 
 /// The rest of a row of `expr`, once the frame that it opened has returned.
