@@ -17,6 +17,7 @@ pub mod Signs
 pub mod Tokens
 pub mod Steps
 pub mod LineComments
+pub mod LoneBlanks
 pub mod BlockComments
 pub mod OpenComments
 pub mod RawTexts

@@ -116,7 +116,7 @@ abbrev pub cut : ℕ → List ℕ → List ℕ
 cut n bytes = take (length bytes - n) (drop n bytes)
 
 -- a token whose last n bytes go on without a change
-token : (m : Mode) (k : Behind) (p : Place) (b : ℕ) (bs : List ℕ) (n : ℕ) → b < 128 → (b == 46) ≡ false → enter m k (take 10 (b ∷ bs)) ≡ p
+pub token : (m : Mode) (k : Behind) (p : Place) (b : ℕ) (bs : List ℕ) (n : ℕ) → b < 128 → (b == 46) ≡ false → enter m k (take 10 (b ∷ bs)) ≡ p
     → n ≤ easy_len p bs → n ≤ length bs → Stops p (drop n bs) → IsQuick m k (b ∷ bs) (record { kind = kind_of p (take (suc n) (b ∷ bs)); len = suc n })
 token m k p b bs n low dot is easy within stops some =
     ap (λ (r : Run). (let t : FirstToken = record { kind = kind_of r.last.place (take r.len (b ∷ bs)); len = r.len; look = r.passed + 10; behind = r.last.behind } in t))

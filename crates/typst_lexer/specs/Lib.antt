@@ -15,6 +15,7 @@ pub mod Machine
 pub mod Runs
 pub mod FirstToken
 pub mod Letters
+pub mod LoneBlank
 pub mod Bytes
 pub mod Escapes
 pub mod Spaces

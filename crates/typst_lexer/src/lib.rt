@@ -29,7 +29,7 @@ pub use lexer::{Lexer, tokens_make_up_texts};
 pub use mode::Mode;
 pub use place::Behind;
 pub use token::{Token, TokenKind};
-pub use white::begins_white;
+pub use white::{begins_white, lone_blank};
 
 mod arguments;
 mod bytes;

@@ -1,7 +1,8 @@
 //! White space and comments before a token.
-ghost use Rattle.std.specs.Prelude.{true, false, ◌≡◌};
+ghost use Rattle.std.specs.Prelude.{true, false, ◌≡◌, [], ◌∷◌, slice_index, take, IfSome, IsSome};
 ghost use Rattle.typst_lexer.specs.declared.mode.Mode.{Mode};
 ghost use Rattle.typst_lexer.specs.declared.place.Behind.{Behind};
+ghost use Rattle.typst_lexer.specs.LoneBlank.{IsBlankByte, IsLone};
 ghost use Rattle.typst_lexer.specs.Spaces.{is_markup};
 ghost use Rattle.typst_lexer.specs.White.{begins_white, is_solid, is_space_next, is_white_next};
 
@@ -53,6 +54,21 @@ fn begins_solid(text: &[u8]) -> bool
     ensures { result ≡ true → (mode : Mode) (behind : Behind) → begins_white mode behind text.now ≡ false }
 {
     matches!(text, [byte, ..] if is_solid(*byte))
+}
+
+/// The blank or the line feed at the beginning, if it is all white space before a token, as the byte behind it tells.
+#[tactic(auto, using(crate::proofs::LoneBlanks::byte_is))]
+pub fn lone_blank(text: &[u8]) -> Option<u8>
+    ensures lone { IfSome result (λ byte. IsLone text.now) }
+    ensures found { IsBlankByte (slice_index text.now 0) → is_solid (slice_index text.now 1) ≡ true → IsSome result }
+    ensures byte { IfSome result (λ byte. take 1 text.now ≡ byte ∷ []) }
+    ensures kind { IfSome result IsBlankByte }
+{
+    match text {
+        [byte, next, ..] if *byte == b' ' && is_solid(*next) => Some(b' '),
+        [byte, next, ..] if *byte == b'\n' && is_solid(*next) => Some(b'\n'),
+        _ => None,
+    }
 }
 
 #[tactic(auto, using(crate::proofs::WhiteNext::white_is))]
