@@ -61,7 +61,7 @@ fn sign_kind(byte: u8) -> TokenKind
 }
 
 /// How many bytes from the front are letters and digits of ASCII.
-fn words(bytes: &[u8]) -> usize
+fn word_len(bytes: &[u8]) -> usize
     ensures value { result ≡ length (take_while is_ascii_alphanumeric bytes.now) }
     ensures within { result ≤ length bytes.now }
 {
@@ -87,7 +87,7 @@ fn quick_word(bytes: &[u8]) -> Quick
         → IsQuick Mode.Math before bytes.now result }
     ensures within { result.len ≤ length bytes.now }
 {
-    let len = words(bytes);
+    let len = word_len(bytes);
     let kind = if len == 1 {
         TokenKind::MathLetter
     } else {
@@ -101,7 +101,7 @@ fn quick_word(bytes: &[u8]) -> Quick
 }
 
 /// How many bytes from the front are digits of ASCII.
-fn digits(bytes: &[u8]) -> usize
+fn digit_len(bytes: &[u8]) -> usize
     ensures value { result ≡ length (take_while is_ascii_digit bytes.now) }
     ensures within { result ≤ length bytes.now }
 {
@@ -127,7 +127,7 @@ fn quick_number(bytes: &[u8]) -> Quick
         → IsQuick Mode.Math before bytes.now result }
     ensures within { result.len ≤ length bytes.now }
 {
-    let len = digits(bytes);
+    let len = digit_len(bytes);
     let kind = TokenKind::MathText;
     if stops_number(&bytes[len..]) {
         Quick { kind, len }
