@@ -3,6 +3,7 @@ use Rattle.std.proofs.Common.{◌≡◌, ℕ, suc, ◌+◌, ◌-◌, ◌<◌, �
 use Rattle.std.specs.Prelude.{◌&&◌, ◌||◌, ◌==◌, not, codes, slice_index, Option, Some, None, if◌then◌else◌}
 use Rattle.std.specs.Char.{is_ascii_alphabetic, is_ascii_alphanumeric, is_ascii_digit, is_ascii_graphic, is_whitespace}
 use Rattle.std.specs.List.{take_while}
+use Rattle.std.specs.Option.{option_map_or}
 use Rattle.std.specs.Char.Unicode.Rows.{in_ranges}
 use Rattle.std.specs.Char.Unicode.Alphabetic.{alphabetic_ranges, is_alphabetic}
 use Rattle.std.specs.Char.Unicode.Numeric.{is_numeric, numeric_ranges}
@@ -18,10 +19,12 @@ use Rattle.typst_lexer.specs.declared.head.FirstToken.{FirstToken}
 use Rattle.typst_lexer.specs.declared.quick.Quick.{Quick}
 use Rattle.typst_lexer.specs.declared.mode.Mode.TheVariants as modes
 use Rattle.typst_lexer.specs.declared.place.Behind.{Behind}
+use Rattle.typst_lexer.specs.declared.place.Behind.TheVariants as behinds
 use Rattle.typst_lexer.specs.declared.place.Place.{Place}
 use Rattle.typst_lexer.specs.declared.place.Place.TheVariants as place
 use Rattle.typst_lexer.specs.declared.place.Reading.{Reading}
 use Rattle.typst_lexer.specs.declared.head.Run.{Run}
+use Rattle.typst_lexer.specs.FirstCodes.{first_code}
 use Rattle.typst_lexer.specs.FirstToken.{run_of}
 use Rattle.typst_lexer.specs.Runs.{leapt, longer, run, stopped}
 use Rattle.typst_lexer.specs.declared.mode.Mode.{Mode}
@@ -29,18 +32,19 @@ use Rattle.typst_lexer.proofs.WhiteRuns.{at, nothing_begins}
 use Rattle.typst_lexer.specs.declared.token.TokenKind.{TokenKind}
 use Rattle.typst_lexer.specs.declared.token.TokenKind.TheVariants as kinds
 use Rattle.typst_lexer.specs.Arguments.{enter_argument, enter_name, enter_value}
-use Rattle.typst_lexer.specs.Bytes.{behind_byte, is_undotted, ends_at, ends_before, is_alone, is_other, is_simple}
+use Rattle.typst_lexer.specs.Bytes.{behind_byte, is_undotted, ends_before, is_alone, is_other, is_simple}
 use Rattle.typst_lexer.specs.Characters as characters
-use Rattle.typst_lexer.specs.Characters.{begins, begins_with}
-use Rattle.typst_lexer.specs.Classes.{begins_char, is_name_part, is_name_start}
+use Rattle.typst_lexer.specs.Characters.{begins, begins_with, goes_on}
+use Rattle.typst_lexer.specs.Classes.{begins_char, char_of, first_char, is_name_part, is_name_start}
 use Rattle.typst_lexer.specs.Clusters.{cluster_of}
 use Rattle.typst_lexer.specs.Machine.{accepts, kind_of, may_end, reading, stay, stay_at}
 use Rattle.typst_lexer.specs.Math.{after_char, char_kind, dot_kind, enter_char, enter_first, enter_formula, enter_math, enter_math_sign, enter_shorthand, is_closing, is_math_name, is_math_part, is_math_start, is_opening, is_root, is_shorthand_of_four, is_shorthand_of_one, is_shorthand_of_three, is_shorthand_of_two, name_with}
-use Rattle.typst_lexer.specs.Quick.{IsQuick, Stops, is_no_word}
-use Rattle.typst_lexer.specs.QuickMath.{ends_or_begins, is_nameless, is_no_number, is_outer, is_sign, is_single, sign_kind}
+use Rattle.typst_lexer.specs.Quick.{IsQuick, Stops}
+use Rattle.typst_lexer.specs.QuickMath.{is_nameless, is_outer, is_sign, is_single, sign_kind}
 use Rattle.typst_lexer.specs.Shared.{enter_comment}
 use Rattle.typst_lexer.proofs.Ascii.{all_below, begins_is, below_at, both, first_is, has, has_not, moves, pick, same, skip}
-use Rattle.typst_lexer.proofs.QuickTokens.{and_left, before_byte, begins_at, cut, found, low_from, run_more, run_none}
+use Rattle.typst_lexer.proofs.QuickTokens.{and_left, begins_at, before_byte, byte_stops, cut, found, low_from, low_to, run_more, run_none}
+use Rattle.typst_lexer.proofs.FirstCodes.{first_code_is}
 use Rattle.typst_lexer.proofs.Easy.{math_part_is, numeric_is}
 use Rattle.typst_lexer.proofs.Signs.{alone, alphanumeric_low, math_char}
 use Rattle.typst_lexer.proofs.Simple.{other_joins, simple_cluster}
@@ -213,13 +217,9 @@ run_found k p q b bs n kind word is more =
     ∙ ap whole more
     ∙ ap (λ (j : ℕ). (let r : Run = record { passed = suc n; len = suc n; last = at q (behind_byte (get_or (b ∷ bs) j 0)) } in r)) (let same : n ≡ suc n - 1 = omega arith in same))
 
-stops : (p : Place) (f : ℕ → Bool) (rest : List ℕ) → ((c : ℕ) → f c ≡ true → ends_at p c ≡ true) → ends_or_begins f rest ≡ true → Stops p rest
-stops p f [] ending e = λ k some. absurd (omega (arith, some))
-stops p f (c ∷ cs) ending e = before_byte p c cs (ending c e)
-
 -- what is behind n bytes, as the code cuts it off
-behind : (f : ℕ → Bool) (n b : ℕ) (bs : List ℕ) (j : ℕ) → n ≡ suc j → ends_or_begins f (cut n (b ∷ bs)) ≡ true → ends_or_begins f (drop j bs) ≡ true
-behind f n b bs j more end = subst (λ i. ends_or_begins f (drop i (b ∷ bs)) ≡ true) more (subst (λ rest. ends_or_begins f rest ≡ true) (take_rest (b ∷ bs) n) end)
+behind : (p : Place) (n b : ℕ) (bs : List ℕ) (j : ℕ) → n ≡ suc j → Stops p (cut n (b ∷ bs)) → Stops p (drop j bs)
+behind p n b bs j more end = subst (λ i. Stops p (drop i (b ∷ bs))) more (subst (Stops p) (take_rest (b ∷ bs) n) end)
 
 digit_word : (b : ℕ) → is_ascii_digit b ≡ true → is_ascii_alphanumeric b ≡ true
 digit_word b h = grind (arith, nat_tests)
@@ -242,6 +242,11 @@ module _ (b : ℕ) (bs : List ℕ) (word : is_ascii_alphanumeric b ≡ true) whe
       ∙ ap (λ (o : Option ℕ). elim o as (λ _. Place) [ None ↦ place.Rest kinds.MathText 0 | Some d ↦ enter_char d (b ∷ bs) ]) (first_is b bs low)
 
 -- Numbers.
+pub number_stops : (bytes : List ℕ) → slice_index bytes 0 < 128 → is_ascii_digit (slice_index bytes 0) ≡ false → not (slice_index bytes 0 == 46) ≡ true → Stops place.MathNumber bytes
+number_stops bytes below digit dot =
+    let b : ℕ = slice_index bytes 0 in
+    byte_stops place.MathNumber bytes (ap (λ (v : Bool). v && not (is_ascii_digit b || (b == 46))) (low_to b below) ∙ ap (λ (v : Bool). not (v || (b == 46))) digit ∙ dot)
+
 number_stays : Stays place.MathNumber place.MathNumber is_ascii_digit
 number_stays b bs h = let low = alphanumeric_low b (digit_word b h) in (digit_word b h, pick _ _ _ (begins_is b bs low is_numeric ∙ numeric_is b low ∙ h))
 
@@ -253,7 +258,7 @@ number_enters b bs h =
     ∙ skip _ _ _ (and_left _ _ (begins_is b bs low is_math_start ∙ has_not is_ascii_digit is_math_start b low h refl))
     ∙ pick _ _ _ (numeric_is b low ∙ h)
 
-pub number_found : (k : Behind) (bytes : List ℕ) (n : ℕ) → begins is_ascii_digit bytes ≡ true → n ≡ length (take_while is_ascii_digit bytes) → ends_or_begins is_no_number (cut n bytes) ≡ true
+pub number_found : (k : Behind) (bytes : List ℕ) (n : ℕ) → begins is_ascii_digit bytes ≡ true → n ≡ length (take_while is_ascii_digit bytes) → Stops place.MathNumber (cut n bytes)
     → IsQuick modes.Math k bytes (record { kind = kinds.MathText; len = n })
 number_found k [] n e is end = cc
 number_found k (b ∷ bs) n e is end =
@@ -262,7 +267,7 @@ number_found k (b ∷ bs) n e is end =
     let more : n ≡ suc j = is ∙ run_more is_ascii_digit b bs e in
     subst (λ i. IsQuick modes.Math k (b ∷ bs) (record { kind = kinds.MathText; len = i })) (sym more)
     (run_found k p p b bs j kinds.MathText (digit_word b e) (number_enters b (take 9 bs) e)
-    (runs p is_ascii_digit refl number_stays b bs (stops p is_no_number (ended is_ascii_digit bs) (λ c h. h) (behind is_no_number n b bs j more end)))
+    (runs p is_ascii_digit refl number_stays b bs (behind p n b bs j more end))
     refl)
 
 -- Letters and names.
@@ -312,44 +317,81 @@ module _ (b : ℕ) (bs : List ℕ) (letter : is_ascii_alphabetic b ≡ true) whe
   name_enters : begins_char is_math_part bs ≡ true → enter_math (b ∷ bs) ≡ place.MathName true simple
   name_enters more = enters_char b bs (letter_word b letter) ∙ pick _ _ _ (name_next ∙ more) ∙ ap (place.MathName true) (word_cluster b (letter_word b letter))
 
-no_part : (bs : List ℕ) → ends_or_begins is_no_word bs ≡ true → begins_char is_math_part (take 9 bs) ≡ false
-no_part [] e = nothing_begins is_math_part
-no_part (c ∷ cs) e =
-    let low = low_from c (both _ _ e).0 in
-    begins_is c (take 8 cs) low is_math_part ∙ math_part_is c low ∙ has_not is_no_word is_ascii_alphanumeric c low e refl
+-- the first character is within the next nine bytes
+first_within : (c : ℕ) (cs : List ℕ) → first_char (c ∷ take 8 cs) ≡ first_char (c ∷ take 9 cs)
+first_within c cs =
+    ap (λ (o : Option ℕ). elim o as (λ _. Option ℕ) [ None ↦ None | Some d ↦ char_of d ])
+    (sym (first_code_is (c ∷ take 8 cs)) ∙ codes_within c cs ∙ first_code_is (c ∷ take 9 cs))
+  where
+    codes_within : (c : ℕ) (cs : List ℕ) → first_code (c ∷ take 8 cs) ≡ first_code (c ∷ take 9 cs)
+    codes_within c [] = refl
+    codes_within c (d ∷ []) = refl
+    codes_within c (d ∷ e ∷ []) = refl
+    codes_within c (d ∷ e ∷ f ∷ fs) = refl
+
+abbrev named : Option ℕ → Option Place
+named o = elim o as (λ _. Option Place) [ None ↦ None | Some c ↦ if is_math_part c then Some (name_with true simple c) else None ]
+
+abbrev read : Option Place → Behind → List ℕ → Option Reading
+read o k w = elim o as (λ _. Option Reading) [ None ↦ None | Some now ↦ Some (reading now k w) ]
+
+-- where a name ends, none of its characters comes next
+no_part : (bs : List ℕ) → Stops (place.MathName true simple) bs → begins_char is_math_part (take 9 bs) ≡ false
+no_part [] stops = nothing_begins is_math_part
+no_part (c ∷ cs) stops =
+    ap (λ (o : Option ℕ). option_map_or is_math_part o false) (first_within c cs)
+    ∙ by_middle (goes_on c) (first_char (c ∷ take 9 cs)) (stops behinds.Other (omega arith))
+  where
+    by_part : (v : Bool) (p : Place) → read (if v then Some p else None) behinds.Other (c ∷ take 9 cs) ≡ None → v ≡ false
+    by_part true p e = cc
+    by_part false p e = refl
+
+    by_middle : (v : Bool) (o : Option ℕ) → read (if v then Some (place.MathName true simple) else named o) behinds.Other (c ∷ take 9 cs) ≡ None → option_map_or is_math_part o false ≡ false
+    by_middle true o e = cc
+    by_middle false None e = refl
+    by_middle false (Some d) e = by_part (is_math_part d) (name_with true simple d) e
 
 -- a letter by itself
-alone_found : (k : Behind) (b : ℕ) (bs : List ℕ) → is_ascii_alphabetic b ≡ true → ends_or_begins is_no_word bs ≡ true
+alone_found : (k : Behind) (b : ℕ) (bs : List ℕ) → is_ascii_alphabetic b ≡ true → Stops (place.Cluster kinds.MathLetter simple) bs → Stops (place.MathName true simple) bs
     → IsQuick modes.Math k (b ∷ bs) (record { kind = kinds.MathLetter; len = 1 })
-alone_found k b bs letter e =
+alone_found k b bs letter ends apart =
     let p : Place = place.Cluster kinds.MathLetter simple in
     as_token modes.Math k p (b ∷ bs) kinds.MathLetter 0
-    (found modes.Math k p b bs 0 (here b bs letter) (no_dot b (letter_word b letter)) (letter_enters b (take 9 bs) letter (no_part bs e)) (omega arith) (omega arith)
-    (stops p is_no_word bs (λ c h. ap (λ (v : Bool). v && true) (both _ _ h).0) e))
+    (found modes.Math k p b bs 0 (here b bs letter) (no_dot b (letter_word b letter)) (letter_enters b (take 9 bs) letter (no_part bs apart)) (omega arith) (omega arith) ends)
     refl
 
 -- a letter with more letters and digits
-longer_found : (k : Behind) (b c : ℕ) (cs : List ℕ) → is_ascii_alphabetic b ≡ true → is_ascii_alphanumeric c ≡ true → ends_or_begins is_no_word (ended is_ascii_alphanumeric cs) ≡ true
+longer_found : (k : Behind) (b c : ℕ) (cs : List ℕ) → is_ascii_alphabetic b ≡ true → is_ascii_alphanumeric c ≡ true
+    → Stops (place.MathName false simple) (ended is_ascii_alphanumeric cs)
     → IsQuick modes.Math k (b ∷ c ∷ cs) (record { kind = kinds.MathIdent; len = suc (suc (length (take_while is_ascii_alphanumeric cs))) })
-longer_found k b c cs letter h e =
+longer_found k b c cs letter h ends =
     let n : ℕ = length (take_while is_ascii_alphanumeric cs) in
     let p : Place = place.MathName false simple in
     let low = alphanumeric_low c h in
     run_found k (place.MathName true simple) p b (c ∷ cs) (suc n) kinds.MathIdent (letter_word b letter)
     (name_enters b (c ∷ take 8 cs) letter (begins_is c (take 8 cs) low is_math_part ∙ math_part_is c low ∙ h))
     (step (place.MathName true simple) p is_ascii_alphanumeric (behind_byte b) b c cs refl (name_stays true) h
-    (runs p is_ascii_alphanumeric refl (name_stays false) c cs (stops p is_no_word (ended is_ascii_alphanumeric cs) (λ d g. g) e)))
+    (runs p is_ascii_alphanumeric refl (name_stays false) c cs ends))
     refl
 
+-- no name of math goes on into these bytes
+abbrev EndsNames : List ℕ → Type 0
+EndsNames rest = (single : Bool) (cluster : Cluster) → Stops (place.MathName single cluster) rest
+
+-- no letter of math goes on into these bytes
+abbrev EndsLetters : List ℕ → Type 0
+EndsLetters rest = (kind : TokenKind) (cluster : Cluster) → is_other cluster.last ≡ true → Stops (place.Cluster kind cluster) rest
+
 pub letter_found : (k : Behind) (bytes : List ℕ) (n : ℕ) → begins is_ascii_alphabetic bytes ≡ true → n ≡ length (take_while is_ascii_alphanumeric bytes) → n ≡ 1
-    → ends_or_begins is_no_word (cut n bytes) ≡ true → IsQuick modes.Math k bytes (record { kind = kinds.MathLetter; len = n })
-letter_found k [] n letter is one end = cc
-letter_found k (b ∷ bs) n letter is one end =
+    → EndsLetters (cut n bytes) → EndsNames (cut n bytes) → IsQuick modes.Math k bytes (record { kind = kinds.MathLetter; len = n })
+letter_found k [] n letter is one ends apart = cc
+letter_found k (b ∷ bs) n letter is one ends apart =
     subst (λ i. IsQuick modes.Math k (b ∷ bs) (record { kind = kinds.MathLetter; len = i })) (sym one)
-    (alone_found k b bs letter (behind is_no_word n b bs 0 one end))
+    (alone_found k b bs letter
+    (behind (place.Cluster kinds.MathLetter simple) n b bs 0 one (ends kinds.MathLetter simple refl)) (behind (place.MathName true simple) n b bs 0 one (apart true simple)))
 
 pub name_found : (k : Behind) (bytes : List ℕ) (n : ℕ) → begins is_ascii_alphabetic bytes ≡ true → n ≡ length (take_while is_ascii_alphanumeric bytes) → n ≢ 1
-    → ends_or_begins is_no_word (cut n bytes) ≡ true → IsQuick modes.Math k bytes (record { kind = kinds.MathIdent; len = n })
+    → EndsNames (cut n bytes) → IsQuick modes.Math k bytes (record { kind = kinds.MathIdent; len = n })
 name_found k [] n letter is more end = cc
 name_found k (b ∷ []) n letter is more end = absurd (more (is ∙ run_more is_ascii_alphanumeric b [] (letter_word b letter)))
 name_found k (b ∷ c ∷ cs) n letter is more end = by_test (is_ascii_alphanumeric c) refl
@@ -362,7 +404,7 @@ name_found k (b ∷ c ∷ cs) n letter is more end = by_test (is_ascii_alphanume
         let j : ℕ = length (take_while is_ascii_alphanumeric cs) in
         let two : n ≡ suc (suc j) = first ∙ ap suc (run_more is_ascii_alphanumeric c cs h) in
         subst (λ i. IsQuick modes.Math k (b ∷ c ∷ cs) (record { kind = kinds.MathIdent; len = i })) (sym two)
-        (longer_found k b c cs letter h (behind is_no_word n b (c ∷ cs) (suc j) two end))
+        (longer_found k b c cs letter h (behind (place.MathName false simple) n b (c ∷ cs) (suc j) two (end false simple)))
     by_test false h = absurd (more (first ∙ ap suc (run_none is_ascii_alphanumeric c cs h)))
 
 -- what begins with a letter or with a digit

@@ -46,7 +46,7 @@ use Rattle.typst_lexer.proofs.WhiteRuns.{at, enters_white}
 pub low_from : (b : ℕ) → nat_lt b 128 ≡ true → b < 128
 low_from b h = grind (arith, nat_tests)
 
-low_to : (b : ℕ) → b < 128 → nat_lt b 128 ≡ true
+pub low_to : (b : ℕ) → b < 128 → nat_lt b 128 ≡ true
 low_to b h = grind (arith, nat_tests)
 
 no_middle : (b : ℕ) → b < 128 → goes_on b ≡ false

@@ -1,6 +1,6 @@
 -- Tokens of math that bytes of ASCII decide at once.
-use Rattle.std.specs.Prelude.{ℕ, ◌==◌, ◌&&◌, ◌||◌, not, nat_lt, Bool, true, List, [], ◌∷◌, if◌then◌else◌}
-use Rattle.std.specs.Char.{is_ascii_alphanumeric, is_ascii_digit, is_ascii_graphic}
+use Rattle.std.specs.Prelude.{ℕ, ◌==◌, ◌&&◌, ◌||◌, not, nat_lt, Bool, if◌then◌else◌}
+use Rattle.std.specs.Char.{is_ascii_alphanumeric, is_ascii_graphic}
 use Rattle.typst_lexer.specs.declared.token.TokenKind.{TokenKind}
 use Rattle.typst_lexer.specs.declared.token.TokenKind.TheVariants as kinds
 use Rattle.typst_lexer.specs.Bytes.{is_alone}
@@ -35,15 +35,6 @@ sign_kind b =
     else (if b == 38 then kinds.MathAlignPoint
     else (if b == 33 then kinds.Bang
     else char_kind b)))))))))))
-
--- a byte of ASCII, but no digit and no dot
-abbrev pub is_no_number : ℕ → Bool
-is_no_number b = nat_lt b 128 && not (is_ascii_digit b || (b == 46))
-
--- The text is at its end, or a byte of the class is next.
-abbrev pub ends_or_begins : (ℕ → Bool) → List ℕ → Bool
-ends_or_begins p [] = true
-ends_or_begins p (b ∷ bs) = p b
 
 -- a byte of ASCII, but none of a name, and no colon
 abbrev pub is_outer : ℕ → Bool

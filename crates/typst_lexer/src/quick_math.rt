@@ -1,16 +1,20 @@
 //! Tokens of math that bytes of ASCII decide at once. The machine isn't run for them.
-ghost use Rattle.std.specs.Prelude.{true, ◌≡◌, ◌≤◌, length};
+ghost use Rattle.std.specs.Prelude.{Bool, true, ◌≡◌, ◌≤◌, length};
 ghost use Rattle.std.specs.Char.{is_ascii_alphabetic, is_ascii_alphanumeric, is_ascii_digit};
 ghost use Rattle.std.specs.List.{take_while};
+ghost use Rattle.typst_lexer.specs.declared.cluster.Cluster.{Cluster};
 ghost use Rattle.typst_lexer.specs.declared.mode.Mode.{Mode};
 ghost use Rattle.typst_lexer.specs.declared.place.Behind.{Behind};
+ghost use Rattle.typst_lexer.specs.declared.token.TokenKind.{TokenKind};
+ghost use Rattle.typst_lexer.specs.Bytes.{is_other};
 ghost use Rattle.typst_lexer.specs.Characters.{begins};
-ghost use Rattle.typst_lexer.specs.Quick.{IsQuick, is_no_word};
-ghost use Rattle.typst_lexer.specs.QuickMath.{ends_or_begins, is_calm, is_nameless, is_no_number, is_outer, is_sign, is_single, sign_kind};
+ghost use Rattle.typst_lexer.specs.Quick.{IsQuick, Stops};
+ghost use Rattle.typst_lexer.specs.QuickMath.{is_calm, is_nameless, is_outer, is_sign, is_single, sign_kind};
 
 use crate::bytes::is_alone;
 use crate::characters::is_name;
 use crate::math::char_kind;
+use crate::place::Place;
 use crate::quick::{Quick, is_no_word};
 use crate::token::TokenKind;
 
@@ -73,7 +77,10 @@ fn word_len(bytes: &[u8]) -> usize
 
 /// Whether a letter and a name of math end before these bytes in any case.
 fn stops_word(bytes: &[u8]) -> bool
-    ensures { result ≡ ends_or_begins is_no_word bytes.now }
+    ensures letter { result ≡ true → (kind : TokenKind) (cluster : Cluster) → is_other cluster.last ≡ true
+        → Stops (Place.Cluster kind cluster) bytes.now }
+    ensures name { result ≡ true → (single : Bool) (cluster : Cluster)
+        → Stops (Place.MathName single cluster) bytes.now }
 {
     match bytes {
         [] => true,
@@ -113,7 +120,7 @@ fn digit_len(bytes: &[u8]) -> usize
 
 /// Whether a number of math ends before these bytes in any case.
 fn stops_number(bytes: &[u8]) -> bool
-    ensures { result ≡ ends_or_begins is_no_number bytes.now }
+    ensures { result ≡ true → Stops Place.MathNumber bytes.now }
 {
     match bytes {
         [] => true,

@@ -1,4 +1,4 @@
-use Rattle.std.proofs.Common.{sym, subst, ◌∙◌}
+use Rattle.std.proofs.Common.{sym, subst}
 use Rattle.typst_lexer.specs.declared.mode.Mode.TheVariants.{Math}
 use Rattle.typst_lexer.specs.declared.token.TokenKind.{TokenKind}
 use Rattle.typst_lexer.specs.Quick.{IsQuick}
@@ -8,9 +8,10 @@ use Rattle.typst_lexer.proofs.quick_math.quick_word.Goals.{then-len-eq1, else-le
 
 pub returns-then-stops_word-clause-first : goal.returns-then-stops_word-clause-first
 returns-then-stops_word-clause-first c = λ before letter.
-    let ends = sym c.stops_word.ensures ∙ c.if-stops_word.true in
+    let letters = c.stops_word.ensures.letter c.if-stops_word.true in
+    let names = c.stops_word.ensures.name c.if-stops_word.true in
     let of = λ (kind : TokenKind). IsQuick Math before c.args.bytes.now (record { kind = kind; len = c.word_len-len.result }) in
     elim c.if-len-eq1.branch [
-      | then-len-eq1 w ↦ subst of (sym w.kind-is) (letter_found before c.args.bytes.now c.word_len-len.result letter c.word_len-len.ensures.value w.if-len-eq1.true ends)
-      | else-len-eq1 w ↦ subst of (sym w.kind-is) (name_found before c.args.bytes.now c.word_len-len.result letter c.word_len-len.ensures.value w.if-len-eq1.false ends)
+      | then-len-eq1 w ↦ subst of (sym w.kind-is) (letter_found before c.args.bytes.now c.word_len-len.result letter c.word_len-len.ensures.value w.if-len-eq1.true letters names)
+      | else-len-eq1 w ↦ subst of (sym w.kind-is) (name_found before c.args.bytes.now c.word_len-len.result letter c.word_len-len.ensures.value w.if-len-eq1.false names)
     ]
