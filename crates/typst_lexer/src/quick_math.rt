@@ -1,5 +1,5 @@
 //! Tokens of math that bytes of ASCII decide at once. The machine isn't run for them.
-ghost use Rattle.std.specs.Prelude.{Bool, true, ◌≡◌, ◌≤◌, length};
+ghost use Rattle.std.specs.Prelude.{Bool, true, ℕ, ◌≡◌, ◌≤◌, List, ◌∷◌, length, IfSome};
 ghost use Rattle.std.specs.Char.{is_ascii_alphabetic, is_ascii_alphanumeric, is_ascii_digit};
 ghost use Rattle.std.specs.List.{take_while};
 ghost use Rattle.typst_lexer.specs.declared.cluster.Cluster.{Cluster};
@@ -9,58 +9,52 @@ ghost use Rattle.typst_lexer.specs.declared.token.TokenKind.{TokenKind};
 ghost use Rattle.typst_lexer.specs.Bytes.{is_other};
 ghost use Rattle.typst_lexer.specs.Characters.{begins};
 ghost use Rattle.typst_lexer.specs.Quick.{IsQuick, Stops};
-ghost use Rattle.typst_lexer.specs.QuickMath.{is_calm, is_nameless, is_outer, is_sign, is_single, sign_kind};
+ghost use Rattle.typst_lexer.specs.QuickMath.{is_nameless, is_outer};
 
 use crate::bytes::is_alone;
 use crate::characters::is_name;
-use crate::math::char_kind;
 use crate::place::Place;
 use crate::quick::{Quick, is_no_word};
 use crate::token::TokenKind;
 
-/// Whether the byte is a sign that may be a token of math by itself.
-fn is_sign(byte: u8) -> bool
-    ensures { result ≡ is_sign byte }
+/// What a byte is in math before another one, if it is a sign that is a token by itself.
+fn sign(byte: u8, next: u8) -> Option<TokenKind>
+    ensures { IfSome result (λ kind. (before : Behind) (rest : List ℕ)
+        → IsQuick Mode.Math before (byte ∷ next ∷ rest) (record { kind = kind; len = 1 })) }
 {
-    byte.is_ascii_graphic()
-        && !(byte.is_ascii_alphanumeric() || matches!(byte, b'"' | b'\'' | b'.' | b'\\'))
-}
-
-/// Whether shorthands of math and signs of comments don't go on with the byte.
-fn is_calm(byte: u8) -> bool
-    ensures { result ≡ is_calm byte }
-{
-    !matches!(
-        byte,
-        b'*' | b'-' | b'/' | b':' | b'<' | b'=' | b'>' | b']' | b'|' | b'~'
-    )
-}
-
-/// Whether the first byte is a sign that is a token of math before the other byte.
-fn is_single(byte: u8, next: u8) -> bool
-    ensures { result ≡ is_single byte next }
-{
-    is_sign(byte) && next < 128 && (is_calm(next) || is_alone(byte) && byte != b'/')
-}
-
-/// The kind of a token of math that is the sign.
-fn sign_kind(byte: u8) -> TokenKind
-    ensures { result ≡ sign_kind byte }
-{
+    if next >= 128 {
+        return None;
+    }
     match byte {
-        b'-' | b'*' | b'~' => TokenKind::MathShorthand,
-        b',' => TokenKind::Comma,
-        b';' => TokenKind::Semicolon,
-        b'(' => TokenKind::LeftParen,
-        b')' => TokenKind::RightParen,
-        b'#' => TokenKind::Hash,
-        b'_' => TokenKind::Underscore,
-        b'$' => TokenKind::Dollar,
-        b'/' => TokenKind::Slash,
-        b'^' => TokenKind::Hat,
-        b'&' => TokenKind::MathAlignPoint,
-        b'!' => TokenKind::Bang,
-        _ => char_kind(byte as char),
+        b',' => Some(TokenKind::Comma),
+        b';' => Some(TokenKind::Semicolon),
+        b'(' => Some(TokenKind::LeftParen),
+        b')' => Some(TokenKind::RightParen),
+        b'{' => Some(TokenKind::LeftBrace),
+        b'}' => Some(TokenKind::RightBrace),
+        b'#' => Some(TokenKind::Hash),
+        b'$' => Some(TokenKind::Dollar),
+        b'_' => Some(TokenKind::Underscore),
+        b'^' => Some(TokenKind::Hat),
+        b'&' => Some(TokenKind::MathAlignPoint),
+        b']' => Some(TokenKind::Closing),
+        b'[' if next != b'|' => Some(TokenKind::Opening),
+        b'!' if next != b'=' => Some(TokenKind::Bang),
+        b'/' if next != b'/' && next != b'*' => Some(TokenKind::Slash),
+        b'*' if next != b'/' => Some(TokenKind::MathShorthand),
+        b'-' if next != b'-' && next != b'>' => Some(TokenKind::MathShorthand),
+        b'~' if next != b'~' && next != b'>' => Some(TokenKind::MathShorthand),
+        b'%' => Some(TokenKind::MathText),
+        b'+' => Some(TokenKind::MathText),
+        b'?' => Some(TokenKind::MathText),
+        b'@' => Some(TokenKind::MathText),
+        b'`' => Some(TokenKind::MathText),
+        b':' if is_alone(next) => Some(TokenKind::MathText),
+        b'<' if is_alone(next) => Some(TokenKind::MathText),
+        b'=' if is_alone(next) => Some(TokenKind::MathText),
+        b'>' if is_alone(next) => Some(TokenKind::MathText),
+        b'|' if is_alone(next) && next != b']' => Some(TokenKind::MathText),
+        _ => None,
     }
 }
 
@@ -143,8 +137,24 @@ fn quick_number(bytes: &[u8]) -> Quick
     }
 }
 
+/// The sign at the beginning, if it is quickly found.
+fn quick_sign(bytes: &[u8]) -> Quick
+    ensures first { (before : Behind) → IsQuick Mode.Math before bytes.now result }
+    ensures within { result.len ≤ length bytes.now }
+{
+    if let [byte, next, ..] = bytes {
+        if let Some(kind) = sign(*byte, *next) {
+            return Quick { kind, len: 1 };
+        }
+    }
+    Quick {
+        kind: TokenKind::MathText,
+        len: 0,
+    }
+}
+
 /// The token of math at the beginning, if it is quickly found.
-#[tactic(auto, using(crate::proofs::QuickMath::sign_found, crate::proofs::QuickMath::begins_first))]
+#[tactic(auto, using(crate::proofs::QuickMath::begins_first))]
 pub fn quick_of_math(bytes: &[u8]) -> Quick
     ensures first { (before : Behind) → IsQuick Mode.Math before bytes.now result }
     ensures within { result.len ≤ length bytes.now }
@@ -152,14 +162,7 @@ pub fn quick_of_math(bytes: &[u8]) -> Quick
     match bytes {
         [byte, ..] if byte.is_ascii_alphabetic() => quick_word(bytes),
         [byte, ..] if byte.is_ascii_digit() => quick_number(bytes),
-        [byte, next, ..] if is_single(*byte, *next) => Quick {
-            kind: sign_kind(*byte),
-            len: 1,
-        },
-        _ => Quick {
-            kind: TokenKind::MathText,
-            len: 0,
-        },
+        _ => quick_sign(bytes),
     }
 }
 
