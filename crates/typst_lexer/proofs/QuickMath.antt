@@ -32,15 +32,14 @@ use Rattle.typst_lexer.proofs.WhiteRuns.{at, nothing_begins}
 use Rattle.typst_lexer.specs.declared.token.TokenKind.{TokenKind}
 use Rattle.typst_lexer.specs.declared.token.TokenKind.TheVariants as kinds
 use Rattle.typst_lexer.specs.Arguments.{enter_argument, enter_name, enter_value}
-use Rattle.typst_lexer.specs.Bytes.{behind_byte, is_undotted, ends_before, is_alone, is_other, is_simple}
+use Rattle.typst_lexer.specs.Bytes.{behind_byte, ends_before, is_alone, is_other, is_simple}
 use Rattle.typst_lexer.specs.Characters as characters
-use Rattle.typst_lexer.specs.Characters.{begins, begins_with, goes_on}
+use Rattle.typst_lexer.specs.Characters.{begins, begins_with, goes_on, is_name}
 use Rattle.typst_lexer.specs.Classes.{begins_char, char_of, first_char, is_name_part, is_name_start}
 use Rattle.typst_lexer.specs.Clusters.{cluster_of}
 use Rattle.typst_lexer.specs.Machine.{accepts, kind_of, may_end, reading, stay, stay_at}
 use Rattle.typst_lexer.specs.Math.{after_char, char_kind, dot_kind, enter_char, enter_first, enter_formula, enter_math, enter_math_sign, enter_shorthand, is_closing, is_math_name, is_math_part, is_math_start, is_opening, is_root, is_shorthand_of_four, is_shorthand_of_one, is_shorthand_of_three, is_shorthand_of_two, name_with}
 use Rattle.typst_lexer.specs.Quick.{IsQuick, Stops}
-use Rattle.typst_lexer.specs.QuickMath.{is_nameless, is_outer}
 use Rattle.typst_lexer.specs.Shared.{enter_comment}
 use Rattle.typst_lexer.proofs.Ascii.{all_below, begins_is, below_at, both, first_is, has, has_not, moves, pick, same, skip}
 use Rattle.typst_lexer.proofs.QuickTokens.{and_left, begins_at, before_byte, byte_stops, cut, found, low_from, low_to, run_more, run_none}
@@ -515,6 +514,15 @@ token_from p k b bs =
     let r : Run = whole (run stay accepts 10 (reading p k (b ∷ take 9 bs)) bs) in
     record { kind = kind_of r.last.place (take r.len (b ∷ bs)); len = r.len; look = r.passed + 10; behind = r.last.behind }
 
+-- a byte of ASCII, but none of a name, and no colon
+abbrev is_outer : ℕ → Bool
+is_outer b = nat_lt b 128 && not (is_name b || (b == 58))
+
+outer : (b : ℕ) → b < 128 → is_name b ≡ false → not (b == 58) ≡ true → is_outer b ≡ true
+outer b low name colon =
+    ap (λ (v : Bool). v && not (is_name b || (b == 58))) (low_to b low) ∙ ap (λ (v : Bool). not (v || (b == 58))) name ∙ colon
+
+-- a byte with which a name may begin, before one that is in no name and no colon
 module _ (b c : ℕ) (cs : List ℕ) (low : b < 128) (outer : is_outer c ≡ true) where
   next_low : c < 128
   next_low = low_from c (both _ _ outer).0
@@ -528,25 +536,31 @@ module _ (b c : ℕ) (cs : List ℕ) (low : b < 128) (outer : is_outer c ≡ tru
       ∙ skip _ _ _ (and_right (begins_char is_math_start (b ∷ c ∷ cs)) _ (ap (begins_char is_math_part) rest ∙ begins_is c cs next_low is_math_part ∙ has_not is_outer is_math_part c next_low outer refl))
       ∙ skip _ _ _ (ap (begins_char is_name_part) rest ∙ begins_is c cs next_low is_name_part ∙ has_not is_outer is_name_part c next_low outer refl)
 
-nameless_enters : (b c : ℕ) (cs : List ℕ) → is_nameless b c ≡ true → enter_argument (b ∷ c ∷ cs) ≡ enter_math (b ∷ c ∷ cs)
+-- an argument that begins with no dot, and as a formula if its first byte may begin a name
+argument_enters : (b c : ℕ) (cs : List ℕ) → b < 128 → b ≢ 46
+    → (if characters.is_name_start b then enter_name b (b ∷ c ∷ cs) else enter_formula (b ∷ c ∷ cs)) ≡ enter_formula (b ∷ c ∷ cs) → enter_argument (b ∷ c ∷ cs) ≡ enter_math (b ∷ c ∷ cs)
 unfolding tables.in_ranges xid_start_ranges is_xid_start
-nameless_enters b c cs h =
+argument_enters b c cs low dot is =
     let w : List ℕ = b ∷ c ∷ cs in
-    let is = both (nat_lt b 128 && not (b == 46)) (not (characters.is_name_start b) || is_outer c) h in
-    let low : b < 128 = low_from b (both _ _ is.0).0 in
     ap (λ (v : Bool). if begins_char is_whitespace w then place.Blank else (if v then place.Rest kinds.Dots 1 else or_place (enter_comment w) (enter_value w)))
-    (and_left _ _ (has_not is_undotted (λ b. begins_with (codes "..") (b ∷ c ∷ cs)) b low is.0 refl))
+    (and_left _ _ (has_not (is_but 46) (λ b. begins_with (codes "..") (b ∷ c ∷ cs)) b low (but 46 b dot) refl))
     ∙ ap (λ (p : Place). if begins_char is_whitespace w then place.Blank else or_place (enter_comment w) p)
     (ap (λ (o : Option ℕ). elim o as (λ _. Place) [ None ↦ enter_formula w | Some d ↦ if is_name_start d then enter_name d w else enter_formula w ]) (first_is b (c ∷ cs) low)
     ∙ ap (λ (v : Bool). if v then enter_name b w else enter_formula w) (same is_name_start characters.is_name_start b low refl)
-    ∙ by_start (characters.is_name_start b) low is.1)
-  where
-    by_start : (v : Bool) → b < 128 → (not v || is_outer c) ≡ true → (if v then enter_name b (b ∷ c ∷ cs) else enter_formula (b ∷ c ∷ cs)) ≡ enter_formula (b ∷ c ∷ cs)
-    by_start true small outer = name_enters_formula b c cs small outer
-    by_start false small outer = refl
+    ∙ is)
 
-pub argument_found : (k : Behind) (bytes : List ℕ) (quick : Quick) → 1 < length bytes → is_nameless (slice_index bytes 0) (slice_index bytes 1) ≡ true
-    → IsQuick modes.Math k bytes quick → IsQuick modes.Argument k bytes quick
-argument_found k [] quick some h is = absurd (omega arith)
-argument_found k (b ∷ []) quick some h is = absurd (omega arith)
-argument_found k (b ∷ c ∷ cs) quick some h is = λ more. is more ∙ ap (λ (p : Place). token_from p k b (c ∷ cs)) (sym (nameless_enters b c (take 8 cs) h))
+-- the first token of an argument after these two bytes is that of math
+abbrev IsMath : ℕ → ℕ → Type 0
+IsMath b c = (rest : List ℕ) → enter_argument (b ∷ c ∷ rest) ≡ enter_math (b ∷ c ∷ rest)
+
+pub nameless : (b c : ℕ) → b < 128 → b ≢ 46 → characters.is_name_start b ≡ false → IsMath b c
+nameless b c low dot start rest = argument_enters b c rest low dot (skip _ _ _ start)
+
+pub short_name : (b c : ℕ) → b < 128 → b ≢ 46 → characters.is_name_start b ≡ true → c < 128 → is_name c ≡ false → not (c == 58) ≡ true → IsMath b c
+short_name b c low dot start next name colon rest = argument_enters b c rest low dot (pick _ _ _ start ∙ name_enters_formula b c rest low (outer c next name colon))
+
+pub argument_found : (bytes : List ℕ) (quick : Quick) → 2 ≤ length bytes → IsMath (slice_index bytes 0) (slice_index bytes 1)
+    → ((k : Behind) → IsQuick modes.Math k bytes quick) → (k : Behind) → IsQuick modes.Argument k bytes quick
+argument_found [] quick two is of = absurd (omega (arith, two))
+argument_found (b ∷ []) quick two is of = absurd (omega (arith, two))
+argument_found (b ∷ c ∷ cs) quick two is of = λ k more. of k more ∙ ap (λ (p : Place). token_from p k b (c ∷ cs)) (sym (is (take 8 cs)))

@@ -20,7 +20,6 @@ pub mod Bytes
 pub mod Escapes
 pub mod Spaces
 pub mod Quick
-pub mod QuickMath
 pub mod White
 pub mod Tokens
 pub mod Left

@@ -18,7 +18,7 @@ pub fn is_name(byte: u8) -> bool
 }
 
 /// Whether a name may begin with the byte.
-fn is_name_start(byte: u8) -> bool
+pub fn is_name_start(byte: u8) -> bool
     ensures { result ≡ is_name_start byte }
 {
     byte.is_ascii_alphabetic() || byte == b'_'

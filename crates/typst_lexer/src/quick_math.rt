@@ -6,13 +6,14 @@ ghost use Rattle.typst_lexer.specs.declared.cluster.Cluster.{Cluster};
 ghost use Rattle.typst_lexer.specs.declared.mode.Mode.{Mode};
 ghost use Rattle.typst_lexer.specs.declared.place.Behind.{Behind};
 ghost use Rattle.typst_lexer.specs.declared.token.TokenKind.{TokenKind};
+ghost use Rattle.typst_lexer.specs.Arguments.{enter_argument};
 ghost use Rattle.typst_lexer.specs.Bytes.{is_other};
 ghost use Rattle.typst_lexer.specs.Characters.{begins};
+ghost use Rattle.typst_lexer.specs.Math.{enter_math};
 ghost use Rattle.typst_lexer.specs.Quick.{IsQuick, Stops};
-ghost use Rattle.typst_lexer.specs.QuickMath.{is_nameless, is_outer};
 
 use crate::bytes::is_alone;
-use crate::characters::is_name;
+use crate::characters::{is_name, is_name_start};
 use crate::place::Place;
 use crate::quick::{Quick, is_no_word};
 use crate::token::TokenKind;
@@ -166,18 +167,21 @@ pub fn quick_of_math(bytes: &[u8]) -> Quick
     }
 }
 
-/// Whether the byte is one of ASCII, but none of a name, and no colon.
-fn is_outer(byte: u8) -> bool
-    ensures { result ≡ is_outer byte }
-{
-    byte < 128 && !(is_name(byte) || byte == b':')
-}
-
-/// Whether no name of an argument, no name of more than one byte and no `..` begins with these bytes.
+/// Whether the token at the beginning of an argument is that of math: no name of an argument and no `..` begins here.
 fn is_nameless(byte: u8, next: u8) -> bool
-    ensures { result ≡ is_nameless byte next }
+    ensures { result ≡ true → (rest : List ℕ)
+        → enter_argument (byte ∷ next ∷ rest) ≡ enter_math (byte ∷ next ∷ rest) }
 {
-    byte < 128 && byte != b'.' && (!(byte.is_ascii_alphabetic() || byte == b'_') || is_outer(next))
+    if byte >= 128 || byte == b'.' {
+        return false;
+    }
+    if !is_name_start(byte) {
+        return true;
+    }
+    if next >= 128 || is_name(next) {
+        return false;
+    }
+    next != b':'
 }
 
 /// The token at the beginning of an argument of math, if it is quickly found and no name of an argument may begin there.
