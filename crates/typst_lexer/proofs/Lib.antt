@@ -10,7 +10,9 @@ pub mod Simple
 pub mod Easy
 pub mod TextRuns
 pub mod QuickTokens
+pub mod QuickArguments
 pub mod QuickMath
+pub mod QuickMathSigns
 pub mod Leaps
 pub mod WhiteNext
 pub mod Signs

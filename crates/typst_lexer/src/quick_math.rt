@@ -185,7 +185,7 @@ fn is_nameless(byte: u8, next: u8) -> bool
 }
 
 /// The token at the beginning of an argument of math, if it is quickly found and no name of an argument may begin there.
-#[tactic(auto, using(crate::proofs::QuickMath::argument_found))]
+#[tactic(auto, using(crate::proofs::QuickArguments::argument_found))]
 pub fn quick_of_argument(bytes: &[u8]) -> Quick
     ensures first { (before : Behind) → IsQuick Mode.Argument before bytes.now result }
     ensures within { result.len ≤ length bytes.now }

@@ -1,5 +1,5 @@
 use Rattle.std.proofs.Common.{sym, ◌∙◌}
-use Rattle.typst_lexer.proofs.QuickMath.{nameless, short_name}
+use Rattle.typst_lexer.proofs.QuickArguments.{nameless, short_name}
 use Rattle.typst_lexer.proofs.quick_math.is_nameless.Goals as goal
 
 pub returns-then-not-is_name_start : goal.returns-then-not-is_name_start

@@ -1,4 +1,4 @@
-use Rattle.typst_lexer.proofs.QuickMath.{signs_found}
+use Rattle.typst_lexer.proofs.QuickMathSigns.{signs_found}
 use Rattle.typst_lexer.proofs.quick_math.quick_sign.Goals as goal
 
 pub returns-in-Some-clause-first : goal.returns-in-Some-clause-first

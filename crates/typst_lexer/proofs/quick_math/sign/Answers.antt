@@ -1,7 +1,7 @@
 use Rattle.std.proofs.Common.{refl, sym}
 use Rattle.typst_lexer.specs.declared.token.TokenKind.TheVariants as kinds
 use Rattle.typst_lexer.specs.Bytes.{is_alone}
-use Rattle.typst_lexer.proofs.QuickMath.{bar_found, but_one_found, but_two_found, lone_found, sign_found}
+use Rattle.typst_lexer.proofs.QuickMathSigns.{bar_found, but_one_found, but_two_found, lone_found, sign_found}
 use Rattle.typst_lexer.proofs.quick_math.sign.Goals as goal
 
 pub returns-in-44 : goal.returns-in-44
