@@ -13,6 +13,7 @@ pub mod QuickTokens
 pub mod QuickArguments
 pub mod QuickMath
 pub mod QuickMathSigns
+pub mod QuickOperators
 pub mod Leaps
 pub mod WhiteNext
 pub mod Signs

@@ -171,7 +171,7 @@ pub and_left : (u v : Bool) → u ≡ false → (u && v) ≡ false
 and_left true v e = cc
 and_left false v e = refl
 
-sign_found : (m : Mode) (k : Behind) (p : Place) (b : ℕ) (bs : List ℕ) → b < 128 → (b == 46) ≡ false → enter m k (take 10 (b ∷ bs)) ≡ p → Stops p bs
+pub sign_found : (m : Mode) (k : Behind) (p : Place) (b : ℕ) (bs : List ℕ) → b < 128 → (b == 46) ≡ false → enter m k (take 10 (b ∷ bs)) ≡ p → Stops p bs
     → IsQuick m k (b ∷ bs) (record { kind = kind_of p (b ∷ []); len = 1 })
 sign_found m k p b bs low dot is stops = token m k p b bs 0 low dot is (omega arith) (omega arith) stops
 

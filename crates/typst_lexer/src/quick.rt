@@ -253,6 +253,36 @@ fn quick_of_code(before: Behind, bytes: &[u8]) -> Quick
     }
 }
 
+/// What a byte is where only an operator may come, before a blank, if it is an operator.
+fn operator(byte: u8) -> Option<TokenKind>
+    ensures { IfSome result (λ kind. (before : Behind) (rest : List ℕ)
+        → IsQuick Mode.Operator before (byte ∷ 32 ∷ rest) (record { kind = kind; len = 1 })) }
+{
+    match byte {
+        b'=' => Some(TokenKind::Eq),
+        b'+' => Some(TokenKind::Plus),
+        b'-' => Some(TokenKind::Minus),
+        b'*' => Some(TokenKind::Star),
+        b'/' => Some(TokenKind::Slash),
+        b'<' => Some(TokenKind::Lt),
+        b'>' => Some(TokenKind::Gt),
+        _ => None,
+    }
+}
+
+/// The token at the beginning where only an operator may come, if it is quickly found.
+fn quick_operator(bytes: &[u8]) -> Quick
+    ensures first { (before : Behind) → IsQuick Mode.Operator before bytes.now result }
+    ensures within { result.len ≤ length bytes.now }
+{
+    if let [byte, b' ', ..] = bytes {
+        if let Some(kind) = operator(*byte) {
+            return Quick { kind, len: 1 };
+        }
+    }
+    quick_bracket(bytes)
+}
+
 /// The token at the beginning, if it is quickly found.
 pub fn quick_token(mode: Mode, before: Behind, bytes: &[u8]) -> Quick
     ensures first { IsQuick mode before bytes.now result }
@@ -261,7 +291,7 @@ pub fn quick_token(mode: Mode, before: Behind, bytes: &[u8]) -> Quick
     match mode {
         Mode::Markup => quick_of_markup(before, bytes),
         Mode::Code => quick_of_code(before, bytes),
-        Mode::Operator => quick_bracket(bytes),
+        Mode::Operator => quick_operator(bytes),
         Mode::Math if !begins_white(bytes) => quick_of_math(bytes),
         Mode::Argument if !begins_white(bytes) => quick_of_argument(bytes),
         _ => spaces(bytes),
