@@ -28,4 +28,5 @@ mod Texts
 mod Tops
 mod Uniques
 mod Walking
+mod Whites
 mod Within

@@ -1,8 +1,12 @@
 -- Lines and columns.
-use Rattle.std.specs.Prelude.{ℕ, ◌||◌, Bool, false, List, [], ◌∷◌, if◌then◌else◌}
+use Rattle.std.specs.Prelude.{ℕ, ◌||◌, ◌&&◌, nat_le, Bool, false, List, [], ◌∷◌, if◌then◌else◌}
 use Rattle.typst_parser.specs.Sums.{capped_sum}
 use Rattle.typst_lexer.specs.Characters.{begins, goes_on}
 use Rattle.typst_lexer.specs.Classes.{begins_char, is_newline}
+
+-- a printable character of ASCII
+abbrev pub is_printable : ℕ → Bool
+is_printable b = nat_le 32 b && nat_le b 126
 
 -- the column after a byte: a newline begins a line, and each other character is one more
 abbrev pub column_step : ℕ → List ℕ → ℕ

@@ -1,17 +1,19 @@
 //! What is read of the next token: the white space before it, and the token itself.
-ghost use Rattle.std.specs.Prelude.{◌≡◌, ◌+◌, ◌^◌, ◌<◌, ◌≤◌, ◌-◌, take, drop, length, IfSome, OnOk};
-ghost use Rattle.typst_parser.specs.Reads.{at_token, behind_token, breaks_line, is_alike, is_blank_line, is_read_in, is_settled, is_some_mode, is_white_at, known, mode_of_space, part, read, seen_to, skipped, spaced, token_at, tokened, unspaced, whitened};
+ghost use Rattle.std.specs.Prelude.{◌≡◌, ◌+◌, ◌^◌, ◌<◌, ◌≤◌, ◌-◌, [], ◌∷◌, take, drop, length, IfSome, OnOk};
+ghost use Rattle.typst_parser.specs.Reads.{at_token, behind_token, breaks_line, is_alike, is_blank_line, is_read_in, is_settled, is_some_mode, is_white_at, known, mode_of_space, part, read, seen_to, skipped, spaced, token_at, tokened, unspaced, whitened, whitened_by};
 ghost use Rattle.typst_parser.specs.View.{stack_of};
 ghost use Rattle.typst_lexer.specs.FirstToken.{first};
+ghost use Rattle.typst_lexer.specs.LoneBlank.{IsBlankByte, lone_blank};
 ghost use Rattle.typst_lexer.specs.Spaces.{is_markup};
 
-use crate::column::{column_after, has_newline};
+use crate::column::{column_after, column_after_blank, has_newline, is_line_feed};
 use crate::event::Event;
 use crate::next::{Next, Place};
 use crate::stack::Stack;
 use crate::token::leaf_kind;
 use std::alloc::AllocError;
-use typst_lexer::{FirstToken, Mode, TokenKind, begins_white, token_of_bytes};
+use typst_base::SyntaxKind;
+use typst_lexer::{Behind, FirstToken, Mode, TokenKind, begins_white, lone_blank, token_of_bytes};
 
 /// How many bytes are looked at to know that no more white space comes.
 const AHEAD: usize = 10;
@@ -153,11 +155,37 @@ impl Stack {
         Ok(())
     }
 
-    /// Takes the white space before the next token.
+    /// Takes a blank or a line feed as white space before the next token.
+    #[tactic(auto, using(crate::proofs::Whites::none_more))]
+    fn whiten_byte(&mut self, byte: u8) -> Result<(), AllocError>
+        requires fits { self.old.next.place.at + 11 < 2 ^ 64 }
+        requires byte { IsBlankByte byte }
+        ensures { OnOk result (stack_of self.new ≡ whitened_by (byte ∷ []) lone_blank (stack_of self.old)) }
+    {
+        let place = self.next.place;
+        self.white.push(Event::Leaf {
+            kind: SyntaxKind::Space,
+            len: 1,
+        })?;
+        self.far = self.far.max(place.at + 1 + AHEAD);
+        self.next.line = self.next.line || is_line_feed(byte);
+        self.next.place = Place {
+            at: place.at + 1,
+            behind: Behind::Other,
+            column: column_after_blank(place.column, byte),
+        };
+        Ok(())
+    }
+
+    /// Takes the white space before the next token. Most often it is one blank or one line feed.
     #[inline(never)]
     fn skip(&mut self, mode: Mode, text: &[u8]) -> Result<(), AllocError>
         ensures { OnOk result (stack_of self.new ≡ skipped (length text.now) mode text.now (stack_of self.old)) }
     {
+        if let Some(byte) = lone_blank(rest_at(text, self.next.place.at)) {
+            self.whiten_byte(byte)?;
+            return Ok(());
+        }
         for _ in 0..text.len() {
             if !is_white_at(mode, self.next.place, text) {
                 return Ok(());
