@@ -8,6 +8,7 @@ pub mod WhiteRuns
 pub mod Ascii
 pub mod Simple
 pub mod Easy
+pub mod Keywords
 pub mod TextRuns
 pub mod QuickTokens
 pub mod QuickArguments

@@ -1,5 +1,5 @@
 //! What names of code are, by their texts.
-ghost use Rattle.std.specs.Prelude.{◌≡◌};
+ghost use Rattle.std.specs.Prelude.{false, ◌≡◌};
 ghost use Rattle.std.specs.Str.{bytes_eq};
 ghost use Rattle.typst_lexer.specs.Names.{name_kind, plain_name, statement_kind};
 
@@ -54,10 +54,33 @@ fn statement_kind(name: &[u8]) -> TokenKind
     }
 }
 
-/// The kind of a name that may be a keyword.
+/// Whether a keyword has as many bytes and this first one.
+#[tactic(auto, using(crate::proofs::Keywords::none_of_2, crate::proofs::Keywords::none_of_3, crate::proofs::Keywords::none_of_4, crate::proofs::Keywords::none_of_5, crate::proofs::Keywords::none_of_6, crate::proofs::Keywords::none_of_7, crate::proofs::Keywords::none_of_8, crate::proofs::Keywords::none_longer))]
+fn is_like_keyword(name: &[u8]) -> bool
+    ensures { result ≡ false → name_kind name.now ≡ plain_name name.now }
+{
+    let [first, ..] = name else {
+        return false;
+    };
+    match name.len() {
+        2 => matches!(first, b'a' | b'i' | b'o'),
+        3 => matches!(first, b'a' | b'f' | b'l' | b'n' | b's'),
+        4 => matches!(first, b'a' | b'e' | b'n' | b's' | b't'),
+        5 => matches!(first, b'b' | b'f' | b'w'),
+        6 => matches!(first, b'i' | b'r'),
+        7 => matches!(first, b'c' | b'i'),
+        8 => *first == b'c',
+        _ => false,
+    }
+}
+
+/// The kind of a name that may be a keyword. Most names have another length or first letter than each keyword.
 pub fn name_kind(name: &[u8]) -> TokenKind
     ensures { result ≡ name_kind name.now }
 {
+    if !is_like_keyword(name) {
+        return plain_name(name);
+    }
     if is(name, b"not") {
         TokenKind::Not
     } else if is(name, b"and") {
