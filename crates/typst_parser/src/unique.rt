@@ -336,7 +336,8 @@ fn take_faulted(
 /// Makes errors of names that come again in the last tree, and of second sinks. The text ends with that tree. After an
 /// error the events are gone.
 ///
-/// It takes time in proportion to the events of the tree, and for each name to its bytes and to the logarithm of how many there are.
+/// It takes time in proportion to the events of the tree, and for each name to its bytes times the logarithm of how many
+/// names there are.
 pub(crate) fn make_unique(
     alloc: Global,
     events: &mut Vec<Event>,
