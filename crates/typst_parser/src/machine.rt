@@ -86,7 +86,6 @@ impl Stack {
     }
 
     /// Takes the next token, as a row says, or ends the block at the end of the text.
-    #[inline(never)]
     fn eat(&mut self, alloc: Global, text: &[u8], take: Take) -> Result<(), AllocError>
         ensures { OnOk result (stack_of self.new ≡ eaten text.now take (stack_of self.old)) }
     {

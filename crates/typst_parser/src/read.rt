@@ -178,7 +178,6 @@ impl Stack {
     }
 
     /// Takes the white space before the next token. Most often it is one blank or one line feed.
-    #[inline(never)]
     fn skip(&mut self, mode: Mode, text: &[u8]) -> Result<(), AllocError>
         ensures { OnOk result (stack_of self.new ≡ skipped (length text.now) mode text.now (stack_of self.old)) }
     {
