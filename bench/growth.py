@@ -21,44 +21,44 @@ from common import ended, parser, proved, ran
 SIZES, CALLS = (1_000, 16_000), 32
 # The most instructions of a call at each size.
 BOUNDS = {
-    "find": (1_300, 1_400),
-    "leaf_at": (1_900, 2_400),
-    "errors_and_warnings": (150, 150),
-    "replace": (1_500, 1_500),
-    "insert": (3_900, 5_300),
-    "run": (3_100, 3_200),
-    "script: run": (700, 700),
+    "find": (970, 1_050),
+    "leaf_at": (1_360, 1_710),
+    "errors_and_warnings": (105, 105),
+    "replace": (990, 990),
+    "insert": (2_800, 3_800),
+    "run": (2_070, 2_150),
+    "script: run": (670, 670),
     "script: find, run": (1_900, 1_900),
-    "script: replace, run": (5_300, 5_400),
+    "script: replace, run": (4_700, 4_800),
     # Texts. An edit is made and taken back: in the middle, or in turns at both ends, with the blocks between them.
-    "text: letter": (45_500, 112_500),
-    "text: letter far": (51_600, 208_000),
-    "text: letter list": (34_000, 118_000),
-    "text: lines letter": (2_000, 3_600),
+    "text: letter": (42_500, 109_500),
+    "text: letter far": (48_600, 205_500),
+    "text: letter list": (32_300, 116_500),
+    "text: lines letter": (1_850, 3_550),
     "text: byte_to_line": (210, 250),
-    "text: line_column_to_byte": (170, 170),
-    "text: place_of": (550, 590),
+    "text: line_column_to_byte": (130, 130),
+    "text: place_of": (490, 520),
 }
 # The most instructions for each line of a text that is parsed: of paragraphs, of one block, and of items without blank lines.
-PER_LINE = {"text: parse": (10_000, 10_100), "text: parse block": (11_900, 11_800), "text: parse list": (12_100, 12_100)}
+PER_LINE = {"text: parse": (9_400, 9_400), "text: parse block": (10_950, 10_800), "text: parse list": (11_300, 11_300)}
 # The same for each piece of a text of one line that repeats it: brackets that nothing closes, operators, fields, calls, names.
 PER_PIECE = {
     "text: parse round": (2_900, 2_800),
-    "text: parse square": (840, 830),
+    "text: parse square": (800, 790),
     "text: parse curly": (2_700, 2_570),
-    "text: parse dollars": (2_330, 2_310),
-    "text: parse minus": (65, 55),
-    "text: parse fields": (3_930, 3_930),
+    "text: parse dollars": (2_280, 2_260),
+    "text: parse minus": (55, 45),
+    "text: parse fields": (3_880, 3_870),
     "text: parse calls": (37_200, 38_100),
-    "text: parse items": (1_600, 1_360),
-    "text: parse keys": (8_600, 8_700),
+    "text: parse items": (1_340, 1_100),
+    "text: parse keys": (8_300, 8_450),
 }
 # The same for each function of code and for each equation: of so many.
-PIECES, PER_LONG_PIECE = (100, 1_600), {"text: parse code": (145_000, 146_000), "text: parse equations": (87_000, 88_500)}
+PIECES, PER_LONG_PIECE = (100, 1_600), {"text: parse code": (134_500, 135_000), "text: parse equations": (81_500, 82_500)}
 # The most instructions for each level of a chain, whose leaf a reconciliation changes: at so many levels.
-LEVELS, PER_LEVEL = (30, 480), {"text: reconcile chain": (1_500, 1_300)}
+LEVELS, PER_LEVEL = (30, 480), {"text: reconcile chain": (1_500, 1_210)}
 # The most bytes of memory that a call may ask for.
-BYTES = {"text: letter": (10_000, 32_000)}
+BYTES = {"text: letter": (7_800, 29_500)}
 
 
 INSTRUCTIONS = ["--tool=callgrind", "--callgrind-out-file=/dev/null"], r"Collected : (\d+)"
