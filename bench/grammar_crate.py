@@ -18,7 +18,7 @@ SOURCE = TABLE.relative_to(TOP)
 WRITTEN = f"Written by bench/grammar_crate.py from {SOURCE}: change that and run it."
 DECLARED = "Rattle.typst_grammar.specs.declared"
 # The enum of each action's word, by the action.
-WORDS = {"->": "State", "wrap": "SyntaxKind", "eat": "SyntaxKind", "retag": "Map", "unique": "Unique"}
+WORDS = {"->": "State", "around": "State", "wrap": "SyntaxKind", "eat": "SyntaxKind", "retag": "Map", "unique": "Unique"}
 NAMES = {"->": "Goto"}
 
 
@@ -30,11 +30,14 @@ def expectations(table):
 
 
 def value(action):
-    """The enum and the variant that an action has, or None."""
+    """The enum, the variant and the number that an action has, or None."""
     if not action[1:]:
         return None
-    name = WORDS.get(action[0], "Expectation")
-    return name, action[1] if name == "SyntaxKind" else camel(action[1])
+    name, number = WORDS.get(action[0], "Expectation"), ()
+    said = action[1]
+    if action[0] == "around":
+        said, *number = (said + " 0").split()[:2]
+    return name, said if name == "SyntaxKind" else camel(said), *number
 
 
 def take_of(row):
@@ -100,7 +103,7 @@ class Parts:
 
 def of_enum(name, word, said):
     """A variant with what it holds, in code."""
-    return f"{name}::{word}" + (f"({said[0]}::{said[1]})" if said else "")
+    return f"{name}::{word}" + (f"({', '.join([f'{said[0]}::{said[1]}', *said[2:]])})" if said else "")
 
 
 def action_in_code(action):
@@ -292,7 +295,7 @@ impl Expectation {{
 
 def variant_in_specs(module, word, said):
     enums = {"SyntaxKind": "kinds", "State": "states", "Expectation": "expectations", "Map": "maps", "Unique": "uniques"}
-    return f"{module}.{word}" + (f" {enums[said[0]]}.{said[1]}" if said else "")
+    return f"{module}.{word}" + (f" {' '.join([f'{enums[said[0]]}.{said[1]}', *said[2:]])}" if said else "")
 
 
 def action_in_specs(action):

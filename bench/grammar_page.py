@@ -31,6 +31,7 @@ def action_said(action):
         "eat": f"take as {code(said)}",
         "mistake": f"refuse: {said}",
         "enter": f"enter {code(said)}",
+        "around": f"open around the last node{' with '.join(['', *rest[1:]])}, return to {code(rest[0] if rest else '')}",
         "->": f"go on in {code(said)}",
         "wrap": f"make {code(said)}",
         "expected": f"expect {said}",

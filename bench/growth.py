@@ -54,11 +54,11 @@ PER_PIECE = {
     "text: parse keys": (8_300, 8_450),
 }
 # The same for each function of code and for each equation: of so many.
-PIECES, PER_LONG_PIECE = (100, 1_600), {"text: parse code": (134_500, 135_000), "text: parse equations": (81_500, 82_500)}
+PIECES, PER_LONG_PIECE = (100, 1_600), {"text: parse code": (119_500, 120_500), "text: parse equations": (67_700, 69_000)}
 # The most instructions for each level of a chain, whose leaf a reconciliation changes: at so many levels.
 LEVELS, PER_LEVEL = (30, 480), {"text: reconcile chain": (1_500, 1_210)}
 # The most bytes of memory that a call may ask for.
-BYTES = {"text: letter": (7_800, 29_500)}
+BYTES = {"text: letter": (9_400, 31_000)}
 
 
 INSTRUCTIONS = ["--tool=callgrind", "--callgrind-out-file=/dev/null"], r"Collected : (\d+)"

@@ -6,7 +6,7 @@
                                                                   with NAME.tree, and tries nothing
 
 It fails if the tree of a text in crates/typst_language_tests/data isn't the one beside it, with a few exceptions that have errors and that
-bench/grammar/texts.py names; if there is a row without which all those trees stay the same; if a row could take the end of the text, or
+bench/grammar/texts.py names; if there is a row without which all those trees stay the same, and with no more looks at tokens; if a row could take the end of the text, or
 rows could go round without a token; if a text of the grammar has an error, or a byte of any text is lost; or if the work isn't linear.
 """
 import random
@@ -29,6 +29,7 @@ REPEATED = [
 ]  # fmt: skip
 MOST_WORK = 20  # looks for each
 VALID, SOUPS = 200, 400
+SHORTCUTS = []  # the lines of the rows without which all trees are the same, and tokens are looked at more often
 
 
 def rows_of(table):
@@ -37,13 +38,18 @@ def rows_of(table):
     return states + [row.line for it in table.maps.values() for row in it.rows]
 
 
-def needed(rows, line, texts, trees):
-    """Whether one of some texts has another tree without the row of a line."""
-    rows.left_out = line
+def needed(rows, line, users):
+    """What a row is needed for, by the machines that used it: a tree, or fewer looks at tokens. Without either it isn't."""
+    rows.left_out, looks = line, 0
     try:
-        return any(Machine(rows, lexer, True).run() != tree for lexer, tree in zip(texts, trees))
+        for user in users:
+            machine = Machine(rows, user.lexer, True)
+            if machine.run() != user.nodes:
+                return "tree"
+            looks += machine.looks - user.looks
+        return "looks" if looks > 0 else ""
     except Refused:
-        return True
+        return "tree"
     finally:
         rows.left_out = 0
 
@@ -59,9 +65,11 @@ def corpus(rows):
             yield f"{name}: no error"
     source = TABLE.read_text().splitlines()
     for line in rows_of(rows.table):
-        users = [machine for machine in machines.values() if line in machine.used]
-        if not needed(rows, line, [it.lexer for it in users], [it.nodes for it in users]):
+        need = needed(rows, line, [machine for machine in machines.values() if line in machine.used])
+        if not need:
             yield f"{TABLE.name}:{line}: no tree needs this row: {source[line - 1].strip()}"
+        elif need == "looks":
+            SHORTCUTS.append(line)
 
 
 def has_error(machine):
@@ -119,6 +127,7 @@ def main():
         sys.exit("\n".join(wrong))
     trees = len(list(DATA.glob("*.tree")))
     print(f"the rows of {TABLE.relative_to(TOP)} make {trees - len(OTHERS)} of {trees} trees, and each of the {len(rows_of(table))} is needed")
+    print(f"for fewer looks at tokens, and for no tree: the rows of the lines {', '.join(map(str, SHORTCUTS))}")
 
 
 if __name__ == "__main__":

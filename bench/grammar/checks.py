@@ -22,12 +22,31 @@ class Step:
     returns: bool
 
 
+@dataclass(frozen=True)
+class Chain:
+    """The places of frames that one row opens in each other, the outermost first."""
+
+    places: tuple
+
+
 def step_of(state, row):
-    """The condition of a row, what it opens, the state that goes on, whether it takes the token and whether it returns."""
-    opened = (row.call.state, row.call.number) if row.call else None
-    actions = [*row.before, *row.after]
-    behind = next((action[1] for action in reversed(actions) if action[0] == "->"), state)
-    return row.condition, opened, behind, bool(row.take), ("return",) in actions
+    """The condition of a row, the places that it opens in each other, the state that goes on, whether it takes the token and whether
+    it returns."""
+    frames, actions = [(state, 0)], [*row.before, *row.after]
+    for word, *rest in actions:
+        if word == "->":
+            frames[-1] = (rest[0], frames[-1][1])
+        elif word == "around":
+            name, _, number = rest[0].partition(" ")
+            frames[-1:] = [(name, frames[-1][1]), (name, int(number or 0))]
+    if row.call:
+        frames.append((row.call.state, row.call.number))
+    return row.condition, tuple(frames[1:]), frames[0][0], bool(row.take), ("return",) in actions
+
+
+def opened(places):
+    """The place that frames open which open in each other."""
+    return (Chain(tuple(places)), 0) if len(places) > 1 else places[0] if places else None
 
 
 class Walk:
@@ -64,13 +83,16 @@ class Walk:
 
     def found_steps(self, place, token_class, direct):
         """The steps that a place may make for a token: those of all rows up to the first that fits surely."""
+        if isinstance(place[0], Chain):
+            first, *others = place[0].places
+            return (Step(opened(others), first, False, False),)
         if self.table.states[place[0]].mode == "operator" and token_class in NO_OPERATORS:
             token_class = "Other"
         steps = []
-        for condition, opened, behind, *rest in self.rows(place[0], token_class):
+        for condition, frames, behind, *rest in self.rows(place[0], token_class):
             fits = self.fits(place, condition, direct)
             if fits is not False:
-                steps.append(Step(opened, (behind, place[1]), *rest))
+                steps.append(Step(opened(frames), (behind, place[1]), *rest))
             if fits:
                 break
         return tuple(steps)

@@ -204,6 +204,8 @@ class Machine:
             top.state = rest
         elif word == "return":
             self.end_frame()
+        elif word == "around":
+            self.surround(top, *rest.split())
         elif word == "expected":
             if not self.missing and not (self.nodes and self.nodes[-1].kind == "Error"):
                 self.missing = f"expected {rest}"
@@ -212,6 +214,14 @@ class Machine:
         else:
             self.settle()
             self.change(word, rest, top)
+
+    def surround(self, top, state, number=0):
+        """Opens a frame around the last node of the innermost one, if that is a token."""
+        self.settle()
+        is_token = len(self.nodes) > top.start and self.nodes[-1].children is None and self.nodes[-1].kind != "Error"
+        top.state = state
+        self.frames.append(Frame(state, len(self.nodes) - is_token, int(number), top.newline, top.column, top.room))
+        self.judge = len(self.frames) - 1
 
     def end_frame(self):
         if len(self.frames) > 1:

@@ -16,9 +16,10 @@ LINE_FEEDS = ("go", "stop", "context", "par", "column")
 UNIQUE = ("argument", "parameter", "binding", "key", "sink")
 # The words of an action, the first one counted. No number: as many as its message has.
 ACTIONS = {
-    "eat": (1, 2), "unexpected": (1,), "mistake": (), "enter": (2,), "->": (2,), "return": (1,), "wrap": (2,), "flush": (1,),
+    "eat": (1, 2), "unexpected": (1,), "mistake": (), "enter": (2,), "around": (2, 3), "->": (2,), "return": (1,), "wrap": (2,), "flush": (1,),
     "up": (1,), "down": (1,), "expected": (), "wrong": (), "unclosed": (1,), "retag": (2,), "unique": (2,),
 }  # fmt: skip
+MOVES = ("->", "enter", "around")
 TAKES = ("eat", "unexpected", "mistake")
 # How many words a condition of a row has, and a test of a map. No number: as many as there are kinds.
 CONDITIONS = {"newline": 1, "direct": 1, "empty": 1, "is": 2, "upto": 2, "only": 0, "last": 0}
@@ -270,15 +271,16 @@ class Table:
             raise ValueError(f"`{said}` has {len(action) - 1} words behind the first")
         if word in ("wrap", "eat"):
             self.known_kinds(action[1:])
-        known = {"->": self.states, "enter": self.states, "retag": self.maps, "unique": UNIQUE}
+        known = {"->": self.states, "enter": self.states, "around": self.states, "retag": self.maps, "unique": UNIQUE}
+        if word == "around" and not all(number.isdigit() for number in action[2:]):
+            raise ValueError(f"`{said}` has no number behind the state")
         if word in known and action[1] not in known[word]:
-            raise ValueError(f"no such {'state' if word in ('->', 'enter') else word}: {action[1]}")
+            raise ValueError(f"no such {'state' if word in MOVES else word}: {action[1]}")
         return word == "enter"
 
     def calls(self, actions):
         """The states that some actions name, each in a list."""
-        moves = ("->", "enter")
-        return [action[1:] if action[0] in moves else action[:1] for action in actions if action[0] in moves or action[0] not in ACTIONS]
+        return [action[1:2] if action[0] in MOVES else action[:1] for action in actions if action[0] in MOVES or action[0] not in ACTIONS]
 
     def settle_map(self, it):
         if it.base and it.base not in self.maps:
@@ -294,6 +296,8 @@ class Table:
     def compiled(self, condition, actions, line):
         before, take, after, call = [], (), [], None
         for action in actions:
+            if action[0] in MOVES and ("return",) in (*before, *after):
+                raise ValueError(f"`{action[0]}` stands behind `return`: the frame that the row returns to goes on as its own row says")
             if action[0] in TAKES:
                 if take:
                     raise ValueError("a row takes a token once")

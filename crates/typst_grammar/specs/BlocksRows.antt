@@ -44,14 +44,14 @@ row_3 = record {
   condition = conditions.Always;
   before = [];
   take = takes.Eat;
-  after = actions.Goto states.BracesClose ∷ [];
+  after = [];
   call = Some (record { state = states.Code; number = 0; enters = true; is_deep = false; newline = None });
 }
 
 abbrev pub row_4 : Row
 row_4 = record {
   condition = conditions.Always;
-  before = actions.Unclosed ∷ actions.Wrap kinds.CodeBlock ∷ actions.Return ∷ [];
+  before = actions.Flush ∷ actions.Wrap kinds.Code ∷ actions.Return ∷ actions.Unclosed ∷ actions.Wrap kinds.CodeBlock ∷ actions.Return ∷ [];
   take = takes.Nothing;
   after = [];
   call = None;
@@ -61,31 +61,13 @@ abbrev pub row_5 : Row
 row_5 = record {
   condition = conditions.Always;
   before = [];
-  take = takes.Eat;
-  after = actions.Wrap kinds.CodeBlock ∷ actions.Return ∷ [];
-  call = None;
-}
-
-abbrev pub row_6 : Row
-row_6 = record {
-  condition = conditions.Always;
-  before = actions.Flush ∷ actions.Wrap kinds.Code ∷ actions.Return ∷ [];
-  take = takes.Nothing;
-  after = [];
-  call = None;
-}
-
-abbrev pub row_7 : Row
-row_7 = record {
-  condition = conditions.Always;
-  before = [];
   take = takes.Unexpected;
   after = [];
   call = None;
 }
 
-abbrev pub row_8 : Row
-row_8 = record {
+abbrev pub row_6 : Row
+row_6 = record {
   condition = conditions.Always;
   before = actions.Goto states.CodeEnd ∷ [];
   take = takes.Nothing;
@@ -93,8 +75,17 @@ row_8 = record {
   call = Some (record { state = states.Statement; number = 1; enters = false; is_deep = false; newline = Some newlines.Context });
 }
 
-abbrev pub row_9 : Row
-row_9 = record {
+abbrev pub row_7 : Row
+row_7 = record {
+  condition = conditions.Always;
+  before = actions.Flush ∷ actions.Wrap kinds.Code ∷ actions.Return ∷ [];
+  take = takes.Eat;
+  after = actions.Wrap kinds.CodeBlock ∷ actions.Return ∷ [];
+  call = None;
+}
+
+abbrev pub row_8 : Row
+row_8 = record {
   condition = conditions.Newline;
   before = actions.Goto states.Code ∷ [];
   take = takes.Nothing;
@@ -102,8 +93,8 @@ row_9 = record {
   call = None;
 }
 
-abbrev pub row_10 : Row
-row_10 = record {
+abbrev pub row_9 : Row
+row_9 = record {
   condition = conditions.Always;
   before = actions.Expected expectations.SemicolonOrLineBreak ∷ actions.Goto states.Code ∷ [];
   take = takes.Nothing;
@@ -111,8 +102,8 @@ row_10 = record {
   call = None;
 }
 
-abbrev pub row_11 : Row
-row_11 = record {
+abbrev pub row_10 : Row
+row_10 = record {
   condition = conditions.Always;
   before = [];
   take = takes.Eat;
@@ -149,49 +140,44 @@ abbrev pub braces : Class → List Row
 braces classes.LeftBrace = row_3 ∷ []
 braces _ = []
 
--- the end of a block of code
-abbrev pub braces_close : Class → List Row
-braces_close classes.RightBrace = row_5 ∷ []
-braces_close _ = row_4 ∷ []
-
 -- the expressions of a block of code
 abbrev pub code : Class → List Row
-code classes.End = row_6 ∷ []
-code classes.Label = row_8 ∷ []
-code classes.Raw = row_8 ∷ []
-code classes.Dollar = row_8 ∷ []
-code classes.LeftBrace = row_8 ∷ []
-code classes.RightBrace = row_6 ∷ []
-code classes.LeftBracket = row_8 ∷ []
-code classes.RightBracket = row_6 ∷ []
-code classes.LeftParen = row_8 ∷ []
-code classes.RightParen = row_6 ∷ []
-code classes.Underscore = row_8 ∷ []
-code classes.Sign = row_8 ∷ []
-code classes.Ident = row_8 ∷ []
-code classes.Str = row_8 ∷ []
-code classes.Literal = row_8 ∷ []
-code classes.Constant = row_8 ∷ []
-code classes.Not = row_8 ∷ []
-code classes.Let = row_8 ∷ []
-code classes.Set = row_8 ∷ []
-code classes.Show = row_8 ∷ []
-code classes.Context = row_8 ∷ []
-code classes.If = row_8 ∷ []
-code classes.For = row_8 ∷ []
-code classes.While = row_8 ∷ []
-code classes.Break = row_8 ∷ []
-code classes.Continue = row_8 ∷ []
-code classes.Return = row_8 ∷ []
-code classes.Import = row_8 ∷ []
-code classes.Include = row_8 ∷ []
-code _ = row_7 ∷ []
+code classes.End = row_4 ∷ []
+code classes.Label = row_6 ∷ []
+code classes.Raw = row_6 ∷ []
+code classes.Dollar = row_6 ∷ []
+code classes.LeftBrace = row_6 ∷ []
+code classes.RightBrace = row_7 ∷ []
+code classes.LeftBracket = row_6 ∷ []
+code classes.RightBracket = row_4 ∷ []
+code classes.LeftParen = row_6 ∷ []
+code classes.RightParen = row_4 ∷ []
+code classes.Underscore = row_6 ∷ []
+code classes.Sign = row_6 ∷ []
+code classes.Ident = row_6 ∷ []
+code classes.Str = row_6 ∷ []
+code classes.Literal = row_6 ∷ []
+code classes.Constant = row_6 ∷ []
+code classes.Not = row_6 ∷ []
+code classes.Let = row_6 ∷ []
+code classes.Set = row_6 ∷ []
+code classes.Show = row_6 ∷ []
+code classes.Context = row_6 ∷ []
+code classes.If = row_6 ∷ []
+code classes.For = row_6 ∷ []
+code classes.While = row_6 ∷ []
+code classes.Break = row_6 ∷ []
+code classes.Continue = row_6 ∷ []
+code classes.Return = row_6 ∷ []
+code classes.Import = row_6 ∷ []
+code classes.Include = row_6 ∷ []
+code _ = row_5 ∷ []
 
 -- the end of an expression of a block of code
 abbrev pub code_end : Class → List Row
-code_end classes.End = row_9 ∷ row_6 ∷ []
-code_end classes.RightBrace = row_9 ∷ row_6 ∷ []
-code_end classes.RightBracket = row_9 ∷ row_6 ∷ []
-code_end classes.RightParen = row_9 ∷ row_6 ∷ []
-code_end classes.Semicolon = row_9 ∷ row_11 ∷ []
-code_end _ = row_9 ∷ row_10 ∷ []
+code_end classes.End = row_8 ∷ row_4 ∷ []
+code_end classes.RightBrace = row_8 ∷ row_7 ∷ []
+code_end classes.RightBracket = row_8 ∷ row_4 ∷ []
+code_end classes.RightParen = row_8 ∷ row_4 ∷ []
+code_end classes.Semicolon = row_8 ∷ row_10 ∷ []
+code_end _ = row_8 ∷ row_9 ∷ []

@@ -180,8 +180,8 @@ row_18 = record {
   condition = conditions.Always;
   before = [];
   take = takes.Eat;
-  after = actions.Goto states.ExprRest3 ∷ [];
-  call = Some (record { state = states.Binding; number = 0; enters = false; is_deep = false; newline = None });
+  after = actions.Goto states.Binding ∷ [];
+  call = None;
 }
 
 abbrev pub row_19 : Row
@@ -207,7 +207,7 @@ row_21 = record {
   condition = conditions.UpTo 8;
   before = [];
   take = takes.Eat;
-  after = actions.Goto states.ExprRest4 ∷ [];
+  after = actions.Goto states.ExprRest3 ∷ [];
   call = Some (record { state = states.Expr; number = 1; enters = false; is_deep = false; newline = None });
 }
 
@@ -216,7 +216,7 @@ row_22 = record {
   condition = conditions.Always;
   before = [];
   take = takes.Eat;
-  after = actions.Goto states.ExprRest5 ∷ [];
+  after = actions.Goto states.ExprRest4 ∷ [];
   call = Some (record { state = states.Expr; number = 9; enters = false; is_deep = false; newline = None });
 }
 
@@ -234,7 +234,7 @@ row_24 = record {
   condition = conditions.Always;
   before = [];
   take = takes.Eat;
-  after = actions.Goto states.ExprRest7 ∷ [];
+  after = actions.Goto states.ExprRest6 ∷ [];
   call = Some (record { state = states.Pattern; number = 0; enters = false; is_deep = false; newline = None });
 }
 
@@ -243,7 +243,7 @@ row_25 = record {
   condition = conditions.Always;
   before = [];
   take = takes.Eat;
-  after = actions.Goto states.ExprRest6 ∷ [];
+  after = actions.Goto states.ExprRest5 ∷ [];
   call = Some (record { state = states.Expr; number = 1; enters = false; is_deep = false; newline = None });
 }
 
@@ -288,7 +288,7 @@ row_30 = record {
   condition = conditions.Always;
   before = [];
   take = takes.Eat;
-  after = actions.Goto states.ExprRest8 ∷ [];
+  after = actions.Goto states.ExprRest7 ∷ [];
   call = Some (record { state = states.Expr; number = 1; enters = false; is_deep = false; newline = None });
 }
 
@@ -304,7 +304,7 @@ row_31 = record {
 abbrev pub row_32 : Row
 row_32 = record {
   condition = conditions.Always;
-  before = actions.Wrap kinds.LetBinding ∷ actions.Goto states.ExprAfter ∷ [];
+  before = actions.Wrap kinds.Contextual ∷ actions.Goto states.ExprAfter ∷ [];
   take = takes.Nothing;
   after = [];
   call = None;
@@ -313,23 +313,14 @@ row_32 = record {
 abbrev pub row_33 : Row
 row_33 = record {
   condition = conditions.Always;
-  before = actions.Wrap kinds.Contextual ∷ actions.Goto states.ExprAfter ∷ [];
-  take = takes.Nothing;
-  after = [];
-  call = None;
-}
-
-abbrev pub row_34 : Row
-row_34 = record {
-  condition = conditions.Always;
-  before = actions.Goto states.ExprRest6Rest ∷ [];
+  before = actions.Goto states.ExprRest5Rest ∷ [];
   take = takes.Nothing;
   after = [];
   call = Some (record { state = states.Body; number = 0; enters = false; is_deep = false; newline = None });
 }
 
-abbrev pub row_35 : Row
-row_35 = record {
+abbrev pub row_34 : Row
+row_34 = record {
   condition = conditions.Always;
   before = actions.Wrap kinds.WhileLoop ∷ actions.Goto states.ExprAfter ∷ [];
   take = takes.Nothing;
@@ -337,8 +328,8 @@ row_35 = record {
   call = None;
 }
 
-abbrev pub row_36 : Row
-row_36 = record {
+abbrev pub row_35 : Row
+row_35 = record {
   condition = conditions.Always;
   before = actions.Unique uniques.Binding ∷ actions.Goto states.ForIn ∷ [];
   take = takes.Nothing;
@@ -346,8 +337,8 @@ row_36 = record {
   call = None;
 }
 
-abbrev pub row_37 : Row
-row_37 = record {
+abbrev pub row_36 : Row
+row_36 = record {
   condition = conditions.Always;
   before = actions.Wrap kinds.ModuleInclude ∷ actions.Goto states.ExprAfter ∷ [];
   take = takes.Nothing;
@@ -441,24 +432,20 @@ expr_rest3 _ = row_32 ∷ []
 
 -- the rest of a row of `expr`, once the frame that it opened has returned
 abbrev pub expr_rest4 : Class → List Row
-expr_rest4 _ = row_33 ∷ []
+expr_rest4 _ = row_32 ∷ []
 
 -- the rest of a row of `expr`, once the frame that it opened has returned
 abbrev pub expr_rest5 : Class → List Row
 expr_rest5 _ = row_33 ∷ []
 
+-- the rest of a row of `expr.rest5`, once the frame that it opened has returned
+abbrev pub expr_rest5_rest : Class → List Row
+expr_rest5_rest _ = row_34 ∷ []
+
 -- the rest of a row of `expr`, once the frame that it opened has returned
 abbrev pub expr_rest6 : Class → List Row
-expr_rest6 _ = row_34 ∷ []
-
--- the rest of a row of `expr.rest6`, once the frame that it opened has returned
-abbrev pub expr_rest6_rest : Class → List Row
-expr_rest6_rest _ = row_35 ∷ []
+expr_rest6 _ = row_35 ∷ []
 
 -- the rest of a row of `expr`, once the frame that it opened has returned
 abbrev pub expr_rest7 : Class → List Row
 expr_rest7 _ = row_36 ∷ []
-
--- the rest of a row of `expr`, once the frame that it opened has returned
-abbrev pub expr_rest8 : Class → List Row
-expr_rest8 _ = row_37 ∷ []

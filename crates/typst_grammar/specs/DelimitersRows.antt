@@ -1,6 +1,6 @@
 -- Written by bench/grammar_crate.py from crates/grammar.table: change that and run it.
 -- The rows of delimiters and arguments in math.
-use Rattle.std.specs.Prelude.{List, [], ◌∷◌, false, Some, None}
+use Rattle.std.specs.Prelude.{List, [], ◌∷◌, true, false, Some, None}
 use Rattle.typst_base.specs.declared.kind.SyntaxKind.TheVariants as kinds
 use Rattle.typst_grammar.specs.declared.expectation.Expectation.TheVariants as expectations
 use Rattle.typst_grammar.specs.declared.row.Action.TheVariants as actions
@@ -17,8 +17,8 @@ row_0 = record {
   condition = conditions.Always;
   before = [];
   take = takes.EatAs kinds.MathText;
-  after = actions.Goto states.DelimitedClose ∷ [];
-  call = Some (record { state = states.DelimitedBody; number = 0; enters = false; is_deep = false; newline = None });
+  after = actions.Goto states.DelimitedRest1 ∷ [];
+  call = Some (record { state = states.DelimitedBody; number = 1; enters = false; is_deep = true; newline = None });
 }
 
 abbrev pub row_1 : Row
@@ -26,14 +26,14 @@ row_1 = record {
   condition = conditions.Always;
   before = [];
   take = takes.Eat;
-  after = actions.Goto states.DelimitedClose ∷ [];
-  call = Some (record { state = states.DelimitedBody; number = 0; enters = false; is_deep = false; newline = None });
+  after = actions.Goto states.DelimitedRest2 ∷ [];
+  call = Some (record { state = states.DelimitedBody; number = 1; enters = false; is_deep = true; newline = None });
 }
 
 abbrev pub row_2 : Row
 row_2 = record {
-  condition = conditions.Always;
-  before = actions.Return ∷ [];
+  condition = conditions.Is 0;
+  before = actions.Wrap kinds.Math ∷ actions.Return ∷ actions.Unclosed ∷ actions.Wrap kinds.Equation ∷ actions.Return ∷ [];
   take = takes.Nothing;
   after = [];
   call = None;
@@ -42,8 +42,8 @@ row_2 = record {
 abbrev pub row_3 : Row
 row_3 = record {
   condition = conditions.Always;
-  before = [];
-  take = takes.Unexpected;
+  before = actions.Return ∷ actions.Wrap kinds.Math ∷ [];
+  take = takes.Nothing;
   after = [];
   call = None;
 }
@@ -52,17 +52,17 @@ abbrev pub row_4 : Row
 row_4 = record {
   condition = conditions.Always;
   before = [];
-  take = takes.Nothing;
-  after = [];
-  call = Some (record { state = states.MathExpr; number = 0; enters = false; is_deep = false; newline = None });
+  take = takes.Unexpected;
+  after = actions.Goto states.Math ∷ [];
+  call = None;
 }
 
 abbrev pub row_5 : Row
 row_5 = record {
   condition = conditions.Always;
-  before = actions.Wrap kinds.Math ∷ actions.Return ∷ [];
-  take = takes.Nothing;
-  after = [];
+  before = [];
+  take = takes.Eat;
+  after = actions.Goto states.MathLeaf ∷ [];
   call = None;
 }
 
@@ -70,22 +70,67 @@ abbrev pub row_6 : Row
 row_6 = record {
   condition = conditions.Always;
   before = [];
-  take = takes.EatAs kinds.MathText;
-  after = actions.Wrap kinds.MathDelimited ∷ actions.Return ∷ [];
+  take = takes.Eat;
+  after = actions.Goto states.MathLetter ∷ [];
   call = None;
 }
 
 abbrev pub row_7 : Row
 row_7 = record {
   condition = conditions.Always;
-  before = [];
-  take = takes.Eat;
-  after = actions.Wrap kinds.MathDelimited ∷ actions.Return ∷ [];
-  call = None;
+  before = actions.Goto states.Math ∷ [];
+  take = takes.Nothing;
+  after = [];
+  call = Some (record { state = states.MathExpr; number = 0; enters = false; is_deep = false; newline = None });
 }
 
 abbrev pub row_8 : Row
 row_8 = record {
+  condition = conditions.Is 0;
+  before = actions.Wrap kinds.Math ∷ actions.Return ∷ [];
+  take = takes.Eat;
+  after = actions.Wrap kinds.Equation ∷ actions.Return ∷ [];
+  call = None;
+}
+
+abbrev pub row_9 : Row
+row_9 = record {
+  condition = conditions.Is 1;
+  before = actions.Wrap kinds.Math ∷ actions.Return ∷ [];
+  take = takes.EatAs kinds.MathText;
+  after = actions.Wrap kinds.MathDelimited ∷ [];
+  call = None;
+}
+
+abbrev pub row_10 : Row
+row_10 = record {
+  condition = conditions.Always;
+  before = [];
+  take = takes.EatAs kinds.MathText;
+  after = actions.Goto states.MathLeaf ∷ [];
+  call = None;
+}
+
+abbrev pub row_11 : Row
+row_11 = record {
+  condition = conditions.Always;
+  before = [];
+  take = takes.Eat;
+  after = actions.Goto states.MathName ∷ [];
+  call = None;
+}
+
+abbrev pub row_12 : Row
+row_12 = record {
+  condition = conditions.Is 1;
+  before = actions.Wrap kinds.Math ∷ actions.Return ∷ [];
+  take = takes.Eat;
+  after = actions.Wrap kinds.MathDelimited ∷ [];
+  call = None;
+}
+
+abbrev pub row_13 : Row
+row_13 = record {
   condition = conditions.Always;
   before = [];
   take = takes.Eat;
@@ -93,8 +138,8 @@ row_8 = record {
   call = None;
 }
 
-abbrev pub row_9 : Row
-row_9 = record {
+abbrev pub row_14 : Row
+row_14 = record {
   condition = conditions.Always;
   before = actions.Goto states.MathArgsClose ∷ [];
   take = takes.Nothing;
@@ -102,8 +147,8 @@ row_9 = record {
   call = None;
 }
 
-abbrev pub row_10 : Row
-row_10 = record {
+abbrev pub row_15 : Row
+row_15 = record {
   condition = conditions.Always;
   before = actions.Goto states.MathArgsComma ∷ [];
   take = takes.Nothing;
@@ -111,8 +156,8 @@ row_10 = record {
   call = Some (record { state = states.MathArg; number = 0; enters = false; is_deep = false; newline = None });
 }
 
-abbrev pub row_11 : Row
-row_11 = record {
+abbrev pub row_16 : Row
+row_16 = record {
   condition = conditions.Always;
   before = actions.Unclosed ∷ actions.Wrap kinds.MathArgs ∷ actions.Unique uniques.Argument ∷ actions.Return ∷ [];
   take = takes.Nothing;
@@ -120,8 +165,8 @@ row_11 = record {
   call = None;
 }
 
-abbrev pub row_12 : Row
-row_12 = record {
+abbrev pub row_17 : Row
+row_17 = record {
   condition = conditions.Always;
   before = [];
   take = takes.Eat;
@@ -129,55 +174,10 @@ row_12 = record {
   call = None;
 }
 
-abbrev pub row_13 : Row
-row_13 = record {
-  condition = conditions.Always;
-  before = actions.Goto states.MathValue ∷ [];
-  take = takes.Nothing;
-  after = [];
-  call = None;
-}
-
-abbrev pub row_14 : Row
-row_14 = record {
-  condition = conditions.Always;
-  before = [];
-  take = takes.Eat;
-  after = actions.Goto states.MathArgRest ∷ [];
-  call = Some (record { state = states.MathValue; number = 0; enters = false; is_deep = false; newline = None });
-}
-
-abbrev pub row_15 : Row
-row_15 = record {
-  condition = conditions.Always;
-  before = [];
-  take = takes.Eat;
-  after = actions.Goto states.MathArgColon ∷ [];
-  call = None;
-}
-
-abbrev pub row_16 : Row
-row_16 = record {
-  condition = conditions.Always;
-  before = [];
-  take = takes.Mistake expectations.Identifier;
-  after = actions.Goto states.MathArgColon ∷ [];
-  call = None;
-}
-
-abbrev pub row_17 : Row
-row_17 = record {
-  condition = conditions.Always;
-  before = [];
-  take = takes.EatAs kinds.Colon;
-  after = actions.Goto states.MathArgColonRest ∷ [];
-  call = Some (record { state = states.MathNamed; number = 0; enters = false; is_deep = false; newline = None });
-}
-
 abbrev pub row_18 : Row
 row_18 = record {
   condition = conditions.Always;
-  before = actions.Expected expectations.Expression ∷ actions.Return ∷ [];
+  before = actions.Goto states.MathValue ∷ [];
   take = takes.Nothing;
   after = [];
   call = None;
@@ -186,14 +186,68 @@ row_18 = record {
 abbrev pub row_19 : Row
 row_19 = record {
   condition = conditions.Always;
+  before = [];
+  take = takes.Eat;
+  after = actions.Goto states.MathArgRest ∷ [];
+  call = Some (record { state = states.MathValue; number = 0; enters = false; is_deep = false; newline = None });
+}
+
+abbrev pub row_20 : Row
+row_20 = record {
+  condition = conditions.Always;
+  before = [];
+  take = takes.Eat;
+  after = actions.Goto states.MathArgColon ∷ [];
+  call = None;
+}
+
+abbrev pub row_21 : Row
+row_21 = record {
+  condition = conditions.Always;
+  before = [];
+  take = takes.Mistake expectations.Identifier;
+  after = actions.Goto states.MathArgColon ∷ [];
+  call = None;
+}
+
+abbrev pub row_22 : Row
+row_22 = record {
+  condition = conditions.Always;
+  before = [];
+  take = takes.EatAs kinds.Colon;
+  after = actions.Goto states.MathArgColonRest ∷ [];
+  call = Some (record { state = states.MathNamed; number = 0; enters = false; is_deep = false; newline = None });
+}
+
+abbrev pub row_23 : Row
+row_23 = record {
+  condition = conditions.Always;
+  before = actions.Expected expectations.Expression ∷ actions.Return ∷ [];
+  take = takes.Nothing;
+  after = [];
+  call = None;
+}
+
+abbrev pub row_24 : Row
+row_24 = record {
+  condition = conditions.Always;
   before = actions.Flush ∷ actions.Wrap kinds.Math ∷ actions.Return ∷ [];
   take = takes.Nothing;
   after = [];
   call = None;
 }
 
-abbrev pub row_20 : Row
-row_20 = record {
+abbrev pub row_25 : Row
+row_25 = record {
+  condition = conditions.Always;
+  before = [];
+  take = takes.Unexpected;
+  after = [];
+  call = None;
+}
+
+abbrev pub row_26 : Row
+row_26 = record {
   condition = conditions.Always;
   before = actions.Goto states.MathValueOne ∷ [];
   take = takes.Nothing;
@@ -201,8 +255,17 @@ row_20 = record {
   call = Some (record { state = states.MathExpr; number = 0; enters = false; is_deep = false; newline = None });
 }
 
-abbrev pub row_21 : Row
-row_21 = record {
+abbrev pub row_27 : Row
+row_27 = record {
+  condition = conditions.Always;
+  before = actions.Return ∷ [];
+  take = takes.Nothing;
+  after = [];
+  call = None;
+}
+
+abbrev pub row_28 : Row
+row_28 = record {
   condition = conditions.Always;
   before = actions.Goto states.MathValueMore ∷ [];
   take = takes.Nothing;
@@ -210,8 +273,26 @@ row_21 = record {
   call = None;
 }
 
-abbrev pub row_22 : Row
-row_22 = record {
+abbrev pub row_29 : Row
+row_29 = record {
+  condition = conditions.Always;
+  before = actions.Wrap kinds.Math ∷ actions.Return ∷ [];
+  take = takes.Nothing;
+  after = [];
+  call = None;
+}
+
+abbrev pub row_30 : Row
+row_30 = record {
+  condition = conditions.Always;
+  before = [];
+  take = takes.Nothing;
+  after = [];
+  call = Some (record { state = states.MathExpr; number = 0; enters = false; is_deep = false; newline = None });
+}
+
+abbrev pub row_31 : Row
+row_31 = record {
   condition = conditions.Always;
   before = actions.Wrap kinds.Spread ∷ actions.Return ∷ [];
   take = takes.Nothing;
@@ -219,8 +300,8 @@ row_22 = record {
   call = None;
 }
 
-abbrev pub row_23 : Row
-row_23 = record {
+abbrev pub row_32 : Row
+row_32 = record {
   condition = conditions.Always;
   before = actions.Wrap kinds.Named ∷ actions.Return ∷ [];
   take = takes.Nothing;
@@ -228,7 +309,7 @@ row_23 = record {
   call = None;
 }
 
--- delimiters in math with what is between them
+-- delimiters with what is between them
 abbrev pub delimited : Class → List Row
 delimited classes.LeftBrace = row_0 ∷ []
 delimited classes.LeftParen = row_0 ∷ []
@@ -237,149 +318,150 @@ delimited _ = []
 
 -- what is between delimiters
 abbrev pub delimited_body : Class → List Row
-delimited_body classes.End = row_2 ∷ []
-delimited_body classes.Linebreak = row_4 ∷ []
-delimited_body classes.Escape = row_4 ∷ []
-delimited_body classes.Hash = row_4 ∷ []
-delimited_body classes.Dollar = row_2 ∷ []
-delimited_body classes.LeftBrace = row_4 ∷ []
-delimited_body classes.RightBrace = row_5 ∷ []
-delimited_body classes.LeftParen = row_4 ∷ []
-delimited_body classes.RightParen = row_5 ∷ []
-delimited_body classes.Comma = row_4 ∷ []
-delimited_body classes.Semicolon = row_4 ∷ []
-delimited_body classes.Dot = row_4 ∷ []
-delimited_body classes.Field = row_4 ∷ []
-delimited_body classes.Str = row_4 ∷ []
-delimited_body classes.MathIdent = row_4 ∷ []
-delimited_body classes.MathLetter = row_4 ∷ []
-delimited_body classes.MathText = row_4 ∷ []
-delimited_body classes.MathPrimes = row_4 ∷ []
-delimited_body classes.Opening = row_4 ∷ []
-delimited_body classes.Closing = row_5 ∷ []
-delimited_body classes.Bang = row_4 ∷ []
-delimited_body classes.Root = row_4 ∷ []
-delimited_body _ = row_3 ∷ []
-
--- the closing delimiter
-abbrev pub delimited_close : Class → List Row
-delimited_close classes.RightBrace = row_6 ∷ []
-delimited_close classes.RightParen = row_6 ∷ []
-delimited_close classes.Closing = row_7 ∷ []
-delimited_close _ = row_5 ∷ []
+delimited_body classes.End = row_2 ∷ row_3 ∷ []
+delimited_body classes.Linebreak = row_5 ∷ []
+delimited_body classes.Escape = row_6 ∷ []
+delimited_body classes.Hash = row_7 ∷ []
+delimited_body classes.Dollar = row_8 ∷ row_3 ∷ []
+delimited_body classes.LeftBrace = row_7 ∷ []
+delimited_body classes.RightBrace = row_9 ∷ row_10 ∷ []
+delimited_body classes.LeftParen = row_7 ∷ []
+delimited_body classes.RightParen = row_9 ∷ row_10 ∷ []
+delimited_body classes.Comma = row_10 ∷ []
+delimited_body classes.Semicolon = row_10 ∷ []
+delimited_body classes.Dot = row_10 ∷ []
+delimited_body classes.Field = row_10 ∷ []
+delimited_body classes.Str = row_6 ∷ []
+delimited_body classes.MathIdent = row_11 ∷ []
+delimited_body classes.MathLetter = row_6 ∷ []
+delimited_body classes.MathText = row_5 ∷ []
+delimited_body classes.MathPrimes = row_6 ∷ []
+delimited_body classes.Opening = row_7 ∷ []
+delimited_body classes.Closing = row_12 ∷ row_5 ∷ []
+delimited_body classes.Bang = row_10 ∷ []
+delimited_body classes.Root = row_7 ∷ []
+delimited_body _ = row_4 ∷ []
 
 -- the arguments of a call in math
 abbrev pub math_args : Class → List Row
-math_args classes.LeftParen = row_8 ∷ []
+math_args classes.LeftParen = row_13 ∷ []
 math_args _ = []
 
 -- an argument, if another one comes
 abbrev pub math_args_item : Class → List Row
-math_args_item classes.End = row_9 ∷ []
-math_args_item classes.Dollar = row_9 ∷ []
-math_args_item classes.RightParen = row_9 ∷ []
-math_args_item _ = row_10 ∷ []
+math_args_item classes.End = row_14 ∷ []
+math_args_item classes.Dollar = row_14 ∷ []
+math_args_item classes.RightParen = row_14 ∷ []
+math_args_item _ = row_15 ∷ []
 
 -- the comma or semicolon behind an argument
 abbrev pub math_args_comma : Class → List Row
-math_args_comma classes.End = row_9 ∷ []
-math_args_comma classes.Dollar = row_9 ∷ []
-math_args_comma classes.RightParen = row_9 ∷ []
-math_args_comma classes.Comma = row_8 ∷ []
-math_args_comma classes.Semicolon = row_8 ∷ []
+math_args_comma classes.End = row_14 ∷ []
+math_args_comma classes.Dollar = row_14 ∷ []
+math_args_comma classes.RightParen = row_14 ∷ []
+math_args_comma classes.Comma = row_13 ∷ []
+math_args_comma classes.Semicolon = row_13 ∷ []
 math_args_comma _ = []
 
 -- the end of the arguments
 abbrev pub math_args_close : Class → List Row
-math_args_close classes.RightParen = row_12 ∷ []
-math_args_close _ = row_11 ∷ []
+math_args_close classes.RightParen = row_17 ∷ []
+math_args_close _ = row_16 ∷ []
 
 -- an argument: a value, a name with its value, or values that are spread
 abbrev pub math_arg : Class → List Row
-math_arg classes.Dots = row_14 ∷ []
-math_arg classes.ArgumentName = row_15 ∷ []
-math_arg classes.ArgumentBlank = row_16 ∷ []
-math_arg _ = row_13 ∷ []
+math_arg classes.Dots = row_19 ∷ []
+math_arg classes.ArgumentName = row_20 ∷ []
+math_arg classes.ArgumentBlank = row_21 ∷ []
+math_arg _ = row_18 ∷ []
 
 -- the colon behind the name of an argument
 abbrev pub math_arg_colon : Class → List Row
-math_arg_colon classes.MathText = row_17 ∷ []
+math_arg_colon classes.MathText = row_22 ∷ []
 math_arg_colon _ = []
 
 -- the value of an argument with a name
 abbrev pub math_named : Class → List Row
-math_named classes.End = row_18 ∷ []
-math_named classes.Dollar = row_18 ∷ []
-math_named classes.RightParen = row_18 ∷ []
-math_named classes.Comma = row_18 ∷ []
-math_named classes.Semicolon = row_18 ∷ []
-math_named _ = row_13 ∷ []
+math_named classes.End = row_23 ∷ []
+math_named classes.Dollar = row_23 ∷ []
+math_named classes.RightParen = row_23 ∷ []
+math_named classes.Comma = row_23 ∷ []
+math_named classes.Semicolon = row_23 ∷ []
+math_named _ = row_18 ∷ []
 
 -- the value of an argument
 abbrev pub math_value : Class → List Row
-math_value classes.End = row_19 ∷ []
-math_value classes.Linebreak = row_20 ∷ []
-math_value classes.Escape = row_20 ∷ []
-math_value classes.Hash = row_20 ∷ []
-math_value classes.Dollar = row_19 ∷ []
-math_value classes.LeftBrace = row_20 ∷ []
-math_value classes.RightBrace = row_20 ∷ []
-math_value classes.LeftParen = row_20 ∷ []
-math_value classes.RightParen = row_19 ∷ []
-math_value classes.Comma = row_19 ∷ []
-math_value classes.Semicolon = row_19 ∷ []
-math_value classes.Dot = row_20 ∷ []
-math_value classes.Field = row_20 ∷ []
-math_value classes.Str = row_20 ∷ []
-math_value classes.MathIdent = row_20 ∷ []
-math_value classes.MathLetter = row_20 ∷ []
-math_value classes.MathText = row_20 ∷ []
-math_value classes.MathPrimes = row_20 ∷ []
-math_value classes.Opening = row_20 ∷ []
-math_value classes.Closing = row_20 ∷ []
-math_value classes.Bang = row_20 ∷ []
-math_value classes.Root = row_20 ∷ []
-math_value _ = row_3 ∷ []
+math_value classes.End = row_24 ∷ []
+math_value classes.Linebreak = row_26 ∷ []
+math_value classes.Escape = row_26 ∷ []
+math_value classes.Hash = row_26 ∷ []
+math_value classes.Dollar = row_24 ∷ []
+math_value classes.LeftBrace = row_26 ∷ []
+math_value classes.RightBrace = row_26 ∷ []
+math_value classes.LeftParen = row_26 ∷ []
+math_value classes.RightParen = row_24 ∷ []
+math_value classes.Comma = row_24 ∷ []
+math_value classes.Semicolon = row_24 ∷ []
+math_value classes.Dot = row_26 ∷ []
+math_value classes.Field = row_26 ∷ []
+math_value classes.Str = row_26 ∷ []
+math_value classes.MathIdent = row_26 ∷ []
+math_value classes.MathLetter = row_26 ∷ []
+math_value classes.MathText = row_26 ∷ []
+math_value classes.MathPrimes = row_26 ∷ []
+math_value classes.Opening = row_26 ∷ []
+math_value classes.Closing = row_26 ∷ []
+math_value classes.Bang = row_26 ∷ []
+math_value classes.Root = row_26 ∷ []
+math_value _ = row_25 ∷ []
 
 -- whether one expression is the value
 abbrev pub math_value_one : Class → List Row
-math_value_one classes.End = row_2 ∷ []
-math_value_one classes.Dollar = row_2 ∷ []
-math_value_one classes.RightParen = row_2 ∷ []
-math_value_one classes.Comma = row_2 ∷ []
-math_value_one classes.Semicolon = row_2 ∷ []
-math_value_one _ = row_21 ∷ []
+math_value_one classes.End = row_27 ∷ []
+math_value_one classes.Dollar = row_27 ∷ []
+math_value_one classes.RightParen = row_27 ∷ []
+math_value_one classes.Comma = row_27 ∷ []
+math_value_one classes.Semicolon = row_27 ∷ []
+math_value_one _ = row_28 ∷ []
 
 -- the value of an argument from the second expression on
 abbrev pub math_value_more : Class → List Row
-math_value_more classes.End = row_5 ∷ []
-math_value_more classes.Linebreak = row_4 ∷ []
-math_value_more classes.Escape = row_4 ∷ []
-math_value_more classes.Hash = row_4 ∷ []
-math_value_more classes.Dollar = row_5 ∷ []
-math_value_more classes.LeftBrace = row_4 ∷ []
-math_value_more classes.RightBrace = row_4 ∷ []
-math_value_more classes.LeftParen = row_4 ∷ []
-math_value_more classes.RightParen = row_5 ∷ []
-math_value_more classes.Comma = row_5 ∷ []
-math_value_more classes.Semicolon = row_5 ∷ []
-math_value_more classes.Dot = row_4 ∷ []
-math_value_more classes.Field = row_4 ∷ []
-math_value_more classes.Str = row_4 ∷ []
-math_value_more classes.MathIdent = row_4 ∷ []
-math_value_more classes.MathLetter = row_4 ∷ []
-math_value_more classes.MathText = row_4 ∷ []
-math_value_more classes.MathPrimes = row_4 ∷ []
-math_value_more classes.Opening = row_4 ∷ []
-math_value_more classes.Closing = row_4 ∷ []
-math_value_more classes.Bang = row_4 ∷ []
-math_value_more classes.Root = row_4 ∷ []
-math_value_more _ = row_3 ∷ []
+math_value_more classes.End = row_29 ∷ []
+math_value_more classes.Linebreak = row_30 ∷ []
+math_value_more classes.Escape = row_30 ∷ []
+math_value_more classes.Hash = row_30 ∷ []
+math_value_more classes.Dollar = row_29 ∷ []
+math_value_more classes.LeftBrace = row_30 ∷ []
+math_value_more classes.RightBrace = row_30 ∷ []
+math_value_more classes.LeftParen = row_30 ∷ []
+math_value_more classes.RightParen = row_29 ∷ []
+math_value_more classes.Comma = row_29 ∷ []
+math_value_more classes.Semicolon = row_29 ∷ []
+math_value_more classes.Dot = row_30 ∷ []
+math_value_more classes.Field = row_30 ∷ []
+math_value_more classes.Str = row_30 ∷ []
+math_value_more classes.MathIdent = row_30 ∷ []
+math_value_more classes.MathLetter = row_30 ∷ []
+math_value_more classes.MathText = row_30 ∷ []
+math_value_more classes.MathPrimes = row_30 ∷ []
+math_value_more classes.Opening = row_30 ∷ []
+math_value_more classes.Closing = row_30 ∷ []
+math_value_more classes.Bang = row_30 ∷ []
+math_value_more classes.Root = row_30 ∷ []
+math_value_more _ = row_25 ∷ []
+
+-- the rest of a row of `delimited`, once the frame that it opened has returned
+abbrev pub delimited_rest1 : Class → List Row
+delimited_rest1 _ = row_27 ∷ []
+
+-- the rest of a row of `delimited`, once the frame that it opened has returned
+abbrev pub delimited_rest2 : Class → List Row
+delimited_rest2 _ = row_27 ∷ []
 
 -- the rest of a row of `math.arg`, once the frame that it opened has returned
 abbrev pub math_arg_rest : Class → List Row
-math_arg_rest _ = row_22 ∷ []
+math_arg_rest _ = row_31 ∷ []
 
 -- the rest of a row of `math.arg.colon`, once the frame that it opened has returned
 abbrev pub math_arg_colon_rest : Class → List Row
-math_arg_colon_rest _ = row_23 ∷ []
+math_arg_colon_rest _ = row_32 ∷ []

@@ -71,14 +71,14 @@ row_6 = record {
   condition = conditions.Always;
   before = [];
   take = takes.Eat;
-  after = actions.Goto states.ArgumentsClose ∷ [];
+  after = actions.Goto states.ImportClose ∷ [];
   call = Some (record { state = states.Imports; number = 0; enters = false; is_deep = false; newline = None });
 }
 
 abbrev pub row_7 : Row
 row_7 = record {
   condition = conditions.Always;
-  before = actions.Wrap kinds.ImportItems ∷ actions.Return ∷ [];
+  before = actions.Unclosed ∷ actions.Return ∷ [];
   take = takes.Nothing;
   after = [];
   call = None;
@@ -87,16 +87,16 @@ row_7 = record {
 abbrev pub row_8 : Row
 row_8 = record {
   condition = conditions.Always;
-  before = actions.Goto states.ImportsComma ∷ [];
-  take = takes.Nothing;
-  after = [];
-  call = Some (record { state = states.Imported; number = 0; enters = false; is_deep = false; newline = None });
+  before = [];
+  take = takes.Eat;
+  after = actions.Return ∷ [];
+  call = None;
 }
 
 abbrev pub row_9 : Row
 row_9 = record {
   condition = conditions.Always;
-  before = actions.Goto states.Imports ∷ [];
+  before = actions.Wrap kinds.ImportItems ∷ actions.Return ∷ [];
   take = takes.Nothing;
   after = [];
   call = None;
@@ -105,27 +105,27 @@ row_9 = record {
 abbrev pub row_10 : Row
 row_10 = record {
   condition = conditions.Always;
-  before = actions.Expected expectations.Comma ∷ actions.Goto states.Imports ∷ [];
+  before = actions.Goto states.ImportsComma ∷ [];
   take = takes.Nothing;
   after = [];
-  call = None;
+  call = Some (record { state = states.Imported; number = 0; enters = false; is_deep = false; newline = None });
 }
 
 abbrev pub row_11 : Row
 row_11 = record {
   condition = conditions.Always;
-  before = [];
-  take = takes.Eat;
-  after = actions.Goto states.Imports ∷ [];
+  before = actions.Goto states.Imports ∷ [];
+  take = takes.Nothing;
+  after = [];
   call = None;
 }
 
 abbrev pub row_12 : Row
 row_12 = record {
   condition = conditions.Always;
-  before = [];
-  take = takes.Unexpected;
-  after = actions.Goto states.ImportedPath ∷ [];
+  before = actions.Expected expectations.Comma ∷ actions.Goto states.Imports ∷ [];
+  take = takes.Nothing;
+  after = [];
   call = None;
 }
 
@@ -134,16 +134,16 @@ row_13 = record {
   condition = conditions.Always;
   before = [];
   take = takes.Eat;
-  after = actions.Goto states.ImportedPath ∷ [];
+  after = actions.Goto states.Imports ∷ [];
   call = None;
 }
 
 abbrev pub row_14 : Row
 row_14 = record {
   condition = conditions.Always;
-  before = actions.Wrap kinds.ImportItemPath ∷ actions.Return ∷ [];
-  take = takes.Nothing;
-  after = [];
+  before = [];
+  take = takes.Unexpected;
+  after = actions.Goto states.ImportedPath ∷ [];
   call = None;
 }
 
@@ -153,11 +153,29 @@ row_15 = record {
   before = [];
   take = takes.Eat;
   after = actions.Goto states.ImportedPath ∷ [];
-  call = Some (record { state = states.Name; number = 0; enters = false; is_deep = false; newline = None });
+  call = None;
 }
 
 abbrev pub row_16 : Row
 row_16 = record {
+  condition = conditions.Always;
+  before = actions.Wrap kinds.ImportItemPath ∷ actions.Return ∷ [];
+  take = takes.Nothing;
+  after = [];
+  call = None;
+}
+
+abbrev pub row_17 : Row
+row_17 = record {
+  condition = conditions.Always;
+  before = [];
+  take = takes.Eat;
+  after = actions.Goto states.ImportedPath ∷ [];
+  call = Some (record { state = states.Name; number = 0; enters = false; is_deep = false; newline = None });
+}
+
+abbrev pub row_18 : Row
+row_18 = record {
   condition = conditions.Always;
   before = actions.Wrap kinds.ImportItemPath ∷ [];
   take = takes.Eat;
@@ -165,8 +183,8 @@ row_16 = record {
   call = Some (record { state = states.Name; number = 0; enters = false; is_deep = false; newline = None });
 }
 
-abbrev pub row_17 : Row
-row_17 = record {
+abbrev pub row_19 : Row
+row_19 = record {
   condition = conditions.Always;
   before = actions.Wrap kinds.RenamedImportItem ∷ actions.Return ∷ [];
   take = takes.Nothing;
@@ -196,36 +214,41 @@ abbrev pub import_list : Class → List Row
 import_list classes.LeftParen = row_6 ∷ []
 import_list _ = []
 
+-- the end of such items
+abbrev pub import_close : Class → List Row
+import_close classes.RightParen = row_8 ∷ []
+import_close _ = row_7 ∷ []
+
 -- the items of an import
 abbrev pub imports : Class → List Row
-imports classes.End = row_7 ∷ []
-imports classes.RightBrace = row_7 ∷ []
-imports classes.RightBracket = row_7 ∷ []
-imports classes.RightParen = row_7 ∷ []
-imports classes.Semicolon = row_7 ∷ []
-imports _ = row_8 ∷ []
+imports classes.End = row_9 ∷ []
+imports classes.RightBrace = row_9 ∷ []
+imports classes.RightBracket = row_9 ∷ []
+imports classes.RightParen = row_9 ∷ []
+imports classes.Semicolon = row_9 ∷ []
+imports _ = row_10 ∷ []
 
 -- the comma behind an item of an import
 abbrev pub imports_comma : Class → List Row
-imports_comma classes.End = row_9 ∷ []
-imports_comma classes.RightBrace = row_9 ∷ []
-imports_comma classes.RightBracket = row_9 ∷ []
-imports_comma classes.RightParen = row_9 ∷ []
-imports_comma classes.Comma = row_11 ∷ []
-imports_comma classes.Semicolon = row_9 ∷ []
-imports_comma _ = row_10 ∷ []
+imports_comma classes.End = row_11 ∷ []
+imports_comma classes.RightBrace = row_11 ∷ []
+imports_comma classes.RightBracket = row_11 ∷ []
+imports_comma classes.RightParen = row_11 ∷ []
+imports_comma classes.Comma = row_13 ∷ []
+imports_comma classes.Semicolon = row_11 ∷ []
+imports_comma _ = row_12 ∷ []
 
 -- an item of an import
 abbrev pub imported : Class → List Row
-imported classes.Ident = row_13 ∷ []
-imported _ = row_12 ∷ []
+imported classes.Ident = row_15 ∷ []
+imported _ = row_14 ∷ []
 
 -- the path of an item, and the name that it gets
 abbrev pub imported_path : Class → List Row
-imported_path classes.Dot = row_15 ∷ []
-imported_path classes.Field = row_15 ∷ []
-imported_path classes.As = row_16 ∷ []
-imported_path _ = row_14 ∷ []
+imported_path classes.Dot = row_17 ∷ []
+imported_path classes.Field = row_17 ∷ []
+imported_path classes.As = row_18 ∷ []
+imported_path _ = row_16 ∷ []
 
 -- the rest of a row of `import.what`, once the frame that it opened has returned
 abbrev pub import_what_rest1 : Class → List Row
@@ -237,4 +260,4 @@ import_what_rest2 _ = row_0 ∷ []
 
 -- the rest of a row of `imported.path`, once the frame that it opened has returned
 abbrev pub imported_path_rest : Class → List Row
-imported_path_rest _ = row_17 ∷ []
+imported_path_rest _ = row_19 ∷ []

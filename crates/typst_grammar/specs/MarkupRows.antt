@@ -178,14 +178,14 @@ row_18 = record {
   condition = conditions.Always;
   before = [];
   take = takes.Eat;
-  after = actions.Goto states.StrongClose ∷ [];
+  after = [];
   call = Some (record { state = states.StrongBody; number = 0; enters = true; is_deep = false; newline = None });
 }
 
 abbrev pub row_19 : Row
 row_19 = record {
   condition = conditions.Always;
-  before = actions.Flush ∷ actions.Wrap kinds.Markup ∷ actions.Return ∷ [];
+  before = actions.Flush ∷ actions.Wrap kinds.Markup ∷ actions.Return ∷ actions.Unclosed ∷ actions.Wrap kinds.Strong ∷ actions.Return ∷ [];
   take = takes.Nothing;
   after = [];
   call = None;
@@ -194,7 +194,7 @@ row_19 = record {
 abbrev pub row_20 : Row
 row_20 = record {
   condition = conditions.Is 0;
-  before = actions.Flush ∷ actions.Wrap kinds.Markup ∷ actions.Return ∷ [];
+  before = actions.Flush ∷ actions.Wrap kinds.Markup ∷ actions.Return ∷ actions.Unclosed ∷ actions.Wrap kinds.Strong ∷ actions.Return ∷ [];
   take = takes.Nothing;
   after = [];
   call = None;
@@ -203,9 +203,9 @@ row_20 = record {
 abbrev pub row_21 : Row
 row_21 = record {
   condition = conditions.Always;
-  before = actions.Unclosed ∷ actions.Wrap kinds.Strong ∷ actions.Return ∷ [];
-  take = takes.Nothing;
-  after = [];
+  before = actions.Flush ∷ actions.Wrap kinds.Markup ∷ actions.Return ∷ [];
+  take = takes.Eat;
+  after = actions.Wrap kinds.Strong ∷ actions.Return ∷ [];
   call = None;
 }
 
@@ -214,23 +214,23 @@ row_22 = record {
   condition = conditions.Always;
   before = [];
   take = takes.Eat;
-  after = actions.Wrap kinds.Strong ∷ actions.Return ∷ [];
-  call = None;
+  after = [];
+  call = Some (record { state = states.EmphBody; number = 0; enters = true; is_deep = false; newline = None });
 }
 
 abbrev pub row_23 : Row
 row_23 = record {
   condition = conditions.Always;
-  before = [];
-  take = takes.Eat;
-  after = actions.Goto states.EmphClose ∷ [];
-  call = Some (record { state = states.EmphBody; number = 0; enters = true; is_deep = false; newline = None });
+  before = actions.Flush ∷ actions.Wrap kinds.Markup ∷ actions.Return ∷ actions.Unclosed ∷ actions.Wrap kinds.Emph ∷ actions.Return ∷ [];
+  take = takes.Nothing;
+  after = [];
+  call = None;
 }
 
 abbrev pub row_24 : Row
 row_24 = record {
-  condition = conditions.Always;
-  before = actions.Unclosed ∷ actions.Wrap kinds.Emph ∷ actions.Return ∷ [];
+  condition = conditions.Is 0;
+  before = actions.Flush ∷ actions.Wrap kinds.Markup ∷ actions.Return ∷ actions.Unclosed ∷ actions.Wrap kinds.Emph ∷ actions.Return ∷ [];
   take = takes.Nothing;
   after = [];
   call = None;
@@ -239,7 +239,7 @@ row_24 = record {
 abbrev pub row_25 : Row
 row_25 = record {
   condition = conditions.Always;
-  before = [];
+  before = actions.Flush ∷ actions.Wrap kinds.Markup ∷ actions.Return ∷ [];
   take = takes.Eat;
   after = actions.Wrap kinds.Emph ∷ actions.Return ∷ [];
   call = None;
@@ -305,23 +305,18 @@ strong_body classes.Plain = row_5 ∷ []
 strong_body classes.LeftBracket = row_12 ∷ []
 strong_body classes.RightBracket = row_20 ∷ row_13 ∷ row_14 ∷ []
 strong_body classes.Colon = row_5 ∷ []
-strong_body classes.Star = row_19 ∷ []
+strong_body classes.Star = row_21 ∷ []
 strong_body classes.Underscore = row_16 ∷ []
 strong_body _ = row_0 ∷ []
 
--- the end of strong content
-abbrev pub strong_close : Class → List Row
-strong_close classes.Star = row_22 ∷ []
-strong_close _ = row_21 ∷ []
-
 -- emphasized content with its delimiters
 abbrev pub emph : Class → List Row
-emph classes.Underscore = row_23 ∷ []
+emph classes.Underscore = row_22 ∷ []
 emph _ = []
 
 -- emphasized content
 abbrev pub emph_body : Class → List Row
-emph_body classes.End = row_19 ∷ []
+emph_body classes.End = row_23 ∷ []
 emph_body classes.Text = row_1 ∷ []
 emph_body classes.Linebreak = row_1 ∷ []
 emph_body classes.Escape = row_1 ∷ []
@@ -336,16 +331,11 @@ emph_body classes.Hash = row_10 ∷ []
 emph_body classes.Dollar = row_11 ∷ []
 emph_body classes.Plain = row_5 ∷ []
 emph_body classes.LeftBracket = row_12 ∷ []
-emph_body classes.RightBracket = row_20 ∷ row_13 ∷ row_14 ∷ []
+emph_body classes.RightBracket = row_24 ∷ row_13 ∷ row_14 ∷ []
 emph_body classes.Colon = row_5 ∷ []
 emph_body classes.Star = row_15 ∷ []
-emph_body classes.Underscore = row_19 ∷ []
+emph_body classes.Underscore = row_25 ∷ []
 emph_body _ = row_0 ∷ []
-
--- the end of emphasized content
-abbrev pub emph_close : Class → List Row
-emph_close classes.Underscore = row_25 ∷ []
-emph_close _ = row_24 ∷ []
 
 -- the rest of a row of `hash`, once the frame that it opened has returned
 abbrev pub hash_rest : Class → List Row

@@ -18,14 +18,14 @@ row_0 = record {
   condition = conditions.Always;
   before = [];
   take = takes.Eat;
-  after = actions.Goto states.EquationClose ∷ [];
+  after = [];
   call = Some (record { state = states.Math; number = 0; enters = false; is_deep = false; newline = None });
 }
 
 abbrev pub row_1 : Row
 row_1 = record {
-  condition = conditions.Always;
-  before = actions.Unclosed ∷ actions.Wrap kinds.Equation ∷ actions.Return ∷ [];
+  condition = conditions.Is 0;
+  before = actions.Wrap kinds.Math ∷ actions.Return ∷ actions.Unclosed ∷ actions.Wrap kinds.Equation ∷ actions.Return ∷ [];
   take = takes.Nothing;
   after = [];
   call = None;
@@ -34,18 +34,18 @@ row_1 = record {
 abbrev pub row_2 : Row
 row_2 = record {
   condition = conditions.Always;
-  before = [];
-  take = takes.Eat;
-  after = actions.Wrap kinds.Equation ∷ actions.Return ∷ [];
+  before = actions.Return ∷ actions.Wrap kinds.Math ∷ [];
+  take = takes.Nothing;
+  after = [];
   call = None;
 }
 
 abbrev pub row_3 : Row
 row_3 = record {
   condition = conditions.Always;
-  before = actions.Wrap kinds.Math ∷ actions.Return ∷ [];
-  take = takes.Nothing;
-  after = [];
+  before = [];
+  take = takes.Unexpected;
+  after = actions.Goto states.Math ∷ [];
   call = None;
 }
 
@@ -53,8 +53,8 @@ abbrev pub row_4 : Row
 row_4 = record {
   condition = conditions.Always;
   before = [];
-  take = takes.Unexpected;
-  after = [];
+  take = takes.Eat;
+  after = actions.Goto states.MathLeaf ∷ [];
   call = None;
 }
 
@@ -62,13 +62,139 @@ abbrev pub row_5 : Row
 row_5 = record {
   condition = conditions.Always;
   before = [];
+  take = takes.Eat;
+  after = actions.Goto states.MathLetter ∷ [];
+  call = None;
+}
+
+abbrev pub row_6 : Row
+row_6 = record {
+  condition = conditions.Always;
+  before = actions.Goto states.Math ∷ [];
   take = takes.Nothing;
   after = [];
   call = Some (record { state = states.MathExpr; number = 0; enters = false; is_deep = false; newline = None });
 }
 
-abbrev pub row_6 : Row
-row_6 = record {
+abbrev pub row_7 : Row
+row_7 = record {
+  condition = conditions.Is 0;
+  before = actions.Wrap kinds.Math ∷ actions.Return ∷ [];
+  take = takes.Eat;
+  after = actions.Wrap kinds.Equation ∷ actions.Return ∷ [];
+  call = None;
+}
+
+abbrev pub row_8 : Row
+row_8 = record {
+  condition = conditions.Is 1;
+  before = actions.Wrap kinds.Math ∷ actions.Return ∷ [];
+  take = takes.EatAs kinds.MathText;
+  after = actions.Wrap kinds.MathDelimited ∷ [];
+  call = None;
+}
+
+abbrev pub row_9 : Row
+row_9 = record {
+  condition = conditions.Always;
+  before = [];
+  take = takes.EatAs kinds.MathText;
+  after = actions.Goto states.MathLeaf ∷ [];
+  call = None;
+}
+
+abbrev pub row_10 : Row
+row_10 = record {
+  condition = conditions.Always;
+  before = [];
+  take = takes.Eat;
+  after = actions.Goto states.MathName ∷ [];
+  call = None;
+}
+
+abbrev pub row_11 : Row
+row_11 = record {
+  condition = conditions.Is 1;
+  before = actions.Wrap kinds.Math ∷ actions.Return ∷ [];
+  take = takes.Eat;
+  after = actions.Wrap kinds.MathDelimited ∷ [];
+  call = None;
+}
+
+abbrev pub row_12 : Row
+row_12 = record {
+  condition = conditions.Always;
+  before = actions.Around states.Math 0 ∷ [];
+  take = takes.Eat;
+  after = actions.Goto states.MathLeafRest ∷ [];
+  call = Some (record { state = states.MathExpr; number = 1; enters = false; is_deep = false; newline = None });
+}
+
+abbrev pub row_13 : Row
+row_13 = record {
+  condition = conditions.Always;
+  before = actions.Around states.Math 0 ∷ [];
+  take = takes.Eat;
+  after = actions.Goto states.MathBelow ∷ [];
+  call = Some (record { state = states.MathExpr; number = 2; enters = false; is_deep = false; newline = None });
+}
+
+abbrev pub row_14 : Row
+row_14 = record {
+  condition = conditions.Direct;
+  before = actions.Around states.Math 0 ∷ [];
+  take = takes.Eat;
+  after = actions.Goto states.MathPrimed ∷ [];
+  call = None;
+}
+
+abbrev pub row_15 : Row
+row_15 = record {
+  condition = conditions.Always;
+  before = actions.Around states.Math 0 ∷ [];
+  take = takes.Eat;
+  after = actions.Goto states.MathAbove ∷ [];
+  call = Some (record { state = states.MathExpr; number = 3; enters = false; is_deep = false; newline = None });
+}
+
+abbrev pub row_16 : Row
+row_16 = record {
+  condition = conditions.Direct;
+  before = actions.Around states.Math 0 ∷ [];
+  take = takes.EatAs kinds.MathText;
+  after = actions.Wrap kinds.Math ∷ actions.Goto states.MathAfter ∷ [];
+  call = None;
+}
+
+abbrev pub row_17 : Row
+row_17 = record {
+  condition = conditions.Direct;
+  before = actions.Around states.Math 0 ∷ actions.Goto states.MathLetterRest ∷ [];
+  take = takes.Nothing;
+  after = [];
+  call = Some (record { state = states.Delimited; number = 0; enters = false; is_deep = false; newline = None });
+}
+
+abbrev pub row_18 : Row
+row_18 = record {
+  condition = conditions.Direct;
+  before = actions.Around states.Math 0 ∷ actions.Goto states.MathNameRest2 ∷ [];
+  take = takes.Nothing;
+  after = [];
+  call = Some (record { state = states.MathArgs; number = 0; enters = false; is_deep = true; newline = None });
+}
+
+abbrev pub row_19 : Row
+row_19 = record {
+  condition = conditions.Direct;
+  before = actions.Around states.Math 0 ∷ [];
+  take = takes.Eat;
+  after = actions.Goto states.MathNameRest1 ∷ [];
+  call = Some (record { state = states.Field; number = 0; enters = false; is_deep = false; newline = None });
+}
+
+abbrev pub row_20 : Row
+row_20 = record {
   condition = conditions.Always;
   before = actions.Expected expectations.Expression ∷ actions.Goto states.MathAfter ∷ [];
   take = takes.Nothing;
@@ -76,8 +202,8 @@ row_6 = record {
   call = None;
 }
 
-abbrev pub row_7 : Row
-row_7 = record {
+abbrev pub row_21 : Row
+row_21 = record {
   condition = conditions.Always;
   before = [];
   take = takes.Eat;
@@ -85,8 +211,8 @@ row_7 = record {
   call = None;
 }
 
-abbrev pub row_8 : Row
-row_8 = record {
+abbrev pub row_22 : Row
+row_22 = record {
   condition = conditions.Always;
   before = [];
   take = takes.Eat;
@@ -94,8 +220,8 @@ row_8 = record {
   call = None;
 }
 
-abbrev pub row_9 : Row
-row_9 = record {
+abbrev pub row_23 : Row
+row_23 = record {
   condition = conditions.Always;
   before = actions.Goto states.MathAfter ∷ [];
   take = takes.Nothing;
@@ -103,17 +229,17 @@ row_9 = record {
   call = Some (record { state = states.Hash; number = 0; enters = false; is_deep = false; newline = Some newlines.Stop });
 }
 
-abbrev pub row_10 : Row
-row_10 = record {
+abbrev pub row_24 : Row
+row_24 = record {
   condition = conditions.Always;
-  before = actions.Goto states.MathAfter ∷ [];
-  take = takes.Nothing;
-  after = [];
-  call = Some (record { state = states.Delimited; number = 0; enters = false; is_deep = true; newline = None });
+  before = [];
+  take = takes.EatAs kinds.MathText;
+  after = actions.Goto states.MathAfter ∷ [];
+  call = Some (record { state = states.DelimitedBody; number = 1; enters = false; is_deep = true; newline = None });
 }
 
-abbrev pub row_11 : Row
-row_11 = record {
+abbrev pub row_25 : Row
+row_25 = record {
   condition = conditions.Always;
   before = [];
   take = takes.EatAs kinds.MathText;
@@ -121,8 +247,8 @@ row_11 = record {
   call = None;
 }
 
-abbrev pub row_12 : Row
-row_12 = record {
+abbrev pub row_26 : Row
+row_26 = record {
   condition = conditions.Always;
   before = [];
   take = takes.Eat;
@@ -130,8 +256,17 @@ row_12 = record {
   call = None;
 }
 
-abbrev pub row_13 : Row
-row_13 = record {
+abbrev pub row_27 : Row
+row_27 = record {
+  condition = conditions.Always;
+  before = [];
+  take = takes.Eat;
+  after = actions.Goto states.MathAfter ∷ [];
+  call = Some (record { state = states.DelimitedBody; number = 1; enters = false; is_deep = true; newline = None });
+}
+
+abbrev pub row_28 : Row
+row_28 = record {
   condition = conditions.Is 3;
   before = [];
   take = takes.Eat;
@@ -139,8 +274,8 @@ row_13 = record {
   call = Some (record { state = states.MathExpr; number = 3; enters = false; is_deep = false; newline = None });
 }
 
-abbrev pub row_14 : Row
-row_14 = record {
+abbrev pub row_29 : Row
+row_29 = record {
   condition = conditions.Is 2;
   before = [];
   take = takes.Eat;
@@ -148,8 +283,8 @@ row_14 = record {
   call = Some (record { state = states.MathExpr; number = 2; enters = false; is_deep = false; newline = None });
 }
 
-abbrev pub row_15 : Row
-row_15 = record {
+abbrev pub row_30 : Row
+row_30 = record {
   condition = conditions.Always;
   before = [];
   take = takes.Eat;
@@ -157,8 +292,44 @@ row_15 = record {
   call = Some (record { state = states.MathExpr; number = 1; enters = false; is_deep = false; newline = None });
 }
 
-abbrev pub row_16 : Row
-row_16 = record {
+abbrev pub row_31 : Row
+row_31 = record {
+  condition = conditions.Always;
+  before = actions.Retag maps.Unparen ∷ actions.Wrap kinds.MathFrac ∷ actions.Goto states.MathAfter ∷ [];
+  take = takes.Nothing;
+  after = [];
+  call = None;
+}
+
+abbrev pub row_32 : Row
+row_32 = record {
+  condition = conditions.Always;
+  before = actions.Wrap kinds.Math ∷ actions.Goto states.MathAfter ∷ [];
+  take = takes.Nothing;
+  after = [];
+  call = None;
+}
+
+abbrev pub row_33 : Row
+row_33 = record {
+  condition = conditions.Always;
+  before = actions.Wrap kinds.MathFieldAccess ∷ actions.Goto states.MathIdent ∷ [];
+  take = takes.Nothing;
+  after = [];
+  call = None;
+}
+
+abbrev pub row_34 : Row
+row_34 = record {
+  condition = conditions.Always;
+  before = actions.Wrap kinds.MathCall ∷ actions.Goto states.MathAfter ∷ [];
+  take = takes.Nothing;
+  after = [];
+  call = None;
+}
+
+abbrev pub row_35 : Row
+row_35 = record {
   condition = conditions.Always;
   before = actions.Retag maps.Unparen ∷ actions.Wrap kinds.MathRoot ∷ actions.Goto states.MathAfter ∷ [];
   take = takes.Nothing;
@@ -171,69 +342,167 @@ abbrev pub equation : Class → List Row
 equation classes.Dollar = row_0 ∷ []
 equation _ = []
 
--- the end of an equation
-abbrev pub equation_close : Class → List Row
-equation_close classes.Dollar = row_2 ∷ []
-equation_close _ = row_1 ∷ []
-
 -- the content of an equation
 abbrev pub math : Class → List Row
-math classes.End = row_3 ∷ []
-math classes.Linebreak = row_5 ∷ []
+math classes.End = row_1 ∷ row_2 ∷ []
+math classes.Linebreak = row_4 ∷ []
 math classes.Escape = row_5 ∷ []
-math classes.Hash = row_5 ∷ []
-math classes.Dollar = row_3 ∷ []
-math classes.LeftBrace = row_5 ∷ []
-math classes.RightBrace = row_5 ∷ []
-math classes.LeftParen = row_5 ∷ []
-math classes.RightParen = row_5 ∷ []
-math classes.Comma = row_5 ∷ []
-math classes.Semicolon = row_5 ∷ []
-math classes.Dot = row_5 ∷ []
-math classes.Field = row_5 ∷ []
+math classes.Hash = row_6 ∷ []
+math classes.Dollar = row_7 ∷ row_2 ∷ []
+math classes.LeftBrace = row_6 ∷ []
+math classes.RightBrace = row_8 ∷ row_9 ∷ []
+math classes.LeftParen = row_6 ∷ []
+math classes.RightParen = row_8 ∷ row_9 ∷ []
+math classes.Comma = row_9 ∷ []
+math classes.Semicolon = row_9 ∷ []
+math classes.Dot = row_9 ∷ []
+math classes.Field = row_9 ∷ []
 math classes.Str = row_5 ∷ []
-math classes.MathIdent = row_5 ∷ []
+math classes.MathIdent = row_10 ∷ []
 math classes.MathLetter = row_5 ∷ []
-math classes.MathText = row_5 ∷ []
+math classes.MathText = row_4 ∷ []
 math classes.MathPrimes = row_5 ∷ []
-math classes.Opening = row_5 ∷ []
-math classes.Closing = row_5 ∷ []
-math classes.Bang = row_5 ∷ []
-math classes.Root = row_5 ∷ []
-math _ = row_4 ∷ []
+math classes.Opening = row_6 ∷ []
+math classes.Closing = row_11 ∷ row_4 ∷ []
+math classes.Bang = row_9 ∷ []
+math classes.Root = row_6 ∷ []
+math _ = row_3 ∷ []
+
+-- what may follow a token of the content
+abbrev pub math_leaf : Class → List Row
+math_leaf classes.End = row_1 ∷ row_2 ∷ []
+math_leaf classes.Linebreak = row_4 ∷ []
+math_leaf classes.Escape = row_5 ∷ []
+math_leaf classes.Hash = row_6 ∷ []
+math_leaf classes.Dollar = row_7 ∷ row_2 ∷ []
+math_leaf classes.LeftBrace = row_6 ∷ []
+math_leaf classes.RightBrace = row_8 ∷ row_9 ∷ []
+math_leaf classes.LeftParen = row_6 ∷ []
+math_leaf classes.RightParen = row_8 ∷ row_9 ∷ []
+math_leaf classes.Comma = row_9 ∷ []
+math_leaf classes.Semicolon = row_9 ∷ []
+math_leaf classes.Dot = row_9 ∷ []
+math_leaf classes.Field = row_9 ∷ []
+math_leaf classes.Slash = row_12 ∷ []
+math_leaf classes.Underscore = row_13 ∷ []
+math_leaf classes.Str = row_5 ∷ []
+math_leaf classes.MathIdent = row_10 ∷ []
+math_leaf classes.MathLetter = row_5 ∷ []
+math_leaf classes.MathText = row_4 ∷ []
+math_leaf classes.MathPrimes = row_14 ∷ row_5 ∷ []
+math_leaf classes.Opening = row_6 ∷ []
+math_leaf classes.Closing = row_11 ∷ row_4 ∷ []
+math_leaf classes.Hat = row_15 ∷ []
+math_leaf classes.Bang = row_16 ∷ row_9 ∷ []
+math_leaf classes.Root = row_6 ∷ []
+math_leaf _ = row_3 ∷ []
+
+-- what may follow a letter or a string of the content
+abbrev pub math_letter : Class → List Row
+math_letter classes.End = row_1 ∷ row_2 ∷ []
+math_letter classes.Linebreak = row_4 ∷ []
+math_letter classes.Escape = row_5 ∷ []
+math_letter classes.Hash = row_6 ∷ []
+math_letter classes.Dollar = row_7 ∷ row_2 ∷ []
+math_letter classes.LeftBrace = row_17 ∷ row_6 ∷ []
+math_letter classes.RightBrace = row_8 ∷ row_9 ∷ []
+math_letter classes.LeftParen = row_17 ∷ row_6 ∷ []
+math_letter classes.RightParen = row_8 ∷ row_9 ∷ []
+math_letter classes.Comma = row_9 ∷ []
+math_letter classes.Semicolon = row_9 ∷ []
+math_letter classes.Dot = row_9 ∷ []
+math_letter classes.Field = row_9 ∷ []
+math_letter classes.Slash = row_12 ∷ []
+math_letter classes.Underscore = row_13 ∷ []
+math_letter classes.Str = row_5 ∷ []
+math_letter classes.MathIdent = row_10 ∷ []
+math_letter classes.MathLetter = row_5 ∷ []
+math_letter classes.MathText = row_4 ∷ []
+math_letter classes.MathPrimes = row_14 ∷ row_5 ∷ []
+math_letter classes.Opening = row_17 ∷ row_6 ∷ []
+math_letter classes.Closing = row_11 ∷ row_4 ∷ []
+math_letter classes.Hat = row_15 ∷ []
+math_letter classes.Bang = row_16 ∷ row_9 ∷ []
+math_letter classes.Root = row_6 ∷ []
+math_letter _ = row_3 ∷ []
+
+-- what may follow a name of the content
+abbrev pub math_name : Class → List Row
+math_name classes.End = row_1 ∷ row_2 ∷ []
+math_name classes.Linebreak = row_4 ∷ []
+math_name classes.Escape = row_5 ∷ []
+math_name classes.Hash = row_6 ∷ []
+math_name classes.Dollar = row_7 ∷ row_2 ∷ []
+math_name classes.LeftBrace = row_17 ∷ row_6 ∷ []
+math_name classes.RightBrace = row_8 ∷ row_9 ∷ []
+math_name classes.LeftParen = row_18 ∷ row_17 ∷ row_6 ∷ []
+math_name classes.RightParen = row_8 ∷ row_9 ∷ []
+math_name classes.Comma = row_9 ∷ []
+math_name classes.Semicolon = row_9 ∷ []
+math_name classes.Dot = row_9 ∷ []
+math_name classes.Field = row_19 ∷ row_9 ∷ []
+math_name classes.Slash = row_12 ∷ []
+math_name classes.Underscore = row_13 ∷ []
+math_name classes.Str = row_5 ∷ []
+math_name classes.MathIdent = row_10 ∷ []
+math_name classes.MathLetter = row_5 ∷ []
+math_name classes.MathText = row_4 ∷ []
+math_name classes.MathPrimes = row_14 ∷ row_5 ∷ []
+math_name classes.Opening = row_17 ∷ row_6 ∷ []
+math_name classes.Closing = row_11 ∷ row_4 ∷ []
+math_name classes.Hat = row_15 ∷ []
+math_name classes.Bang = row_16 ∷ row_9 ∷ []
+math_name classes.Root = row_6 ∷ []
+math_name _ = row_3 ∷ []
 
 -- an expression in math
 abbrev pub math_expr : Class → List Row
-math_expr classes.Linebreak = row_7 ∷ []
-math_expr classes.Escape = row_8 ∷ []
-math_expr classes.Hash = row_9 ∷ []
-math_expr classes.LeftBrace = row_10 ∷ []
-math_expr classes.RightBrace = row_11 ∷ []
-math_expr classes.LeftParen = row_10 ∷ []
-math_expr classes.RightParen = row_11 ∷ []
-math_expr classes.Comma = row_11 ∷ []
-math_expr classes.Semicolon = row_11 ∷ []
-math_expr classes.Dot = row_11 ∷ []
-math_expr classes.Field = row_11 ∷ []
-math_expr classes.Str = row_8 ∷ []
-math_expr classes.MathIdent = row_12 ∷ []
-math_expr classes.MathLetter = row_8 ∷ []
-math_expr classes.MathText = row_7 ∷ []
-math_expr classes.MathPrimes = row_8 ∷ []
-math_expr classes.Opening = row_10 ∷ []
-math_expr classes.Closing = row_7 ∷ []
-math_expr classes.Bang = row_11 ∷ []
-math_expr classes.Root = row_13 ∷ row_14 ∷ row_15 ∷ []
-math_expr _ = row_6 ∷ []
+math_expr classes.Linebreak = row_21 ∷ []
+math_expr classes.Escape = row_22 ∷ []
+math_expr classes.Hash = row_23 ∷ []
+math_expr classes.LeftBrace = row_24 ∷ []
+math_expr classes.RightBrace = row_25 ∷ []
+math_expr classes.LeftParen = row_24 ∷ []
+math_expr classes.RightParen = row_25 ∷ []
+math_expr classes.Comma = row_25 ∷ []
+math_expr classes.Semicolon = row_25 ∷ []
+math_expr classes.Dot = row_25 ∷ []
+math_expr classes.Field = row_25 ∷ []
+math_expr classes.Str = row_22 ∷ []
+math_expr classes.MathIdent = row_26 ∷ []
+math_expr classes.MathLetter = row_22 ∷ []
+math_expr classes.MathText = row_21 ∷ []
+math_expr classes.MathPrimes = row_22 ∷ []
+math_expr classes.Opening = row_27 ∷ []
+math_expr classes.Closing = row_21 ∷ []
+math_expr classes.Bang = row_25 ∷ []
+math_expr classes.Root = row_28 ∷ row_29 ∷ row_30 ∷ []
+math_expr _ = row_20 ∷ []
+
+-- the rest of a row of `math.leaf`, once the frame that it opened has returned
+abbrev pub math_leaf_rest : Class → List Row
+math_leaf_rest _ = row_31 ∷ []
+
+-- the rest of a row of `math.letter`, once the frame that it opened has returned
+abbrev pub math_letter_rest : Class → List Row
+math_letter_rest _ = row_32 ∷ []
+
+-- the rest of a row of `math.name`, once the frame that it opened has returned
+abbrev pub math_name_rest1 : Class → List Row
+math_name_rest1 _ = row_33 ∷ []
+
+-- the rest of a row of `math.name`, once the frame that it opened has returned
+abbrev pub math_name_rest2 : Class → List Row
+math_name_rest2 _ = row_34 ∷ []
 
 -- the rest of a row of `math.expr`, once the frame that it opened has returned
 abbrev pub math_expr_rest1 : Class → List Row
-math_expr_rest1 _ = row_16 ∷ []
+math_expr_rest1 _ = row_35 ∷ []
 
 -- the rest of a row of `math.expr`, once the frame that it opened has returned
 abbrev pub math_expr_rest2 : Class → List Row
-math_expr_rest2 _ = row_16 ∷ []
+math_expr_rest2 _ = row_35 ∷ []
 
 -- the rest of a row of `math.expr`, once the frame that it opened has returned
 abbrev pub math_expr_rest3 : Class → List Row
-math_expr_rest3 _ = row_16 ∷ []
+math_expr_rest3 _ = row_35 ∷ []

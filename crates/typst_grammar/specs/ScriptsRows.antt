@@ -26,7 +26,7 @@ row_1 = record {
   before = actions.Goto states.MathJoinedRest ∷ [];
   take = takes.Nothing;
   after = [];
-  call = Some (record { state = states.Delimited; number = 0; enters = false; is_deep = true; newline = None });
+  call = Some (record { state = states.Delimited; number = 0; enters = false; is_deep = false; newline = None });
 }
 
 abbrev pub row_2 : Row
@@ -52,7 +52,7 @@ row_4 = record {
   condition = conditions.Is 0;
   before = actions.Retag maps.Unparen ∷ [];
   take = takes.Eat;
-  after = actions.Goto states.MathAfterRest3 ∷ [];
+  after = actions.Goto states.MathAfterRest ∷ [];
   call = Some (record { state = states.MathExpr; number = 1; enters = false; is_deep = false; newline = None });
 }
 
@@ -70,7 +70,7 @@ row_6 = record {
   condition = conditions.Always;
   before = [];
   take = takes.Eat;
-  after = actions.Goto states.MathAfterRest1 ∷ [];
+  after = actions.Goto states.MathBelow ∷ [];
   call = Some (record { state = states.MathExpr; number = 2; enters = false; is_deep = false; newline = None });
 }
 
@@ -97,7 +97,7 @@ row_9 = record {
   condition = conditions.Always;
   before = [];
   take = takes.Eat;
-  after = actions.Goto states.MathAfterRest2 ∷ [];
+  after = actions.Goto states.MathAbove ∷ [];
   call = Some (record { state = states.MathExpr; number = 3; enters = false; is_deep = false; newline = None });
 }
 
@@ -139,17 +139,17 @@ row_13 = record {
 
 abbrev pub row_14 : Row
 row_14 = record {
-  condition = conditions.Always;
-  before = [];
-  take = takes.Eat;
-  after = actions.Goto states.MathPrimedRest1 ∷ [];
-  call = Some (record { state = states.MathExpr; number = 2; enters = false; is_deep = false; newline = None });
+  condition = conditions.Is 2;
+  before = actions.Wrap kinds.MathAttach ∷ actions.Return ∷ [];
+  take = takes.Nothing;
+  after = [];
+  call = None;
 }
 
 abbrev pub row_15 : Row
 row_15 = record {
-  condition = conditions.Is 2;
-  before = actions.Wrap kinds.MathAttach ∷ actions.Return ∷ [];
+  condition = conditions.Always;
+  before = actions.Retag maps.Unparen ∷ actions.Wrap kinds.MathAttach ∷ actions.Return ∷ [];
   take = takes.Nothing;
   after = [];
   call = None;
@@ -158,16 +158,16 @@ row_15 = record {
 abbrev pub row_16 : Row
 row_16 = record {
   condition = conditions.Always;
-  before = [];
-  take = takes.Eat;
-  after = actions.Goto states.MathPrimedRest2 ∷ [];
-  call = Some (record { state = states.MathExpr; number = 3; enters = false; is_deep = false; newline = None });
+  before = actions.Retag maps.Unparen ∷ actions.Wrap kinds.MathAttach ∷ actions.Goto states.MathAfter ∷ [];
+  take = takes.Nothing;
+  after = [];
+  call = None;
 }
 
 abbrev pub row_17 : Row
 row_17 = record {
   condition = conditions.Always;
-  before = [];
+  before = actions.Retag maps.Unparen ∷ [];
   take = takes.Eat;
   after = actions.Goto states.MathBelowRest ∷ [];
   call = Some (record { state = states.MathExpr; number = 1; enters = false; is_deep = false; newline = None });
@@ -176,7 +176,7 @@ row_17 = record {
 abbrev pub row_18 : Row
 row_18 = record {
   condition = conditions.Always;
-  before = [];
+  before = actions.Retag maps.Unparen ∷ [];
   take = takes.Eat;
   after = actions.Goto states.MathAboveRest ∷ [];
   call = Some (record { state = states.MathExpr; number = 1; enters = false; is_deep = false; newline = None });
@@ -212,34 +212,7 @@ row_21 = record {
 abbrev pub row_22 : Row
 row_22 = record {
   condition = conditions.Always;
-  before = actions.Retag maps.Unparen ∷ actions.Goto states.MathBelow ∷ [];
-  take = takes.Nothing;
-  after = [];
-  call = None;
-}
-
-abbrev pub row_23 : Row
-row_23 = record {
-  condition = conditions.Always;
-  before = actions.Retag maps.Unparen ∷ actions.Goto states.MathAbove ∷ [];
-  take = takes.Nothing;
-  after = [];
-  call = None;
-}
-
-abbrev pub row_24 : Row
-row_24 = record {
-  condition = conditions.Always;
   before = actions.Retag maps.Unparen ∷ actions.Wrap kinds.MathFrac ∷ actions.Goto states.MathAfter ∷ [];
-  take = takes.Nothing;
-  after = [];
-  call = None;
-}
-
-abbrev pub row_25 : Row
-row_25 = record {
-  condition = conditions.Always;
-  before = actions.Retag maps.Unparen ∷ actions.Wrap kinds.MathAttach ∷ actions.Goto states.MathAfter ∷ [];
   take = takes.Nothing;
   after = [];
   call = None;
@@ -287,19 +260,27 @@ math_after _ = row_0 ∷ []
 
 -- what may follow primes
 abbrev pub math_primed : Class → List Row
-math_primed classes.Underscore = row_13 ∷ row_14 ∷ []
-math_primed classes.Hat = row_15 ∷ row_16 ∷ []
+math_primed classes.Underscore = row_13 ∷ row_6 ∷ []
+math_primed classes.Hat = row_14 ∷ row_9 ∷ []
 math_primed _ = row_12 ∷ []
 
 -- whether a script above follows the one below
 abbrev pub math_below : Class → List Row
+math_below classes.Slash = row_16 ∷ []
+math_below classes.Underscore = row_16 ∷ []
+math_below classes.MathPrimes = row_16 ∷ []
 math_below classes.Hat = row_17 ∷ []
-math_below _ = row_12 ∷ []
+math_below classes.Bang = row_16 ∷ []
+math_below _ = row_15 ∷ []
 
 -- whether a script below follows the one above
 abbrev pub math_above : Class → List Row
+math_above classes.Slash = row_16 ∷ []
 math_above classes.Underscore = row_18 ∷ []
-math_above _ = row_12 ∷ []
+math_above classes.MathPrimes = row_16 ∷ []
+math_above classes.Hat = row_16 ∷ []
+math_above classes.Bang = row_16 ∷ []
+math_above _ = row_15 ∷ []
 
 -- the rest of a row of `math.ident`, once the frame that it opened has returned
 abbrev pub math_ident_rest1 : Class → List Row
@@ -314,29 +295,13 @@ abbrev pub math_joined_rest : Class → List Row
 math_joined_rest _ = row_21 ∷ []
 
 -- the rest of a row of `math.after`, once the frame that it opened has returned
-abbrev pub math_after_rest1 : Class → List Row
-math_after_rest1 _ = row_22 ∷ []
-
--- the rest of a row of `math.after`, once the frame that it opened has returned
-abbrev pub math_after_rest2 : Class → List Row
-math_after_rest2 _ = row_23 ∷ []
-
--- the rest of a row of `math.after`, once the frame that it opened has returned
-abbrev pub math_after_rest3 : Class → List Row
-math_after_rest3 _ = row_24 ∷ []
-
--- the rest of a row of `math.primed`, once the frame that it opened has returned
-abbrev pub math_primed_rest1 : Class → List Row
-math_primed_rest1 _ = row_22 ∷ []
-
--- the rest of a row of `math.primed`, once the frame that it opened has returned
-abbrev pub math_primed_rest2 : Class → List Row
-math_primed_rest2 _ = row_23 ∷ []
+abbrev pub math_after_rest : Class → List Row
+math_after_rest _ = row_22 ∷ []
 
 -- the rest of a row of `math.below`, once the frame that it opened has returned
 abbrev pub math_below_rest : Class → List Row
-math_below_rest _ = row_25 ∷ []
+math_below_rest _ = row_16 ∷ []
 
 -- the rest of a row of `math.above`, once the frame that it opened has returned
 abbrev pub math_above_rest : Class → List Row
-math_above_rest _ = row_25 ∷ []
+math_above_rest _ = row_16 ∷ []

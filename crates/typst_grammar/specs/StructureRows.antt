@@ -17,14 +17,14 @@ row_0 = record {
   condition = conditions.Always;
   before = [];
   take = takes.Eat;
-  after = actions.Goto states.HeadingRest ∷ [];
+  after = [];
   call = Some (record { state = states.HeadingBody; number = 0; enters = false; is_deep = false; newline = None });
 }
 
 abbrev pub row_1 : Row
 row_1 = record {
   condition = conditions.Always;
-  before = actions.Wrap kinds.Markup ∷ actions.Return ∷ [];
+  before = actions.Wrap kinds.Markup ∷ actions.Return ∷ actions.Wrap kinds.Heading ∷ actions.Return ∷ [];
   take = takes.Nothing;
   after = [];
   call = None;
@@ -123,7 +123,7 @@ row_11 = record {
 abbrev pub row_12 : Row
 row_12 = record {
   condition = conditions.Is 0;
-  before = actions.Wrap kinds.Markup ∷ actions.Return ∷ [];
+  before = actions.Wrap kinds.Markup ∷ actions.Return ∷ actions.Wrap kinds.Heading ∷ actions.Return ∷ [];
   take = takes.Nothing;
   after = [];
   call = None;
@@ -185,11 +185,11 @@ row_18 = record {
 
 abbrev pub row_19 : Row
 row_19 = record {
-  condition = conditions.Empty;
-  before = [];
+  condition = conditions.Always;
+  before = actions.Wrap kinds.Markup ∷ actions.Return ∷ [];
   take = takes.Nothing;
   after = [];
-  call = Some (record { state = states.Heading; number = 0; enters = false; is_deep = false; newline = Some newlines.Stop });
+  call = None;
 }
 
 abbrev pub row_20 : Row
@@ -198,7 +198,7 @@ row_20 = record {
   before = [];
   take = takes.Nothing;
   after = [];
-  call = Some (record { state = states.Item; number = 0; enters = false; is_deep = true; newline = Some newlines.Column });
+  call = Some (record { state = states.Heading; number = 0; enters = false; is_deep = false; newline = Some newlines.Stop });
 }
 
 abbrev pub row_21 : Row
@@ -207,11 +207,29 @@ row_21 = record {
   before = [];
   take = takes.Nothing;
   after = [];
-  call = Some (record { state = states.Term; number = 0; enters = false; is_deep = true; newline = Some newlines.Column });
+  call = Some (record { state = states.Item; number = 0; enters = false; is_deep = true; newline = Some newlines.Column });
 }
 
 abbrev pub row_22 : Row
 row_22 = record {
+  condition = conditions.Empty;
+  before = [];
+  take = takes.Nothing;
+  after = [];
+  call = Some (record { state = states.Term; number = 0; enters = false; is_deep = true; newline = Some newlines.Column });
+}
+
+abbrev pub row_23 : Row
+row_23 = record {
+  condition = conditions.Is 0;
+  before = actions.Wrap kinds.Markup ∷ actions.Return ∷ [];
+  take = takes.Nothing;
+  after = [];
+  call = None;
+}
+
+abbrev pub row_24 : Row
+row_24 = record {
   condition = conditions.Always;
   before = actions.Goto states.TermColon ∷ [];
   take = takes.Nothing;
@@ -219,8 +237,8 @@ row_22 = record {
   call = Some (record { state = states.TermHead; number = 0; enters = false; is_deep = false; newline = Some newlines.Stop });
 }
 
-abbrev pub row_23 : Row
-row_23 = record {
+abbrev pub row_25 : Row
+row_25 = record {
   condition = conditions.Always;
   before = [];
   take = takes.Eat;
@@ -228,8 +246,8 @@ row_23 = record {
   call = Some (record { state = states.TermName; number = 0; enters = false; is_deep = false; newline = None });
 }
 
-abbrev pub row_24 : Row
-row_24 = record {
+abbrev pub row_26 : Row
+row_26 = record {
   condition = conditions.Always;
   before = actions.Expected expectations.Colon ∷ actions.Goto states.TermColonRest2 ∷ [];
   take = takes.Nothing;
@@ -237,8 +255,8 @@ row_24 = record {
   call = Some (record { state = states.ItemBody; number = 0; enters = false; is_deep = false; newline = None });
 }
 
-abbrev pub row_25 : Row
-row_25 = record {
+abbrev pub row_27 : Row
+row_27 = record {
   condition = conditions.Always;
   before = [];
   take = takes.Eat;
@@ -246,8 +264,8 @@ row_25 = record {
   call = Some (record { state = states.ItemBody; number = 0; enters = false; is_deep = false; newline = None });
 }
 
-abbrev pub row_26 : Row
-row_26 = record {
+abbrev pub row_28 : Row
+row_28 = record {
   condition = conditions.Always;
   before = [];
   take = takes.Eat;
@@ -255,8 +273,8 @@ row_26 = record {
   call = None;
 }
 
-abbrev pub row_27 : Row
-row_27 = record {
+abbrev pub row_29 : Row
+row_29 = record {
   condition = conditions.Always;
   before = actions.Wrap kinds.Ref ∷ actions.Return ∷ [];
   take = takes.Nothing;
@@ -264,8 +282,8 @@ row_27 = record {
   call = None;
 }
 
-abbrev pub row_28 : Row
-row_28 = record {
+abbrev pub row_30 : Row
+row_30 = record {
   condition = conditions.Direct;
   before = actions.Goto states.ReferenceSupplementRest ∷ [];
   take = takes.Nothing;
@@ -273,37 +291,19 @@ row_28 = record {
   call = Some (record { state = states.Content; number = 0; enters = false; is_deep = true; newline = Some newlines.Go });
 }
 
-abbrev pub row_29 : Row
-row_29 = record {
+abbrev pub row_31 : Row
+row_31 = record {
   condition = conditions.Always;
   before = [];
   take = takes.Eat;
-  after = actions.Goto states.ContentClose ∷ [];
+  after = [];
   call = Some (record { state = states.ContentBody; number = 0; enters = true; is_deep = false; newline = None });
-}
-
-abbrev pub row_30 : Row
-row_30 = record {
-  condition = conditions.Always;
-  before = actions.Flush ∷ actions.Wrap kinds.Markup ∷ actions.Return ∷ [];
-  take = takes.Nothing;
-  after = [];
-  call = None;
-}
-
-abbrev pub row_31 : Row
-row_31 = record {
-  condition = conditions.Is 0;
-  before = actions.Flush ∷ actions.Wrap kinds.Markup ∷ actions.Return ∷ [];
-  take = takes.Nothing;
-  after = [];
-  call = None;
 }
 
 abbrev pub row_32 : Row
 row_32 = record {
   condition = conditions.Always;
-  before = actions.Unclosed ∷ actions.Wrap kinds.ContentBlock ∷ actions.Return ∷ [];
+  before = actions.Flush ∷ actions.Wrap kinds.Markup ∷ actions.Return ∷ actions.Unclosed ∷ actions.Wrap kinds.ContentBlock ∷ actions.Return ∷ [];
   take = takes.Nothing;
   after = [];
   call = None;
@@ -311,8 +311,8 @@ row_32 = record {
 
 abbrev pub row_33 : Row
 row_33 = record {
-  condition = conditions.Always;
-  before = [];
+  condition = conditions.Is 0;
+  before = actions.Flush ∷ actions.Wrap kinds.Markup ∷ actions.Return ∷ [];
   take = takes.Eat;
   after = actions.Wrap kinds.ContentBlock ∷ actions.Return ∷ [];
   call = None;
@@ -321,7 +321,7 @@ row_33 = record {
 abbrev pub row_34 : Row
 row_34 = record {
   condition = conditions.Always;
-  before = actions.Wrap kinds.Heading ∷ actions.Return ∷ [];
+  before = actions.Wrap kinds.ListItem ∷ actions.Return ∷ [];
   take = takes.Nothing;
   after = [];
   call = None;
@@ -330,7 +330,7 @@ row_34 = record {
 abbrev pub row_35 : Row
 row_35 = record {
   condition = conditions.Always;
-  before = actions.Wrap kinds.ListItem ∷ actions.Return ∷ [];
+  before = actions.Wrap kinds.EnumItem ∷ actions.Return ∷ [];
   take = takes.Nothing;
   after = [];
   call = None;
@@ -339,7 +339,7 @@ row_35 = record {
 abbrev pub row_36 : Row
 row_36 = record {
   condition = conditions.Always;
-  before = actions.Wrap kinds.EnumItem ∷ actions.Return ∷ [];
+  before = actions.Return ∷ [];
   take = takes.Nothing;
   after = [];
   call = None;
@@ -347,15 +347,6 @@ row_36 = record {
 
 abbrev pub row_37 : Row
 row_37 = record {
-  condition = conditions.Always;
-  before = actions.Return ∷ [];
-  take = takes.Nothing;
-  after = [];
-  call = None;
-}
-
-abbrev pub row_38 : Row
-row_38 = record {
   condition = conditions.Always;
   before = actions.Wrap kinds.TermItem ∷ actions.Return ∷ [];
   take = takes.Nothing;
@@ -399,22 +390,22 @@ item _ = []
 
 -- the content of an item
 abbrev pub item_body : Class → List Row
-item_body classes.End = row_1 ∷ []
+item_body classes.End = row_19 ∷ []
 item_body classes.Text = row_3 ∷ []
 item_body classes.Linebreak = row_3 ∷ []
 item_body classes.Escape = row_3 ∷ []
 item_body classes.Label = row_3 ∷ []
 item_body classes.RefMarker = row_4 ∷ []
 item_body classes.Raw = row_3 ∷ []
-item_body classes.HeadingMarker = row_19 ∷ row_5 ∷ row_6 ∷ []
-item_body classes.ListMarker = row_20 ∷ row_7 ∷ row_6 ∷ []
-item_body classes.EnumMarker = row_20 ∷ row_7 ∷ row_6 ∷ []
-item_body classes.TermMarker = row_21 ∷ row_8 ∷ row_6 ∷ []
+item_body classes.HeadingMarker = row_20 ∷ row_5 ∷ row_6 ∷ []
+item_body classes.ListMarker = row_21 ∷ row_7 ∷ row_6 ∷ []
+item_body classes.EnumMarker = row_21 ∷ row_7 ∷ row_6 ∷ []
+item_body classes.TermMarker = row_22 ∷ row_8 ∷ row_6 ∷ []
 item_body classes.Hash = row_9 ∷ []
 item_body classes.Dollar = row_10 ∷ []
 item_body classes.Plain = row_6 ∷ []
 item_body classes.LeftBracket = row_11 ∷ []
-item_body classes.RightBracket = row_12 ∷ row_13 ∷ row_14 ∷ []
+item_body classes.RightBracket = row_23 ∷ row_13 ∷ row_14 ∷ []
 item_body classes.Colon = row_6 ∷ []
 item_body classes.Star = row_15 ∷ []
 item_body classes.Underscore = row_16 ∷ []
@@ -422,17 +413,17 @@ item_body _ = row_2 ∷ []
 
 -- an item of a term list
 abbrev pub term : Class → List Row
-term classes.TermMarker = row_22 ∷ []
+term classes.TermMarker = row_24 ∷ []
 term _ = []
 
 -- the marker of a term with the term
 abbrev pub term_head : Class → List Row
-term_head classes.TermMarker = row_23 ∷ []
+term_head classes.TermMarker = row_25 ∷ []
 term_head _ = []
 
 -- a term that is described
 abbrev pub term_name : Class → List Row
-term_name classes.End = row_1 ∷ []
+term_name classes.End = row_19 ∷ []
 term_name classes.Text = row_3 ∷ []
 term_name classes.Linebreak = row_3 ∷ []
 term_name classes.Escape = row_3 ∷ []
@@ -447,84 +438,75 @@ term_name classes.Hash = row_9 ∷ []
 term_name classes.Dollar = row_10 ∷ []
 term_name classes.Plain = row_6 ∷ []
 term_name classes.LeftBracket = row_11 ∷ []
-term_name classes.RightBracket = row_12 ∷ row_13 ∷ row_14 ∷ []
-term_name classes.Colon = row_1 ∷ []
+term_name classes.RightBracket = row_23 ∷ row_13 ∷ row_14 ∷ []
+term_name classes.Colon = row_19 ∷ []
 term_name classes.Star = row_15 ∷ []
 term_name classes.Underscore = row_16 ∷ []
 term_name _ = row_2 ∷ []
 
 -- the colon behind a term, with the description
 abbrev pub term_colon : Class → List Row
-term_colon classes.Colon = row_25 ∷ []
-term_colon _ = row_24 ∷ []
+term_colon classes.Colon = row_27 ∷ []
+term_colon _ = row_26 ∷ []
 
 -- a reference
 abbrev pub reference : Class → List Row
-reference classes.RefMarker = row_26 ∷ []
+reference classes.RefMarker = row_28 ∷ []
 reference _ = []
 
 -- what may follow the marker of a reference
 abbrev pub reference_supplement : Class → List Row
-reference_supplement classes.LeftBracket = row_28 ∷ row_27 ∷ []
-reference_supplement _ = row_27 ∷ []
+reference_supplement classes.LeftBracket = row_30 ∷ row_29 ∷ []
+reference_supplement _ = row_29 ∷ []
 
 -- a block of content
 abbrev pub content : Class → List Row
-content classes.LeftBracket = row_29 ∷ []
+content classes.LeftBracket = row_31 ∷ []
 content _ = []
 
 -- the content of a block
 abbrev pub content_body : Class → List Row
-content_body classes.End = row_30 ∷ []
+content_body classes.End = row_32 ∷ []
 content_body classes.Text = row_3 ∷ []
 content_body classes.Linebreak = row_3 ∷ []
 content_body classes.Escape = row_3 ∷ []
 content_body classes.Label = row_3 ∷ []
 content_body classes.RefMarker = row_4 ∷ []
 content_body classes.Raw = row_3 ∷ []
-content_body classes.HeadingMarker = row_19 ∷ row_5 ∷ row_6 ∷ []
-content_body classes.ListMarker = row_20 ∷ row_7 ∷ row_6 ∷ []
-content_body classes.EnumMarker = row_20 ∷ row_7 ∷ row_6 ∷ []
-content_body classes.TermMarker = row_21 ∷ row_8 ∷ row_6 ∷ []
+content_body classes.HeadingMarker = row_20 ∷ row_5 ∷ row_6 ∷ []
+content_body classes.ListMarker = row_21 ∷ row_7 ∷ row_6 ∷ []
+content_body classes.EnumMarker = row_21 ∷ row_7 ∷ row_6 ∷ []
+content_body classes.TermMarker = row_22 ∷ row_8 ∷ row_6 ∷ []
 content_body classes.Hash = row_9 ∷ []
 content_body classes.Dollar = row_10 ∷ []
 content_body classes.Plain = row_6 ∷ []
 content_body classes.LeftBracket = row_11 ∷ []
-content_body classes.RightBracket = row_31 ∷ row_13 ∷ row_14 ∷ []
+content_body classes.RightBracket = row_33 ∷ row_13 ∷ row_14 ∷ []
 content_body classes.Colon = row_6 ∷ []
 content_body classes.Star = row_15 ∷ []
 content_body classes.Underscore = row_16 ∷ []
 content_body _ = row_2 ∷ []
 
--- the end of a block of content
-abbrev pub content_close : Class → List Row
-content_close classes.RightBracket = row_33 ∷ []
-content_close _ = row_32 ∷ []
-
--- the rest of a row of `heading`, once the frame that it opened has returned
-abbrev pub heading_rest : Class → List Row
-heading_rest _ = row_34 ∷ []
-
 -- the rest of a row of `item`, once the frame that it opened has returned
 abbrev pub item_rest1 : Class → List Row
-item_rest1 _ = row_35 ∷ []
+item_rest1 _ = row_34 ∷ []
 
 -- the rest of a row of `item`, once the frame that it opened has returned
 abbrev pub item_rest2 : Class → List Row
-item_rest2 _ = row_36 ∷ []
+item_rest2 _ = row_35 ∷ []
 
 -- the rest of a row of `term.head`, once the frame that it opened has returned
 abbrev pub term_head_rest : Class → List Row
-term_head_rest _ = row_37 ∷ []
+term_head_rest _ = row_36 ∷ []
 
 -- the rest of a row of `term.colon`, once the frame that it opened has returned
 abbrev pub term_colon_rest1 : Class → List Row
-term_colon_rest1 _ = row_38 ∷ []
+term_colon_rest1 _ = row_37 ∷ []
 
 -- the rest of a row of `term.colon`, once the frame that it opened has returned
 abbrev pub term_colon_rest2 : Class → List Row
-term_colon_rest2 _ = row_38 ∷ []
+term_colon_rest2 _ = row_37 ∷ []
 
 -- the rest of a row of `reference.supplement`, once the frame that it opened has returned
 abbrev pub reference_supplement_rest : Class → List Row
-reference_supplement_rest _ = row_27 ∷ []
+reference_supplement_rest _ = row_29 ∷ []

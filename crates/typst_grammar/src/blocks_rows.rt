@@ -2,7 +2,7 @@
 //! The rows of names and blocks of code.
 ghost use Rattle.std.specs.Prelude.{◌≡◌};
 ghost use Rattle.typst_grammar.specs.Row.{rows_of};
-ghost use Rattle.typst_grammar.specs.BlocksRows.{braces, braces_close, code, code_end, name};
+ghost use Rattle.typst_grammar.specs.BlocksRows.{braces, code, code_end, name};
 
 use crate::expectation::Expectation;
 use crate::row::{Action, Call, Condition, Newline, Row, Take};
@@ -36,12 +36,12 @@ const ROW_2: Row = Row {
     call: None,
 };
 
-/// `| eat; -> braces.close; enter code`
+/// `| eat; enter code`
 const ROW_3: Row = Row {
     condition: Condition::Always,
     before: &[],
     take: Take::Eat,
-    after: &[Action::Goto(State::BracesClose)],
+    after: &[],
     call: Some(Call {
         state: State::Code,
         number: 0,
@@ -51,10 +51,13 @@ const ROW_3: Row = Row {
     }),
 };
 
-/// `| unclosed; wrap CodeBlock; return`
+/// `| flush; wrap Code; return; unclosed; wrap CodeBlock; return`
 const ROW_4: Row = Row {
     condition: Condition::Always,
     before: &[
+        Action::Flush,
+        Action::Wrap(SyntaxKind::Code),
+        Action::Return,
         Action::Unclosed,
         Action::Wrap(SyntaxKind::CodeBlock),
         Action::Return,
@@ -64,30 +67,8 @@ const ROW_4: Row = Row {
     call: None,
 };
 
-/// `| eat; wrap CodeBlock; return`
-const ROW_5: Row = Row {
-    condition: Condition::Always,
-    before: &[],
-    take: Take::Eat,
-    after: &[Action::Wrap(SyntaxKind::CodeBlock), Action::Return],
-    call: None,
-};
-
-/// `| flush; wrap Code; return`
-const ROW_6: Row = Row {
-    condition: Condition::Always,
-    before: &[
-        Action::Flush,
-        Action::Wrap(SyntaxKind::Code),
-        Action::Return,
-    ],
-    take: Take::Nothing,
-    after: &[],
-    call: None,
-};
-
 /// `| unexpected`
-const ROW_7: Row = Row {
+const ROW_5: Row = Row {
     condition: Condition::Always,
     before: &[],
     take: Take::Unexpected,
@@ -96,7 +77,7 @@ const ROW_7: Row = Row {
 };
 
 /// `| -> code.end; statement 1`
-const ROW_8: Row = Row {
+const ROW_6: Row = Row {
     condition: Condition::Always,
     before: &[Action::Goto(State::CodeEnd)],
     take: Take::Nothing,
@@ -110,8 +91,21 @@ const ROW_8: Row = Row {
     }),
 };
 
+/// `| flush; wrap Code; return; eat; wrap CodeBlock; return`
+const ROW_7: Row = Row {
+    condition: Condition::Always,
+    before: &[
+        Action::Flush,
+        Action::Wrap(SyntaxKind::Code),
+        Action::Return,
+    ],
+    take: Take::Eat,
+    after: &[Action::Wrap(SyntaxKind::CodeBlock), Action::Return],
+    call: None,
+};
+
 /// `if newline | -> code`
-const ROW_9: Row = Row {
+const ROW_8: Row = Row {
     condition: Condition::Newline,
     before: &[Action::Goto(State::Code)],
     take: Take::Nothing,
@@ -120,7 +114,7 @@ const ROW_9: Row = Row {
 };
 
 /// `| expected semicolon or line break; -> code`
-const ROW_10: Row = Row {
+const ROW_9: Row = Row {
     condition: Condition::Always,
     before: &[
         Action::Expected(Expectation::SemicolonOrLineBreak),
@@ -132,7 +126,7 @@ const ROW_10: Row = Row {
 };
 
 /// `| eat; -> code`
-const ROW_11: Row = Row {
+const ROW_10: Row = Row {
     condition: Condition::Always,
     before: &[],
     take: Take::Eat,
@@ -179,22 +173,12 @@ pub(crate) fn braces(class: Class) -> &'static [Row]
     }
 }
 
-/// The end of a block of code.
-pub(crate) fn braces_close(class: Class) -> &'static [Row]
-    ensures { rows_of result.now ≡ braces_close class }
-{
-    match class {
-        Class::RightBrace => &[ROW_5],
-        _ => &[ROW_4],
-    }
-}
-
 /// The expressions of a block of code.
 pub(crate) fn code(class: Class) -> &'static [Row]
     ensures { rows_of result.now ≡ code class }
 {
     match class {
-        Class::End | Class::RightBrace | Class::RightBracket | Class::RightParen => &[ROW_6],
+        Class::End | Class::RightBracket | Class::RightParen => &[ROW_4],
         Class::Label
         | Class::Raw
         | Class::Dollar
@@ -219,8 +203,9 @@ pub(crate) fn code(class: Class) -> &'static [Row]
         | Class::Continue
         | Class::Return
         | Class::Import
-        | Class::Include => &[ROW_8],
-        _ => &[ROW_7],
+        | Class::Include => &[ROW_6],
+        Class::RightBrace => &[ROW_7],
+        _ => &[ROW_5],
     }
 }
 
@@ -229,8 +214,9 @@ pub(crate) fn code_end(class: Class) -> &'static [Row]
     ensures { rows_of result.now ≡ code_end class }
 {
     match class {
-        Class::End | Class::RightBrace | Class::RightBracket | Class::RightParen => &[ROW_9, ROW_6],
-        Class::Semicolon => &[ROW_9, ROW_11],
-        _ => &[ROW_9, ROW_10],
+        Class::End | Class::RightBracket | Class::RightParen => &[ROW_8, ROW_4],
+        Class::RightBrace => &[ROW_8, ROW_7],
+        Class::Semicolon => &[ROW_8, ROW_10],
+        _ => &[ROW_8, ROW_9],
     }
 }

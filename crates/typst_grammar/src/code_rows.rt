@@ -2,7 +2,7 @@
 //! The rows of code.
 ghost use Rattle.std.specs.Prelude.{◌≡◌};
 ghost use Rattle.typst_grammar.specs.Row.{rows_of};
-ghost use Rattle.typst_grammar.specs.CodeRows.{embedded, embedded_expr, embedded_statement, expr, expr_rest1, expr_rest2, expr_rest3, expr_rest4, expr_rest5, expr_rest6, expr_rest6_rest, expr_rest7, expr_rest8, statement};
+ghost use Rattle.typst_grammar.specs.CodeRows.{embedded, embedded_expr, embedded_statement, expr, expr_rest1, expr_rest2, expr_rest3, expr_rest4, expr_rest5, expr_rest5_rest, expr_rest6, expr_rest7, statement};
 
 use crate::expectation::Expectation;
 use crate::row::{Action, Call, Condition, Newline, Row, Take, Unique};
@@ -225,19 +225,13 @@ const ROW_17: Row = Row {
     }),
 };
 
-/// `| eat; -> expr.rest3; binding`
+/// `| eat; -> binding`
 const ROW_18: Row = Row {
     condition: Condition::Always,
     before: &[],
     take: Take::Eat,
-    after: &[Action::Goto(State::ExprRest3)],
-    call: Some(Call {
-        state: State::Binding,
-        number: 0,
-        enters: false,
-        is_deep: false,
-        newline: None,
-    }),
+    after: &[Action::Goto(State::Binding)],
+    call: None,
 };
 
 /// `| eat; -> set.arguments; target`
@@ -264,12 +258,12 @@ const ROW_20: Row = Row {
     call: None,
 };
 
-/// `if upto 8 | eat; -> expr.rest4; expr 1`
+/// `if upto 8 | eat; -> expr.rest3; expr 1`
 const ROW_21: Row = Row {
     condition: Condition::UpTo(8),
     before: &[],
     take: Take::Eat,
-    after: &[Action::Goto(State::ExprRest4)],
+    after: &[Action::Goto(State::ExprRest3)],
     call: Some(Call {
         state: State::Expr,
         number: 1,
@@ -279,12 +273,12 @@ const ROW_21: Row = Row {
     }),
 };
 
-/// `| eat; -> expr.rest5; expr 9`
+/// `| eat; -> expr.rest4; expr 9`
 const ROW_22: Row = Row {
     condition: Condition::Always,
     before: &[],
     take: Take::Eat,
-    after: &[Action::Goto(State::ExprRest5)],
+    after: &[Action::Goto(State::ExprRest4)],
     call: Some(Call {
         state: State::Expr,
         number: 9,
@@ -309,12 +303,12 @@ const ROW_23: Row = Row {
     }),
 };
 
-/// `| eat; -> expr.rest7; pattern`
+/// `| eat; -> expr.rest6; pattern`
 const ROW_24: Row = Row {
     condition: Condition::Always,
     before: &[],
     take: Take::Eat,
-    after: &[Action::Goto(State::ExprRest7)],
+    after: &[Action::Goto(State::ExprRest6)],
     call: Some(Call {
         state: State::Pattern,
         number: 0,
@@ -324,12 +318,12 @@ const ROW_24: Row = Row {
     }),
 };
 
-/// `| eat; -> expr.rest6; expr 1`
+/// `| eat; -> expr.rest5; expr 1`
 const ROW_25: Row = Row {
     condition: Condition::Always,
     before: &[],
     take: Take::Eat,
-    after: &[Action::Goto(State::ExprRest6)],
+    after: &[Action::Goto(State::ExprRest5)],
     call: Some(Call {
         state: State::Expr,
         number: 1,
@@ -387,12 +381,12 @@ const ROW_29: Row = Row {
     }),
 };
 
-/// `| eat; -> expr.rest8; expr 1`
+/// `| eat; -> expr.rest7; expr 1`
 const ROW_30: Row = Row {
     condition: Condition::Always,
     before: &[],
     take: Take::Eat,
-    after: &[Action::Goto(State::ExprRest8)],
+    after: &[Action::Goto(State::ExprRest7)],
     call: Some(Call {
         state: State::Expr,
         number: 1,
@@ -414,20 +408,8 @@ const ROW_31: Row = Row {
     call: None,
 };
 
-/// `| wrap LetBinding; -> expr.after`
-const ROW_32: Row = Row {
-    condition: Condition::Always,
-    before: &[
-        Action::Wrap(SyntaxKind::LetBinding),
-        Action::Goto(State::ExprAfter),
-    ],
-    take: Take::Nothing,
-    after: &[],
-    call: None,
-};
-
 /// `| wrap Contextual; -> expr.after`
-const ROW_33: Row = Row {
+const ROW_32: Row = Row {
     condition: Condition::Always,
     before: &[
         Action::Wrap(SyntaxKind::Contextual),
@@ -438,10 +420,10 @@ const ROW_33: Row = Row {
     call: None,
 };
 
-/// `| -> expr.rest6.rest; body`
-const ROW_34: Row = Row {
+/// `| -> expr.rest5.rest; body`
+const ROW_33: Row = Row {
     condition: Condition::Always,
-    before: &[Action::Goto(State::ExprRest6Rest)],
+    before: &[Action::Goto(State::ExprRest5Rest)],
     take: Take::Nothing,
     after: &[],
     call: Some(Call {
@@ -454,7 +436,7 @@ const ROW_34: Row = Row {
 };
 
 /// `| wrap WhileLoop; -> expr.after`
-const ROW_35: Row = Row {
+const ROW_34: Row = Row {
     condition: Condition::Always,
     before: &[
         Action::Wrap(SyntaxKind::WhileLoop),
@@ -466,7 +448,7 @@ const ROW_35: Row = Row {
 };
 
 /// `| unique binding; -> for.in`
-const ROW_36: Row = Row {
+const ROW_35: Row = Row {
     condition: Condition::Always,
     before: &[Action::Unique(Unique::Binding), Action::Goto(State::ForIn)],
     take: Take::Nothing,
@@ -475,7 +457,7 @@ const ROW_36: Row = Row {
 };
 
 /// `| wrap ModuleInclude; -> expr.after`
-const ROW_37: Row = Row {
+const ROW_36: Row = Row {
     condition: Condition::Always,
     before: &[
         Action::Wrap(SyntaxKind::ModuleInclude),
@@ -598,7 +580,7 @@ pub(crate) fn expr_rest3(_class: Class) -> &'static [Row]
 pub(crate) fn expr_rest4(_class: Class) -> &'static [Row]
     ensures { rows_of result.now ≡ expr_rest4 _class }
 {
-    &[ROW_33]
+    &[ROW_32]
 }
 
 /// The rest of a row of `expr`, once the frame that it opened has returned.
@@ -608,16 +590,16 @@ pub(crate) fn expr_rest5(_class: Class) -> &'static [Row]
     &[ROW_33]
 }
 
-/// The rest of a row of `expr`, once the frame that it opened has returned.
-pub(crate) fn expr_rest6(_class: Class) -> &'static [Row]
-    ensures { rows_of result.now ≡ expr_rest6 _class }
+/// The rest of a row of `expr.rest5`, once the frame that it opened has returned.
+pub(crate) fn expr_rest5_rest(_class: Class) -> &'static [Row]
+    ensures { rows_of result.now ≡ expr_rest5_rest _class }
 {
     &[ROW_34]
 }
 
-/// The rest of a row of `expr.rest6`, once the frame that it opened has returned.
-pub(crate) fn expr_rest6_rest(_class: Class) -> &'static [Row]
-    ensures { rows_of result.now ≡ expr_rest6_rest _class }
+/// The rest of a row of `expr`, once the frame that it opened has returned.
+pub(crate) fn expr_rest6(_class: Class) -> &'static [Row]
+    ensures { rows_of result.now ≡ expr_rest6 _class }
 {
     &[ROW_35]
 }
@@ -627,11 +609,4 @@ pub(crate) fn expr_rest7(_class: Class) -> &'static [Row]
     ensures { rows_of result.now ≡ expr_rest7 _class }
 {
     &[ROW_36]
-}
-
-/// The rest of a row of `expr`, once the frame that it opened has returned.
-pub(crate) fn expr_rest8(_class: Class) -> &'static [Row]
-    ensures { rows_of result.now ≡ expr_rest8 _class }
-{
-    &[ROW_37]
 }

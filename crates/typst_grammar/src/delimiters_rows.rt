@@ -2,65 +2,98 @@
 //! The rows of delimiters and arguments in math.
 ghost use Rattle.std.specs.Prelude.{◌≡◌};
 ghost use Rattle.typst_grammar.specs.Row.{rows_of};
-ghost use Rattle.typst_grammar.specs.DelimitersRows.{delimited, delimited_body, delimited_close, math_arg, math_arg_colon, math_arg_colon_rest, math_arg_rest, math_args, math_args_close, math_args_comma, math_args_item, math_named, math_value, math_value_more, math_value_one};
+ghost use Rattle.typst_grammar.specs.DelimitersRows.{delimited, delimited_body, delimited_rest1, delimited_rest2, math_arg, math_arg_colon, math_arg_colon_rest, math_arg_rest, math_args, math_args_close, math_args_comma, math_args_item, math_named, math_value, math_value_more, math_value_one};
 
 use crate::expectation::Expectation;
 use crate::row::{Action, Call, Condition, Row, Take, Unique};
 use crate::rows::{Class, State};
 use typst_base::SyntaxKind;
 
-/// `| eat MathText; -> delimited.close; delimited.body`
+/// `| eat MathText; -> delimited.rest1; delimited.body 1`
 const ROW_0: Row = Row {
     condition: Condition::Always,
     before: &[],
     take: Take::EatAs(SyntaxKind::MathText),
-    after: &[Action::Goto(State::DelimitedClose)],
+    after: &[Action::Goto(State::DelimitedRest1)],
     call: Some(Call {
         state: State::DelimitedBody,
-        number: 0,
+        number: 1,
         enters: false,
-        is_deep: false,
+        is_deep: true,
         newline: None,
     }),
 };
 
-/// `| eat; -> delimited.close; delimited.body`
+/// `| eat; -> delimited.rest2; delimited.body 1`
 const ROW_1: Row = Row {
     condition: Condition::Always,
     before: &[],
     take: Take::Eat,
-    after: &[Action::Goto(State::DelimitedClose)],
+    after: &[Action::Goto(State::DelimitedRest2)],
     call: Some(Call {
         state: State::DelimitedBody,
-        number: 0,
+        number: 1,
         enters: false,
-        is_deep: false,
+        is_deep: true,
         newline: None,
     }),
 };
 
-/// `| return`
+/// `if is 0 | wrap Math; return; unclosed; wrap Equation; return`
 const ROW_2: Row = Row {
-    condition: Condition::Always,
-    before: &[Action::Return],
+    condition: Condition::Is(0),
+    before: &[
+        Action::Wrap(SyntaxKind::Math),
+        Action::Return,
+        Action::Unclosed,
+        Action::Wrap(SyntaxKind::Equation),
+        Action::Return,
+    ],
     take: Take::Nothing,
     after: &[],
     call: None,
 };
 
-/// `| unexpected`
+/// `| return; wrap Math`
 const ROW_3: Row = Row {
     condition: Condition::Always,
-    before: &[],
-    take: Take::Unexpected,
+    before: &[Action::Return, Action::Wrap(SyntaxKind::Math)],
+    take: Take::Nothing,
     after: &[],
     call: None,
 };
 
-/// `| math.expr`
+/// `| unexpected; -> math`
 const ROW_4: Row = Row {
     condition: Condition::Always,
     before: &[],
+    take: Take::Unexpected,
+    after: &[Action::Goto(State::Math)],
+    call: None,
+};
+
+/// `| eat; -> math.leaf`
+const ROW_5: Row = Row {
+    condition: Condition::Always,
+    before: &[],
+    take: Take::Eat,
+    after: &[Action::Goto(State::MathLeaf)],
+    call: None,
+};
+
+/// `| eat; -> math.letter`
+const ROW_6: Row = Row {
+    condition: Condition::Always,
+    before: &[],
+    take: Take::Eat,
+    after: &[Action::Goto(State::MathLetter)],
+    call: None,
+};
+
+/// `| -> math; math.expr`
+const ROW_7: Row = Row {
+    condition: Condition::Always,
+    before: &[Action::Goto(State::Math)],
     take: Take::Nothing,
     after: &[],
     call: Some(Call {
@@ -72,35 +105,53 @@ const ROW_4: Row = Row {
     }),
 };
 
-/// `| wrap Math; return`
-const ROW_5: Row = Row {
-    condition: Condition::Always,
+/// `if is 0 | wrap Math; return; eat; wrap Equation; return`
+const ROW_8: Row = Row {
+    condition: Condition::Is(0),
     before: &[Action::Wrap(SyntaxKind::Math), Action::Return],
-    take: Take::Nothing,
-    after: &[],
+    take: Take::Eat,
+    after: &[Action::Wrap(SyntaxKind::Equation), Action::Return],
     call: None,
 };
 
-/// `| eat MathText; wrap MathDelimited; return`
-const ROW_6: Row = Row {
+/// `if is 1 | wrap Math; return; eat MathText; wrap MathDelimited`
+const ROW_9: Row = Row {
+    condition: Condition::Is(1),
+    before: &[Action::Wrap(SyntaxKind::Math), Action::Return],
+    take: Take::EatAs(SyntaxKind::MathText),
+    after: &[Action::Wrap(SyntaxKind::MathDelimited)],
+    call: None,
+};
+
+/// `| eat MathText; -> math.leaf`
+const ROW_10: Row = Row {
     condition: Condition::Always,
     before: &[],
     take: Take::EatAs(SyntaxKind::MathText),
-    after: &[Action::Wrap(SyntaxKind::MathDelimited), Action::Return],
+    after: &[Action::Goto(State::MathLeaf)],
     call: None,
 };
 
-/// `| eat; wrap MathDelimited; return`
-const ROW_7: Row = Row {
+/// `| eat; -> math.name`
+const ROW_11: Row = Row {
     condition: Condition::Always,
     before: &[],
     take: Take::Eat,
-    after: &[Action::Wrap(SyntaxKind::MathDelimited), Action::Return],
+    after: &[Action::Goto(State::MathName)],
+    call: None,
+};
+
+/// `if is 1 | wrap Math; return; eat; wrap MathDelimited`
+const ROW_12: Row = Row {
+    condition: Condition::Is(1),
+    before: &[Action::Wrap(SyntaxKind::Math), Action::Return],
+    take: Take::Eat,
+    after: &[Action::Wrap(SyntaxKind::MathDelimited)],
     call: None,
 };
 
 /// `| eat; -> math.args.item`
-const ROW_8: Row = Row {
+const ROW_13: Row = Row {
     condition: Condition::Always,
     before: &[],
     take: Take::Eat,
@@ -109,7 +160,7 @@ const ROW_8: Row = Row {
 };
 
 /// `| -> math.args.close`
-const ROW_9: Row = Row {
+const ROW_14: Row = Row {
     condition: Condition::Always,
     before: &[Action::Goto(State::MathArgsClose)],
     take: Take::Nothing,
@@ -118,7 +169,7 @@ const ROW_9: Row = Row {
 };
 
 /// `| -> math.args.comma; math.arg`
-const ROW_10: Row = Row {
+const ROW_15: Row = Row {
     condition: Condition::Always,
     before: &[Action::Goto(State::MathArgsComma)],
     take: Take::Nothing,
@@ -133,7 +184,7 @@ const ROW_10: Row = Row {
 };
 
 /// `| unclosed; wrap MathArgs; unique argument; return`
-const ROW_11: Row = Row {
+const ROW_16: Row = Row {
     condition: Condition::Always,
     before: &[
         Action::Unclosed,
@@ -147,7 +198,7 @@ const ROW_11: Row = Row {
 };
 
 /// `| eat; wrap MathArgs; unique argument; return`
-const ROW_12: Row = Row {
+const ROW_17: Row = Row {
     condition: Condition::Always,
     before: &[],
     take: Take::Eat,
@@ -160,7 +211,7 @@ const ROW_12: Row = Row {
 };
 
 /// `| -> math.value`
-const ROW_13: Row = Row {
+const ROW_18: Row = Row {
     condition: Condition::Always,
     before: &[Action::Goto(State::MathValue)],
     take: Take::Nothing,
@@ -169,7 +220,7 @@ const ROW_13: Row = Row {
 };
 
 /// `| eat; -> math.arg.rest; math.value`
-const ROW_14: Row = Row {
+const ROW_19: Row = Row {
     condition: Condition::Always,
     before: &[],
     take: Take::Eat,
@@ -184,7 +235,7 @@ const ROW_14: Row = Row {
 };
 
 /// `| eat; -> math.arg.colon`
-const ROW_15: Row = Row {
+const ROW_20: Row = Row {
     condition: Condition::Always,
     before: &[],
     take: Take::Eat,
@@ -193,7 +244,7 @@ const ROW_15: Row = Row {
 };
 
 /// `| mistake identifier; -> math.arg.colon`
-const ROW_16: Row = Row {
+const ROW_21: Row = Row {
     condition: Condition::Always,
     before: &[],
     take: Take::Mistake(Expectation::Identifier),
@@ -202,7 +253,7 @@ const ROW_16: Row = Row {
 };
 
 /// `| eat Colon; -> math.arg.colon.rest; math.named`
-const ROW_17: Row = Row {
+const ROW_22: Row = Row {
     condition: Condition::Always,
     before: &[],
     take: Take::EatAs(SyntaxKind::Colon),
@@ -217,7 +268,7 @@ const ROW_17: Row = Row {
 };
 
 /// `| expected expression; return`
-const ROW_18: Row = Row {
+const ROW_23: Row = Row {
     condition: Condition::Always,
     before: &[Action::Expected(Expectation::Expression), Action::Return],
     take: Take::Nothing,
@@ -226,7 +277,7 @@ const ROW_18: Row = Row {
 };
 
 /// `| flush; wrap Math; return`
-const ROW_19: Row = Row {
+const ROW_24: Row = Row {
     condition: Condition::Always,
     before: &[
         Action::Flush,
@@ -238,8 +289,17 @@ const ROW_19: Row = Row {
     call: None,
 };
 
+/// `| unexpected`
+const ROW_25: Row = Row {
+    condition: Condition::Always,
+    before: &[],
+    take: Take::Unexpected,
+    after: &[],
+    call: None,
+};
+
 /// `| -> math.value.one; math.expr`
-const ROW_20: Row = Row {
+const ROW_26: Row = Row {
     condition: Condition::Always,
     before: &[Action::Goto(State::MathValueOne)],
     take: Take::Nothing,
@@ -253,8 +313,17 @@ const ROW_20: Row = Row {
     }),
 };
 
+/// `| return`
+const ROW_27: Row = Row {
+    condition: Condition::Always,
+    before: &[Action::Return],
+    take: Take::Nothing,
+    after: &[],
+    call: None,
+};
+
 /// `| -> math.value.more`
-const ROW_21: Row = Row {
+const ROW_28: Row = Row {
     condition: Condition::Always,
     before: &[Action::Goto(State::MathValueMore)],
     take: Take::Nothing,
@@ -262,8 +331,32 @@ const ROW_21: Row = Row {
     call: None,
 };
 
+/// `| wrap Math; return`
+const ROW_29: Row = Row {
+    condition: Condition::Always,
+    before: &[Action::Wrap(SyntaxKind::Math), Action::Return],
+    take: Take::Nothing,
+    after: &[],
+    call: None,
+};
+
+/// `| math.expr`
+const ROW_30: Row = Row {
+    condition: Condition::Always,
+    before: &[],
+    take: Take::Nothing,
+    after: &[],
+    call: Some(Call {
+        state: State::MathExpr,
+        number: 0,
+        enters: false,
+        is_deep: false,
+        newline: None,
+    }),
+};
+
 /// `| wrap Spread; return`
-const ROW_22: Row = Row {
+const ROW_31: Row = Row {
     condition: Condition::Always,
     before: &[Action::Wrap(SyntaxKind::Spread), Action::Return],
     take: Take::Nothing,
@@ -272,7 +365,7 @@ const ROW_22: Row = Row {
 };
 
 /// `| wrap Named; return`
-const ROW_23: Row = Row {
+const ROW_32: Row = Row {
     condition: Condition::Always,
     before: &[Action::Wrap(SyntaxKind::Named), Action::Return],
     take: Take::Nothing,
@@ -280,7 +373,7 @@ const ROW_23: Row = Row {
     call: None,
 };
 
-/// Delimiters in math with what is between them.
+/// Delimiters with what is between them.
 pub(crate) fn delimited(class: Class) -> &'static [Row]
     ensures { rows_of result.now ≡ delimited class }
 {
@@ -296,37 +389,18 @@ pub(crate) fn delimited_body(class: Class) -> &'static [Row]
     ensures { rows_of result.now ≡ delimited_body class }
 {
     match class {
-        Class::End | Class::Dollar => &[ROW_2],
-        Class::Linebreak
-        | Class::Escape
-        | Class::Hash
-        | Class::LeftBrace
-        | Class::LeftParen
-        | Class::Comma
-        | Class::Semicolon
-        | Class::Dot
-        | Class::Field
-        | Class::Str
-        | Class::MathIdent
-        | Class::MathLetter
-        | Class::MathText
-        | Class::MathPrimes
-        | Class::Opening
-        | Class::Bang
-        | Class::Root => &[ROW_4],
-        Class::RightBrace | Class::RightParen | Class::Closing => &[ROW_5],
-        _ => &[ROW_3],
-    }
-}
-
-/// The closing delimiter.
-pub(crate) fn delimited_close(class: Class) -> &'static [Row]
-    ensures { rows_of result.now ≡ delimited_close class }
-{
-    match class {
-        Class::RightBrace | Class::RightParen => &[ROW_6],
-        Class::Closing => &[ROW_7],
-        _ => &[ROW_5],
+        Class::End => &[ROW_2, ROW_3],
+        Class::Linebreak | Class::MathText => &[ROW_5],
+        Class::Escape | Class::Str | Class::MathLetter | Class::MathPrimes => &[ROW_6],
+        Class::Hash | Class::LeftBrace | Class::LeftParen | Class::Opening | Class::Root => &[
+            ROW_7,
+        ],
+        Class::Dollar => &[ROW_8, ROW_3],
+        Class::RightBrace | Class::RightParen => &[ROW_9, ROW_10],
+        Class::Comma | Class::Semicolon | Class::Dot | Class::Field | Class::Bang => &[ROW_10],
+        Class::MathIdent => &[ROW_11],
+        Class::Closing => &[ROW_12, ROW_5],
+        _ => &[ROW_4],
     }
 }
 
@@ -335,7 +409,7 @@ pub(crate) fn math_args(class: Class) -> &'static [Row]
     ensures { rows_of result.now ≡ math_args class }
 {
     match class {
-        Class::LeftParen => &[ROW_8],
+        Class::LeftParen => &[ROW_13],
         _ => &[],
     }
 }
@@ -345,8 +419,8 @@ pub(crate) fn math_args_item(class: Class) -> &'static [Row]
     ensures { rows_of result.now ≡ math_args_item class }
 {
     match class {
-        Class::End | Class::Dollar | Class::RightParen => &[ROW_9],
-        _ => &[ROW_10],
+        Class::End | Class::Dollar | Class::RightParen => &[ROW_14],
+        _ => &[ROW_15],
     }
 }
 
@@ -355,8 +429,8 @@ pub(crate) fn math_args_comma(class: Class) -> &'static [Row]
     ensures { rows_of result.now ≡ math_args_comma class }
 {
     match class {
-        Class::End | Class::Dollar | Class::RightParen => &[ROW_9],
-        Class::Comma | Class::Semicolon => &[ROW_8],
+        Class::End | Class::Dollar | Class::RightParen => &[ROW_14],
+        Class::Comma | Class::Semicolon => &[ROW_13],
         _ => &[],
     }
 }
@@ -366,8 +440,8 @@ pub(crate) fn math_args_close(class: Class) -> &'static [Row]
     ensures { rows_of result.now ≡ math_args_close class }
 {
     match class {
-        Class::RightParen => &[ROW_12],
-        _ => &[ROW_11],
+        Class::RightParen => &[ROW_17],
+        _ => &[ROW_16],
     }
 }
 
@@ -376,10 +450,10 @@ pub(crate) fn math_arg(class: Class) -> &'static [Row]
     ensures { rows_of result.now ≡ math_arg class }
 {
     match class {
-        Class::Dots => &[ROW_14],
-        Class::ArgumentName => &[ROW_15],
-        Class::ArgumentBlank => &[ROW_16],
-        _ => &[ROW_13],
+        Class::Dots => &[ROW_19],
+        Class::ArgumentName => &[ROW_20],
+        Class::ArgumentBlank => &[ROW_21],
+        _ => &[ROW_18],
     }
 }
 
@@ -388,7 +462,7 @@ pub(crate) fn math_arg_colon(class: Class) -> &'static [Row]
     ensures { rows_of result.now ≡ math_arg_colon class }
 {
     match class {
-        Class::MathText => &[ROW_17],
+        Class::MathText => &[ROW_22],
         _ => &[],
     }
 }
@@ -399,9 +473,9 @@ pub(crate) fn math_named(class: Class) -> &'static [Row]
 {
     match class {
         Class::End | Class::Dollar | Class::RightParen | Class::Comma | Class::Semicolon => &[
-            ROW_18,
+            ROW_23,
         ],
-        _ => &[ROW_13],
+        _ => &[ROW_18],
     }
 }
 
@@ -411,7 +485,7 @@ pub(crate) fn math_value(class: Class) -> &'static [Row]
 {
     match class {
         Class::End | Class::Dollar | Class::RightParen | Class::Comma | Class::Semicolon => &[
-            ROW_19,
+            ROW_24,
         ],
         Class::Linebreak
         | Class::Escape
@@ -429,8 +503,8 @@ pub(crate) fn math_value(class: Class) -> &'static [Row]
         | Class::Opening
         | Class::Closing
         | Class::Bang
-        | Class::Root => &[ROW_20],
-        _ => &[ROW_3],
+        | Class::Root => &[ROW_26],
+        _ => &[ROW_25],
     }
 }
 
@@ -440,9 +514,9 @@ pub(crate) fn math_value_one(class: Class) -> &'static [Row]
 {
     match class {
         Class::End | Class::Dollar | Class::RightParen | Class::Comma | Class::Semicolon => &[
-            ROW_2,
+            ROW_27,
         ],
-        _ => &[ROW_21],
+        _ => &[ROW_28],
     }
 }
 
@@ -452,7 +526,7 @@ pub(crate) fn math_value_more(class: Class) -> &'static [Row]
 {
     match class {
         Class::End | Class::Dollar | Class::RightParen | Class::Comma | Class::Semicolon => &[
-            ROW_5,
+            ROW_29,
         ],
         Class::Linebreak
         | Class::Escape
@@ -470,21 +544,35 @@ pub(crate) fn math_value_more(class: Class) -> &'static [Row]
         | Class::Opening
         | Class::Closing
         | Class::Bang
-        | Class::Root => &[ROW_4],
-        _ => &[ROW_3],
+        | Class::Root => &[ROW_30],
+        _ => &[ROW_25],
     }
+}
+
+/// The rest of a row of `delimited`, once the frame that it opened has returned.
+pub(crate) fn delimited_rest1(_class: Class) -> &'static [Row]
+    ensures { rows_of result.now ≡ delimited_rest1 _class }
+{
+    &[ROW_27]
+}
+
+/// The rest of a row of `delimited`, once the frame that it opened has returned.
+pub(crate) fn delimited_rest2(_class: Class) -> &'static [Row]
+    ensures { rows_of result.now ≡ delimited_rest2 _class }
+{
+    &[ROW_27]
 }
 
 /// The rest of a row of `math.arg`, once the frame that it opened has returned.
 pub(crate) fn math_arg_rest(_class: Class) -> &'static [Row]
     ensures { rows_of result.now ≡ math_arg_rest _class }
 {
-    &[ROW_22]
+    &[ROW_31]
 }
 
 /// The rest of a row of `math.arg.colon`, once the frame that it opened has returned.
 pub(crate) fn math_arg_colon_rest(_class: Class) -> &'static [Row]
     ensures { rows_of result.now ≡ math_arg_colon_rest _class }
 {
-    &[ROW_23]
+    &[ROW_32]
 }

@@ -2,7 +2,7 @@
 //! The rows of imports.
 ghost use Rattle.std.specs.Prelude.{◌≡◌};
 ghost use Rattle.typst_grammar.specs.Row.{rows_of};
-ghost use Rattle.typst_grammar.specs.ImportsRows.{import_as, import_colon, import_list, import_what, import_what_rest1, import_what_rest2, imported, imported_path, imported_path_rest, imports, imports_comma};
+ghost use Rattle.typst_grammar.specs.ImportsRows.{import_as, import_close, import_colon, import_list, import_what, import_what_rest1, import_what_rest2, imported, imported_path, imported_path_rest, imports, imports_comma};
 
 use crate::expectation::Expectation;
 use crate::row::{Action, Call, Condition, Newline, Row, Take};
@@ -87,12 +87,12 @@ const ROW_5: Row = Row {
     call: None,
 };
 
-/// `| eat; -> arguments.close; imports`
+/// `| eat; -> import.close; imports`
 const ROW_6: Row = Row {
     condition: Condition::Always,
     before: &[],
     take: Take::Eat,
-    after: &[Action::Goto(State::ArgumentsClose)],
+    after: &[Action::Goto(State::ImportClose)],
     call: Some(Call {
         state: State::Imports,
         number: 0,
@@ -102,8 +102,26 @@ const ROW_6: Row = Row {
     }),
 };
 
-/// `| wrap ImportItems; return`
+/// `| unclosed; return`
 const ROW_7: Row = Row {
+    condition: Condition::Always,
+    before: &[Action::Unclosed, Action::Return],
+    take: Take::Nothing,
+    after: &[],
+    call: None,
+};
+
+/// `| eat; return`
+const ROW_8: Row = Row {
+    condition: Condition::Always,
+    before: &[],
+    take: Take::Eat,
+    after: &[Action::Return],
+    call: None,
+};
+
+/// `| wrap ImportItems; return`
+const ROW_9: Row = Row {
     condition: Condition::Always,
     before: &[Action::Wrap(SyntaxKind::ImportItems), Action::Return],
     take: Take::Nothing,
@@ -112,7 +130,7 @@ const ROW_7: Row = Row {
 };
 
 /// `| -> imports.comma; imported`
-const ROW_8: Row = Row {
+const ROW_10: Row = Row {
     condition: Condition::Always,
     before: &[Action::Goto(State::ImportsComma)],
     take: Take::Nothing,
@@ -127,7 +145,7 @@ const ROW_8: Row = Row {
 };
 
 /// `| -> imports`
-const ROW_9: Row = Row {
+const ROW_11: Row = Row {
     condition: Condition::Always,
     before: &[Action::Goto(State::Imports)],
     take: Take::Nothing,
@@ -136,7 +154,7 @@ const ROW_9: Row = Row {
 };
 
 /// `| expected comma; -> imports`
-const ROW_10: Row = Row {
+const ROW_12: Row = Row {
     condition: Condition::Always,
     before: &[
         Action::Expected(Expectation::Comma),
@@ -148,7 +166,7 @@ const ROW_10: Row = Row {
 };
 
 /// `| eat; -> imports`
-const ROW_11: Row = Row {
+const ROW_13: Row = Row {
     condition: Condition::Always,
     before: &[],
     take: Take::Eat,
@@ -157,7 +175,7 @@ const ROW_11: Row = Row {
 };
 
 /// `| unexpected; -> imported.path`
-const ROW_12: Row = Row {
+const ROW_14: Row = Row {
     condition: Condition::Always,
     before: &[],
     take: Take::Unexpected,
@@ -166,7 +184,7 @@ const ROW_12: Row = Row {
 };
 
 /// `| eat; -> imported.path`
-const ROW_13: Row = Row {
+const ROW_15: Row = Row {
     condition: Condition::Always,
     before: &[],
     take: Take::Eat,
@@ -175,7 +193,7 @@ const ROW_13: Row = Row {
 };
 
 /// `| wrap ImportItemPath; return`
-const ROW_14: Row = Row {
+const ROW_16: Row = Row {
     condition: Condition::Always,
     before: &[Action::Wrap(SyntaxKind::ImportItemPath), Action::Return],
     take: Take::Nothing,
@@ -184,7 +202,7 @@ const ROW_14: Row = Row {
 };
 
 /// `| eat; -> imported.path; name`
-const ROW_15: Row = Row {
+const ROW_17: Row = Row {
     condition: Condition::Always,
     before: &[],
     take: Take::Eat,
@@ -199,7 +217,7 @@ const ROW_15: Row = Row {
 };
 
 /// `| wrap ImportItemPath; eat; -> imported.path.rest; name`
-const ROW_16: Row = Row {
+const ROW_18: Row = Row {
     condition: Condition::Always,
     before: &[Action::Wrap(SyntaxKind::ImportItemPath)],
     take: Take::Eat,
@@ -214,7 +232,7 @@ const ROW_16: Row = Row {
 };
 
 /// `| wrap RenamedImportItem; return`
-const ROW_17: Row = Row {
+const ROW_19: Row = Row {
     condition: Condition::Always,
     before: &[Action::Wrap(SyntaxKind::RenamedImportItem), Action::Return],
     take: Take::Nothing,
@@ -264,6 +282,16 @@ pub(crate) fn import_list(class: Class) -> &'static [Row]
     }
 }
 
+/// The end of such items.
+pub(crate) fn import_close(class: Class) -> &'static [Row]
+    ensures { rows_of result.now ≡ import_close class }
+{
+    match class {
+        Class::RightParen => &[ROW_8],
+        _ => &[ROW_7],
+    }
+}
+
 /// The items of an import.
 pub(crate) fn imports(class: Class) -> &'static [Row]
     ensures { rows_of result.now ≡ imports class }
@@ -273,8 +301,8 @@ pub(crate) fn imports(class: Class) -> &'static [Row]
         | Class::RightBrace
         | Class::RightBracket
         | Class::RightParen
-        | Class::Semicolon => &[ROW_7],
-        _ => &[ROW_8],
+        | Class::Semicolon => &[ROW_9],
+        _ => &[ROW_10],
     }
 }
 
@@ -287,9 +315,9 @@ pub(crate) fn imports_comma(class: Class) -> &'static [Row]
         | Class::RightBrace
         | Class::RightBracket
         | Class::RightParen
-        | Class::Semicolon => &[ROW_9],
-        Class::Comma => &[ROW_11],
-        _ => &[ROW_10],
+        | Class::Semicolon => &[ROW_11],
+        Class::Comma => &[ROW_13],
+        _ => &[ROW_12],
     }
 }
 
@@ -298,8 +326,8 @@ pub(crate) fn imported(class: Class) -> &'static [Row]
     ensures { rows_of result.now ≡ imported class }
 {
     match class {
-        Class::Ident => &[ROW_13],
-        _ => &[ROW_12],
+        Class::Ident => &[ROW_15],
+        _ => &[ROW_14],
     }
 }
 
@@ -308,9 +336,9 @@ pub(crate) fn imported_path(class: Class) -> &'static [Row]
     ensures { rows_of result.now ≡ imported_path class }
 {
     match class {
-        Class::Dot | Class::Field => &[ROW_15],
-        Class::As => &[ROW_16],
-        _ => &[ROW_14],
+        Class::Dot | Class::Field => &[ROW_17],
+        Class::As => &[ROW_18],
+        _ => &[ROW_16],
     }
 }
 
@@ -332,5 +360,5 @@ pub(crate) fn import_what_rest2(_class: Class) -> &'static [Row]
 pub(crate) fn imported_path_rest(_class: Class) -> &'static [Row]
     ensures { rows_of result.now ≡ imported_path_rest _class }
 {
-    &[ROW_17]
+    &[ROW_19]
 }

@@ -2,7 +2,7 @@
 //! The rows of markup.
 ghost use Rattle.std.specs.Prelude.{◌≡◌};
 ghost use Rattle.typst_grammar.specs.Row.{rows_of};
-ghost use Rattle.typst_grammar.specs.MarkupRows.{document, emph, emph_body, emph_close, hash, hash_rest, strong, strong_body, strong_close};
+ghost use Rattle.typst_grammar.specs.MarkupRows.{document, emph, emph_body, hash, hash_rest, strong, strong_body};
 
 use crate::row::{Action, Call, Condition, Newline, Row, Take};
 use crate::rows::{Class, State};
@@ -242,12 +242,12 @@ const ROW_17: Row = Row {
     }),
 };
 
-/// `| eat; -> strong.close; enter strong.body`
+/// `| eat; enter strong.body`
 const ROW_18: Row = Row {
     condition: Condition::Always,
     before: &[],
     take: Take::Eat,
-    after: &[Action::Goto(State::StrongClose)],
+    after: &[],
     call: Some(Call {
         state: State::StrongBody,
         number: 0,
@@ -257,36 +257,13 @@ const ROW_18: Row = Row {
     }),
 };
 
-/// `| flush; wrap Markup; return`
+/// `| flush; wrap Markup; return; unclosed; wrap Strong; return`
 const ROW_19: Row = Row {
     condition: Condition::Always,
     before: &[
         Action::Flush,
         Action::Wrap(SyntaxKind::Markup),
         Action::Return,
-    ],
-    take: Take::Nothing,
-    after: &[],
-    call: None,
-};
-
-/// `if is 0 | flush; wrap Markup; return`
-const ROW_20: Row = Row {
-    condition: Condition::Is(0),
-    before: &[
-        Action::Flush,
-        Action::Wrap(SyntaxKind::Markup),
-        Action::Return,
-    ],
-    take: Take::Nothing,
-    after: &[],
-    call: None,
-};
-
-/// `| unclosed; wrap Strong; return`
-const ROW_21: Row = Row {
-    condition: Condition::Always,
-    before: &[
         Action::Unclosed,
         Action::Wrap(SyntaxKind::Strong),
         Action::Return,
@@ -296,21 +273,41 @@ const ROW_21: Row = Row {
     call: None,
 };
 
-/// `| eat; wrap Strong; return`
-const ROW_22: Row = Row {
+/// `if is 0 | flush; wrap Markup; return; unclosed; wrap Strong; return`
+const ROW_20: Row = Row {
+    condition: Condition::Is(0),
+    before: &[
+        Action::Flush,
+        Action::Wrap(SyntaxKind::Markup),
+        Action::Return,
+        Action::Unclosed,
+        Action::Wrap(SyntaxKind::Strong),
+        Action::Return,
+    ],
+    take: Take::Nothing,
+    after: &[],
+    call: None,
+};
+
+/// `| flush; wrap Markup; return; eat; wrap Strong; return`
+const ROW_21: Row = Row {
     condition: Condition::Always,
-    before: &[],
+    before: &[
+        Action::Flush,
+        Action::Wrap(SyntaxKind::Markup),
+        Action::Return,
+    ],
     take: Take::Eat,
     after: &[Action::Wrap(SyntaxKind::Strong), Action::Return],
     call: None,
 };
 
-/// `| eat; -> emph.close; enter emph.body`
-const ROW_23: Row = Row {
+/// `| eat; enter emph.body`
+const ROW_22: Row = Row {
     condition: Condition::Always,
     before: &[],
     take: Take::Eat,
-    after: &[Action::Goto(State::EmphClose)],
+    after: &[],
     call: Some(Call {
         state: State::EmphBody,
         number: 0,
@@ -320,10 +317,13 @@ const ROW_23: Row = Row {
     }),
 };
 
-/// `| unclosed; wrap Emph; return`
-const ROW_24: Row = Row {
+/// `| flush; wrap Markup; return; unclosed; wrap Emph; return`
+const ROW_23: Row = Row {
     condition: Condition::Always,
     before: &[
+        Action::Flush,
+        Action::Wrap(SyntaxKind::Markup),
+        Action::Return,
         Action::Unclosed,
         Action::Wrap(SyntaxKind::Emph),
         Action::Return,
@@ -333,10 +333,30 @@ const ROW_24: Row = Row {
     call: None,
 };
 
-/// `| eat; wrap Emph; return`
+/// `if is 0 | flush; wrap Markup; return; unclosed; wrap Emph; return`
+const ROW_24: Row = Row {
+    condition: Condition::Is(0),
+    before: &[
+        Action::Flush,
+        Action::Wrap(SyntaxKind::Markup),
+        Action::Return,
+        Action::Unclosed,
+        Action::Wrap(SyntaxKind::Emph),
+        Action::Return,
+    ],
+    take: Take::Nothing,
+    after: &[],
+    call: None,
+};
+
+/// `| flush; wrap Markup; return; eat; wrap Emph; return`
 const ROW_25: Row = Row {
     condition: Condition::Always,
-    before: &[],
+    before: &[
+        Action::Flush,
+        Action::Wrap(SyntaxKind::Markup),
+        Action::Return,
+    ],
     take: Take::Eat,
     after: &[Action::Wrap(SyntaxKind::Emph), Action::Return],
     call: None,
@@ -397,7 +417,7 @@ pub(crate) fn strong_body(class: Class) -> &'static [Row]
     ensures { rows_of result.now ≡ strong_body class }
 {
     match class {
-        Class::End | Class::Star => &[ROW_19],
+        Class::End => &[ROW_19],
         Class::Text | Class::Linebreak | Class::Escape | Class::Label | Class::Raw => &[ROW_1],
         Class::RefMarker => &[ROW_2],
         Class::HeadingMarker => &[ROW_4, ROW_5],
@@ -408,18 +428,9 @@ pub(crate) fn strong_body(class: Class) -> &'static [Row]
         Class::Plain | Class::Colon => &[ROW_5],
         Class::LeftBracket => &[ROW_12],
         Class::RightBracket => &[ROW_20, ROW_13, ROW_14],
+        Class::Star => &[ROW_21],
         Class::Underscore => &[ROW_16],
         _ => &[ROW_0],
-    }
-}
-
-/// The end of strong content.
-pub(crate) fn strong_close(class: Class) -> &'static [Row]
-    ensures { rows_of result.now ≡ strong_close class }
-{
-    match class {
-        Class::Star => &[ROW_22],
-        _ => &[ROW_21],
     }
 }
 
@@ -428,7 +439,7 @@ pub(crate) fn emph(class: Class) -> &'static [Row]
     ensures { rows_of result.now ≡ emph class }
 {
     match class {
-        Class::Underscore => &[ROW_23],
+        Class::Underscore => &[ROW_22],
         _ => &[],
     }
 }
@@ -438,7 +449,7 @@ pub(crate) fn emph_body(class: Class) -> &'static [Row]
     ensures { rows_of result.now ≡ emph_body class }
 {
     match class {
-        Class::End | Class::Underscore => &[ROW_19],
+        Class::End => &[ROW_23],
         Class::Text | Class::Linebreak | Class::Escape | Class::Label | Class::Raw => &[ROW_1],
         Class::RefMarker => &[ROW_2],
         Class::HeadingMarker => &[ROW_4, ROW_5],
@@ -448,19 +459,10 @@ pub(crate) fn emph_body(class: Class) -> &'static [Row]
         Class::Dollar => &[ROW_11],
         Class::Plain | Class::Colon => &[ROW_5],
         Class::LeftBracket => &[ROW_12],
-        Class::RightBracket => &[ROW_20, ROW_13, ROW_14],
+        Class::RightBracket => &[ROW_24, ROW_13, ROW_14],
         Class::Star => &[ROW_15],
-        _ => &[ROW_0],
-    }
-}
-
-/// The end of emphasized content.
-pub(crate) fn emph_close(class: Class) -> &'static [Row]
-    ensures { rows_of result.now ≡ emph_close class }
-{
-    match class {
         Class::Underscore => &[ROW_25],
-        _ => &[ROW_24],
+        _ => &[ROW_0],
     }
 }
 

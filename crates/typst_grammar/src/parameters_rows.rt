@@ -2,7 +2,7 @@
 //! The rows of parameters.
 ghost use Rattle.std.specs.Prelude.{◌≡◌};
 ghost use Rattle.typst_grammar.specs.Row.{rows_of};
-ghost use Rattle.typst_grammar.specs.ParametersRows.{param, params, params_close, params_comma, params_item, sink, sink_rest};
+ghost use Rattle.typst_grammar.specs.ParametersRows.{param, param_name, param_name_rest, params, params_close, params_comma, params_item, sink, sink_rest};
 
 use crate::expectation::Expectation;
 use crate::row::{Action, Call, Condition, Row, Take, Unique};
@@ -51,8 +51,17 @@ const ROW_3: Row = Row {
     }),
 };
 
-/// `| expected comma; -> params.item`
+/// `| eat; -> param.name`
 const ROW_4: Row = Row {
+    condition: Condition::Always,
+    before: &[],
+    take: Take::Eat,
+    after: &[Action::Goto(State::ParamName)],
+    call: None,
+};
+
+/// `| expected comma; -> params.item`
+const ROW_5: Row = Row {
     condition: Condition::Always,
     before: &[
         Action::Expected(Expectation::Comma),
@@ -63,8 +72,37 @@ const ROW_4: Row = Row {
     call: None,
 };
 
+/// `| around params.comma; around argument.colon; around leaf.check 9; -> expr.name`
+const ROW_6: Row = Row {
+    condition: Condition::Always,
+    before: &[
+        Action::Around(State::ParamsComma, 0),
+        Action::Around(State::ArgumentColon, 0),
+        Action::Around(State::LeafCheck, 9),
+        Action::Goto(State::ExprName),
+    ],
+    take: Take::Nothing,
+    after: &[],
+    call: None,
+};
+
+/// `| around params.comma; eat; -> param.name.rest; expr 1`
+const ROW_7: Row = Row {
+    condition: Condition::Always,
+    before: &[Action::Around(State::ParamsComma, 0)],
+    take: Take::Eat,
+    after: &[Action::Goto(State::ParamNameRest)],
+    call: Some(Call {
+        state: State::Expr,
+        number: 1,
+        enters: false,
+        is_deep: false,
+        newline: None,
+    }),
+};
+
 /// `| unclosed; wrap Params; unique parameter; return`
-const ROW_5: Row = Row {
+const ROW_8: Row = Row {
     condition: Condition::Always,
     before: &[
         Action::Unclosed,
@@ -78,7 +116,7 @@ const ROW_5: Row = Row {
 };
 
 /// `| eat; wrap Params; unique parameter; return`
-const ROW_6: Row = Row {
+const ROW_9: Row = Row {
     condition: Condition::Always,
     before: &[],
     take: Take::Eat,
@@ -91,7 +129,7 @@ const ROW_6: Row = Row {
 };
 
 /// `| -> argument.colon; pattern`
-const ROW_7: Row = Row {
+const ROW_10: Row = Row {
     condition: Condition::Always,
     before: &[Action::Goto(State::ArgumentColon)],
     take: Take::Nothing,
@@ -106,7 +144,7 @@ const ROW_7: Row = Row {
 };
 
 /// `| eat; -> sink`
-const ROW_8: Row = Row {
+const ROW_11: Row = Row {
     condition: Condition::Always,
     before: &[],
     take: Take::Eat,
@@ -115,7 +153,7 @@ const ROW_8: Row = Row {
 };
 
 /// `| wrap Spread; return`
-const ROW_9: Row = Row {
+const ROW_12: Row = Row {
     condition: Condition::Always,
     before: &[Action::Wrap(SyntaxKind::Spread), Action::Return],
     take: Take::Nothing,
@@ -124,7 +162,7 @@ const ROW_9: Row = Row {
 };
 
 /// `| -> sink.rest; leaf`
-const ROW_10: Row = Row {
+const ROW_13: Row = Row {
     condition: Condition::Always,
     before: &[Action::Goto(State::SinkRest)],
     take: Take::Nothing,
@@ -136,6 +174,15 @@ const ROW_10: Row = Row {
         is_deep: false,
         newline: None,
     }),
+};
+
+/// `| wrap Named; return`
+const ROW_14: Row = Row {
+    condition: Condition::Always,
+    before: &[Action::Wrap(SyntaxKind::Named), Action::Return],
+    take: Take::Nothing,
+    after: &[],
+    call: None,
 };
 
 /// The parameters of a function that has a name.
@@ -166,7 +213,6 @@ pub(crate) fn params_item(class: Class) -> &'static [Row]
         | Class::LeftParen
         | Class::Dots
         | Class::Underscore
-        | Class::Ident
         | Class::Str
         | Class::Literal
         | Class::Constant
@@ -182,6 +228,7 @@ pub(crate) fn params_item(class: Class) -> &'static [Row]
         | Class::Return
         | Class::Import
         | Class::Include => &[ROW_3],
+        Class::Ident => &[ROW_4],
         _ => &[ROW_2],
     }
 }
@@ -197,7 +244,24 @@ pub(crate) fn params_comma(class: Class) -> &'static [Row]
         | Class::RightParen
         | Class::Semicolon => &[ROW_1],
         Class::Comma => &[ROW_0],
-        _ => &[ROW_4],
+        _ => &[ROW_5],
+    }
+}
+
+/// What may follow a name.
+pub(crate) fn param_name(class: Class) -> &'static [Row]
+    ensures { rows_of result.now ≡ param_name class }
+{
+    match class {
+        Class::End
+        | Class::RightBrace
+        | Class::RightBracket
+        | Class::RightParen
+        | Class::Semicolon => &[ROW_1],
+        Class::LeftBracket | Class::LeftParen | Class::Field => &[ROW_6],
+        Class::Comma => &[ROW_0],
+        Class::Colon => &[ROW_7],
+        _ => &[ROW_5],
     }
 }
 
@@ -206,8 +270,8 @@ pub(crate) fn params_close(class: Class) -> &'static [Row]
     ensures { rows_of result.now ≡ params_close class }
 {
     match class {
-        Class::RightParen => &[ROW_6],
-        _ => &[ROW_5],
+        Class::RightParen => &[ROW_9],
+        _ => &[ROW_8],
     }
 }
 
@@ -238,8 +302,8 @@ pub(crate) fn param(class: Class) -> &'static [Row]
         | Class::Continue
         | Class::Return
         | Class::Import
-        | Class::Include => &[ROW_7],
-        Class::Dots => &[ROW_8],
+        | Class::Include => &[ROW_10],
+        Class::Dots => &[ROW_11],
         _ => &[],
     }
 }
@@ -270,14 +334,21 @@ pub(crate) fn sink(class: Class) -> &'static [Row]
         | Class::Continue
         | Class::Return
         | Class::Import
-        | Class::Include => &[ROW_10],
-        _ => &[ROW_9],
+        | Class::Include => &[ROW_13],
+        _ => &[ROW_12],
     }
+}
+
+/// The rest of a row of `param.name`, once the frame that it opened has returned.
+pub(crate) fn param_name_rest(_class: Class) -> &'static [Row]
+    ensures { rows_of result.now ≡ param_name_rest _class }
+{
+    &[ROW_14]
 }
 
 /// The rest of a row of `sink`, once the frame that it opened has returned.
 pub(crate) fn sink_rest(_class: Class) -> &'static [Row]
     ensures { rows_of result.now ≡ sink_rest _class }
 {
-    &[ROW_9]
+    &[ROW_12]
 }

@@ -11,6 +11,8 @@ pub enum Action {
     Goto(State),
     /// The frame ends. Its trees are now those of the frame that opened it.
     Return,
+    /// The frame goes on in this state. Another one opens in it, with this number, around its last tree if that is a leaf.
+    Around(State, usize),
     /// Its trees become the children of one node of this kind. White space before the next token stays behind that node.
     Wrap(SyntaxKind),
     /// White space before the next token goes into it now.

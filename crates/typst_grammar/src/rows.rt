@@ -166,14 +166,10 @@ pub enum State {
     Strong,
     /// Strong content.
     StrongBody,
-    /// The end of strong content.
-    StrongClose,
     /// Emphasized content with its delimiters.
     Emph,
     /// Emphasized content.
     EmphBody,
-    /// The end of emphasized content.
-    EmphClose,
     /// A heading with its marker.
     Heading,
     /// The content of a heading.
@@ -198,8 +194,6 @@ pub enum State {
     Content,
     /// The content of a block.
     ContentBody,
-    /// The end of a block of content.
-    ContentClose,
     /// The code behind a hash.
     Embedded,
     /// The end of a statement behind a hash.
@@ -224,8 +218,6 @@ pub enum State {
     Name,
     /// A block of code.
     Braces,
-    /// The end of a block of code.
-    BracesClose,
     /// The expressions of a block of code.
     Code,
     /// The end of an expression of a block of code.
@@ -270,19 +262,27 @@ pub enum State {
     Args,
     /// Blocks of content behind arguments.
     ArgsContent,
-    /// Arguments in a parenthesis.
-    Arguments,
     /// An argument, if another one comes.
-    ArgumentsItem,
+    Arguments,
     /// The comma behind an argument.
     ArgumentsComma,
-    /// The end of arguments.
-    ArgumentsClose,
+    /// What may follow an expression of one token.
+    ArgumentValue,
+    /// What may follow a name.
+    ArgumentName,
+    /// The value of an argument with a name.
+    Named,
+    /// What may follow a value of one token.
+    NamedValue,
+    /// What may follow a value that is a name.
+    NamedName,
+    /// The end of an argument with a name.
+    NamedEnd,
     /// An argument that is spread.
     SpreadArgument,
     /// An argument: a value, or a name with its value.
     Argument,
-    /// The colon behind a name.
+    /// The colon behind what is no name.
     ArgumentColon,
     /// The parameters of a function that has a name.
     Params,
@@ -290,6 +290,8 @@ pub enum State {
     ParamsItem,
     /// The comma behind a parameter.
     ParamsComma,
+    /// What may follow a name.
+    ParamName,
     /// The end of parameters.
     ParamsClose,
     /// A parameter.
@@ -326,6 +328,8 @@ pub enum State {
     BindingName,
     /// The body of a function that has a name.
     BindingClosure,
+    /// The end of a function that has a name.
+    BindingEnd,
     /// The value of a pattern.
     BindingValue,
     /// The function of a set rule.
@@ -362,6 +366,8 @@ pub enum State {
     ImportWhat,
     /// Items of an import in a parenthesis.
     ImportList,
+    /// The end of such items.
+    ImportClose,
     /// The items of an import.
     Imports,
     /// The comma behind an item of an import.
@@ -372,10 +378,14 @@ pub enum State {
     ImportedPath,
     /// An equation.
     Equation,
-    /// The end of an equation.
-    EquationClose,
     /// The content of an equation.
     Math,
+    /// What may follow a token of the content.
+    MathLeaf,
+    /// What may follow a letter or a string of the content.
+    MathLetter,
+    /// What may follow a name of the content.
+    MathName,
     /// An expression in math.
     MathExpr,
     /// What may follow a name in math directly.
@@ -392,12 +402,10 @@ pub enum State {
     MathBelow,
     /// Whether a script below follows the one above.
     MathAbove,
-    /// Delimiters in math with what is between them.
+    /// Delimiters with what is between them.
     Delimited,
     /// What is between delimiters.
     DelimitedBody,
-    /// The closing delimiter.
-    DelimitedClose,
     /// The arguments of a call in math.
     MathArgs,
     /// An argument, if another one comes.
@@ -420,8 +428,6 @@ pub enum State {
     MathValueMore,
     /// The rest of a row of `hash`, once the frame that it opened has returned.
     HashRest,
-    /// The rest of a row of `heading`, once the frame that it opened has returned.
-    HeadingRest,
     /// The rest of a row of `item`, once the frame that it opened has returned.
     ItemRest1,
     /// The rest of a row of `item`, once the frame that it opened has returned.
@@ -444,14 +450,12 @@ pub enum State {
     ExprRest4,
     /// The rest of a row of `expr`, once the frame that it opened has returned.
     ExprRest5,
+    /// The rest of a row of `expr.rest5`, once the frame that it opened has returned.
+    ExprRest5Rest,
     /// The rest of a row of `expr`, once the frame that it opened has returned.
     ExprRest6,
-    /// The rest of a row of `expr.rest6`, once the frame that it opened has returned.
-    ExprRest6Rest,
     /// The rest of a row of `expr`, once the frame that it opened has returned.
     ExprRest7,
-    /// The rest of a row of `expr`, once the frame that it opened has returned.
-    ExprRest8,
     /// The rest of a row of `expr.after`, once the frame that it opened has returned.
     ExprAfterRest1,
     /// The rest of a row of `expr.after`, once the frame that it opened has returned.
@@ -488,12 +492,14 @@ pub enum State {
     PairColonRest1,
     /// The rest of a row of `pair.colon`, once the frame that it opened has returned.
     PairColonRest2,
+    /// The rest of a row of `named`, once the frame that it opened has returned.
+    NamedRest,
     /// The rest of a row of `spread.argument`, once the frame that it opened has returned.
     SpreadArgumentRest,
     /// The rest of a row of `argument.colon`, once the frame that it opened has returned.
-    ArgumentColonRest1,
-    /// The rest of a row of `argument.colon`, once the frame that it opened has returned.
-    ArgumentColonRest2,
+    ArgumentColonRest,
+    /// The rest of a row of `param.name`, once the frame that it opened has returned.
+    ParamNameRest,
     /// The rest of a row of `sink`, once the frame that it opened has returned.
     SinkRest,
     /// The rest of a row of `pattern`, once the frame that it opened has returned.
@@ -542,6 +548,14 @@ pub enum State {
     ImportWhatRest2,
     /// The rest of a row of `imported.path`, once the frame that it opened has returned.
     ImportedPathRest,
+    /// The rest of a row of `math.leaf`, once the frame that it opened has returned.
+    MathLeafRest,
+    /// The rest of a row of `math.letter`, once the frame that it opened has returned.
+    MathLetterRest,
+    /// The rest of a row of `math.name`, once the frame that it opened has returned.
+    MathNameRest1,
+    /// The rest of a row of `math.name`, once the frame that it opened has returned.
+    MathNameRest2,
     /// The rest of a row of `math.expr`, once the frame that it opened has returned.
     MathExprRest1,
     /// The rest of a row of `math.expr`, once the frame that it opened has returned.
@@ -555,19 +569,15 @@ pub enum State {
     /// The rest of a row of `math.joined`, once the frame that it opened has returned.
     MathJoinedRest,
     /// The rest of a row of `math.after`, once the frame that it opened has returned.
-    MathAfterRest1,
-    /// The rest of a row of `math.after`, once the frame that it opened has returned.
-    MathAfterRest2,
-    /// The rest of a row of `math.after`, once the frame that it opened has returned.
-    MathAfterRest3,
-    /// The rest of a row of `math.primed`, once the frame that it opened has returned.
-    MathPrimedRest1,
-    /// The rest of a row of `math.primed`, once the frame that it opened has returned.
-    MathPrimedRest2,
+    MathAfterRest,
     /// The rest of a row of `math.below`, once the frame that it opened has returned.
     MathBelowRest,
     /// The rest of a row of `math.above`, once the frame that it opened has returned.
     MathAboveRest,
+    /// The rest of a row of `delimited`, once the frame that it opened has returned.
+    DelimitedRest1,
+    /// The rest of a row of `delimited`, once the frame that it opened has returned.
+    DelimitedRest2,
     /// The rest of a row of `math.arg`, once the frame that it opened has returned.
     MathArgRest,
     /// The rest of a row of `math.arg.colon`, once the frame that it opened has returned.
@@ -584,10 +594,8 @@ pub fn rows(state: State, class: Class) -> &'static [Row]
         State::Hash => markup_rows::hash(class),
         State::Strong => markup_rows::strong(class),
         State::StrongBody => markup_rows::strong_body(class),
-        State::StrongClose => markup_rows::strong_close(class),
         State::Emph => markup_rows::emph(class),
         State::EmphBody => markup_rows::emph_body(class),
-        State::EmphClose => markup_rows::emph_close(class),
         State::Heading => structure_rows::heading(class),
         State::HeadingBody => structure_rows::heading_body(class),
         State::Item => structure_rows::item(class),
@@ -600,7 +608,6 @@ pub fn rows(state: State, class: Class) -> &'static [Row]
         State::ReferenceSupplement => structure_rows::reference_supplement(class),
         State::Content => structure_rows::content(class),
         State::ContentBody => structure_rows::content_body(class),
-        State::ContentClose => structure_rows::content_close(class),
         State::Embedded => code_rows::embedded(class),
         State::EmbeddedStatement => code_rows::embedded_statement(class),
         State::EmbeddedExpr => code_rows::embedded_expr(class),
@@ -613,7 +620,6 @@ pub fn rows(state: State, class: Class) -> &'static [Row]
         State::ExprGroup => operators_rows::expr_group(class),
         State::Name => blocks_rows::name(class),
         State::Braces => blocks_rows::braces(class),
-        State::BracesClose => blocks_rows::braces_close(class),
         State::Code => blocks_rows::code(class),
         State::CodeEnd => blocks_rows::code_end(class),
         State::Group => groups_rows::group(class),
@@ -637,15 +643,20 @@ pub fn rows(state: State, class: Class) -> &'static [Row]
         State::Args => arguments_rows::args(class),
         State::ArgsContent => arguments_rows::args_content(class),
         State::Arguments => arguments_rows::arguments(class),
-        State::ArgumentsItem => arguments_rows::arguments_item(class),
         State::ArgumentsComma => arguments_rows::arguments_comma(class),
-        State::ArgumentsClose => arguments_rows::arguments_close(class),
+        State::ArgumentValue => arguments_rows::argument_value(class),
+        State::ArgumentName => arguments_rows::argument_name(class),
+        State::Named => arguments_rows::named(class),
+        State::NamedValue => arguments_rows::named_value(class),
+        State::NamedName => arguments_rows::named_name(class),
+        State::NamedEnd => arguments_rows::named_end(class),
         State::SpreadArgument => arguments_rows::spread_argument(class),
         State::Argument => arguments_rows::argument(class),
         State::ArgumentColon => arguments_rows::argument_colon(class),
         State::Params => parameters_rows::params(class),
         State::ParamsItem => parameters_rows::params_item(class),
         State::ParamsComma => parameters_rows::params_comma(class),
+        State::ParamName => parameters_rows::param_name(class),
         State::ParamsClose => parameters_rows::params_close(class),
         State::Param => parameters_rows::param(class),
         State::Sink => parameters_rows::sink(class),
@@ -664,6 +675,7 @@ pub fn rows(state: State, class: Class) -> &'static [Row]
         State::Binding => statements_rows::binding(class),
         State::BindingName => statements_rows::binding_name(class),
         State::BindingClosure => statements_rows::binding_closure(class),
+        State::BindingEnd => statements_rows::binding_end(class),
         State::BindingValue => statements_rows::binding_value(class),
         State::Target => statements_rows::target(class),
         State::TargetField => statements_rows::target_field(class),
@@ -682,13 +694,16 @@ pub fn rows(state: State, class: Class) -> &'static [Row]
         State::ImportColon => imports_rows::import_colon(class),
         State::ImportWhat => imports_rows::import_what(class),
         State::ImportList => imports_rows::import_list(class),
+        State::ImportClose => imports_rows::import_close(class),
         State::Imports => imports_rows::imports(class),
         State::ImportsComma => imports_rows::imports_comma(class),
         State::Imported => imports_rows::imported(class),
         State::ImportedPath => imports_rows::imported_path(class),
         State::Equation => math_rows::equation(class),
-        State::EquationClose => math_rows::equation_close(class),
         State::Math => math_rows::math(class),
+        State::MathLeaf => math_rows::math_leaf(class),
+        State::MathLetter => math_rows::math_letter(class),
+        State::MathName => math_rows::math_name(class),
         State::MathExpr => math_rows::math_expr(class),
         State::MathIdent => scripts_rows::math_ident(class),
         State::Field => scripts_rows::field(class),
@@ -699,7 +714,6 @@ pub fn rows(state: State, class: Class) -> &'static [Row]
         State::MathAbove => scripts_rows::math_above(class),
         State::Delimited => delimiters_rows::delimited(class),
         State::DelimitedBody => delimiters_rows::delimited_body(class),
-        State::DelimitedClose => delimiters_rows::delimited_close(class),
         State::MathArgs => delimiters_rows::math_args(class),
         State::MathArgsItem => delimiters_rows::math_args_item(class),
         State::MathArgsComma => delimiters_rows::math_args_comma(class),
@@ -711,7 +725,6 @@ pub fn rows(state: State, class: Class) -> &'static [Row]
         State::MathValueOne => delimiters_rows::math_value_one(class),
         State::MathValueMore => delimiters_rows::math_value_more(class),
         State::HashRest => markup_rows::hash_rest(class),
-        State::HeadingRest => structure_rows::heading_rest(class),
         State::ItemRest1 => structure_rows::item_rest1(class),
         State::ItemRest2 => structure_rows::item_rest2(class),
         State::TermHeadRest => structure_rows::term_head_rest(class),
@@ -723,10 +736,9 @@ pub fn rows(state: State, class: Class) -> &'static [Row]
         State::ExprRest3 => code_rows::expr_rest3(class),
         State::ExprRest4 => code_rows::expr_rest4(class),
         State::ExprRest5 => code_rows::expr_rest5(class),
+        State::ExprRest5Rest => code_rows::expr_rest5_rest(class),
         State::ExprRest6 => code_rows::expr_rest6(class),
-        State::ExprRest6Rest => code_rows::expr_rest6_rest(class),
         State::ExprRest7 => code_rows::expr_rest7(class),
-        State::ExprRest8 => code_rows::expr_rest8(class),
         State::ExprAfterRest1 => operators_rows::expr_after_rest1(class),
         State::ExprAfterRest2 => operators_rows::expr_after_rest2(class),
         State::ExprAfterRest3 => operators_rows::expr_after_rest3(class),
@@ -745,9 +757,10 @@ pub fn rows(state: State, class: Class) -> &'static [Row]
         State::SpreadValueRest => lists_rows::spread_value_rest(class),
         State::PairColonRest1 => lists_rows::pair_colon_rest1(class),
         State::PairColonRest2 => lists_rows::pair_colon_rest2(class),
+        State::NamedRest => arguments_rows::named_rest(class),
         State::SpreadArgumentRest => arguments_rows::spread_argument_rest(class),
-        State::ArgumentColonRest1 => arguments_rows::argument_colon_rest1(class),
-        State::ArgumentColonRest2 => arguments_rows::argument_colon_rest2(class),
+        State::ArgumentColonRest => arguments_rows::argument_colon_rest(class),
+        State::ParamNameRest => parameters_rows::param_name_rest(class),
         State::SinkRest => parameters_rows::sink_rest(class),
         State::PatternRest => patterns_rows::pattern_rest(class),
         State::ElementColonRest1 => patterns_rows::element_colon_rest1(class),
@@ -772,19 +785,21 @@ pub fn rows(state: State, class: Class) -> &'static [Row]
         State::ImportWhatRest1 => imports_rows::import_what_rest1(class),
         State::ImportWhatRest2 => imports_rows::import_what_rest2(class),
         State::ImportedPathRest => imports_rows::imported_path_rest(class),
+        State::MathLeafRest => math_rows::math_leaf_rest(class),
+        State::MathLetterRest => math_rows::math_letter_rest(class),
+        State::MathNameRest1 => math_rows::math_name_rest1(class),
+        State::MathNameRest2 => math_rows::math_name_rest2(class),
         State::MathExprRest1 => math_rows::math_expr_rest1(class),
         State::MathExprRest2 => math_rows::math_expr_rest2(class),
         State::MathExprRest3 => math_rows::math_expr_rest3(class),
         State::MathIdentRest1 => scripts_rows::math_ident_rest1(class),
         State::MathIdentRest2 => scripts_rows::math_ident_rest2(class),
         State::MathJoinedRest => scripts_rows::math_joined_rest(class),
-        State::MathAfterRest1 => scripts_rows::math_after_rest1(class),
-        State::MathAfterRest2 => scripts_rows::math_after_rest2(class),
-        State::MathAfterRest3 => scripts_rows::math_after_rest3(class),
-        State::MathPrimedRest1 => scripts_rows::math_primed_rest1(class),
-        State::MathPrimedRest2 => scripts_rows::math_primed_rest2(class),
+        State::MathAfterRest => scripts_rows::math_after_rest(class),
         State::MathBelowRest => scripts_rows::math_below_rest(class),
         State::MathAboveRest => scripts_rows::math_above_rest(class),
+        State::DelimitedRest1 => delimiters_rows::delimited_rest1(class),
+        State::DelimitedRest2 => delimiters_rows::delimited_rest2(class),
         State::MathArgRest => delimiters_rows::math_arg_rest(class),
         State::MathArgColonRest => delimiters_rows::math_arg_colon_rest(class),
     }

@@ -2,7 +2,7 @@
 //! The rows of what may follow an expression in math.
 ghost use Rattle.std.specs.Prelude.{◌≡◌};
 ghost use Rattle.typst_grammar.specs.Row.{rows_of};
-ghost use Rattle.typst_grammar.specs.ScriptsRows.{field, math_above, math_above_rest, math_after, math_after_rest1, math_after_rest2, math_after_rest3, math_below, math_below_rest, math_ident, math_ident_rest1, math_ident_rest2, math_joined, math_joined_rest, math_primed, math_primed_rest1, math_primed_rest2};
+ghost use Rattle.typst_grammar.specs.ScriptsRows.{field, math_above, math_above_rest, math_after, math_after_rest, math_below, math_below_rest, math_ident, math_ident_rest1, math_ident_rest2, math_joined, math_joined_rest, math_primed};
 
 use crate::maps::Map;
 use crate::row::{Action, Call, Condition, Row, Take};
@@ -28,7 +28,7 @@ const ROW_1: Row = Row {
         state: State::Delimited,
         number: 0,
         enters: false,
-        is_deep: true,
+        is_deep: false,
         newline: None,
     }),
 };
@@ -63,12 +63,12 @@ const ROW_3: Row = Row {
     }),
 };
 
-/// `if is 0 | retag unparen; eat; -> math.after.rest3; math.expr 1`
+/// `if is 0 | retag unparen; eat; -> math.after.rest; math.expr 1`
 const ROW_4: Row = Row {
     condition: Condition::Is(0),
     before: &[Action::Retag(Map::Unparen)],
     take: Take::Eat,
-    after: &[Action::Goto(State::MathAfterRest3)],
+    after: &[Action::Goto(State::MathAfterRest)],
     call: Some(Call {
         state: State::MathExpr,
         number: 1,
@@ -87,12 +87,12 @@ const ROW_5: Row = Row {
     call: None,
 };
 
-/// `| eat; -> math.after.rest1; math.expr 2`
+/// `| eat; -> math.below; math.expr 2`
 const ROW_6: Row = Row {
     condition: Condition::Always,
     before: &[],
     take: Take::Eat,
-    after: &[Action::Goto(State::MathAfterRest1)],
+    after: &[Action::Goto(State::MathBelow)],
     call: Some(Call {
         state: State::MathExpr,
         number: 2,
@@ -120,12 +120,12 @@ const ROW_8: Row = Row {
     call: None,
 };
 
-/// `| eat; -> math.after.rest2; math.expr 3`
+/// `| eat; -> math.above; math.expr 3`
 const ROW_9: Row = Row {
     condition: Condition::Always,
     before: &[],
     take: Take::Eat,
-    after: &[Action::Goto(State::MathAfterRest2)],
+    after: &[Action::Goto(State::MathAbove)],
     call: Some(Call {
         state: State::MathExpr,
         number: 3,
@@ -177,23 +177,8 @@ const ROW_13: Row = Row {
     call: None,
 };
 
-/// `| eat; -> math.primed.rest1; math.expr 2`
-const ROW_14: Row = Row {
-    condition: Condition::Always,
-    before: &[],
-    take: Take::Eat,
-    after: &[Action::Goto(State::MathPrimedRest1)],
-    call: Some(Call {
-        state: State::MathExpr,
-        number: 2,
-        enters: false,
-        is_deep: false,
-        newline: None,
-    }),
-};
-
 /// `if is 2 | wrap MathAttach; return`
-const ROW_15: Row = Row {
+const ROW_14: Row = Row {
     condition: Condition::Is(2),
     before: &[Action::Wrap(SyntaxKind::MathAttach), Action::Return],
     take: Take::Nothing,
@@ -201,25 +186,36 @@ const ROW_15: Row = Row {
     call: None,
 };
 
-/// `| eat; -> math.primed.rest2; math.expr 3`
-const ROW_16: Row = Row {
+/// `| retag unparen; wrap MathAttach; return`
+const ROW_15: Row = Row {
     condition: Condition::Always,
-    before: &[],
-    take: Take::Eat,
-    after: &[Action::Goto(State::MathPrimedRest2)],
-    call: Some(Call {
-        state: State::MathExpr,
-        number: 3,
-        enters: false,
-        is_deep: false,
-        newline: None,
-    }),
+    before: &[
+        Action::Retag(Map::Unparen),
+        Action::Wrap(SyntaxKind::MathAttach),
+        Action::Return,
+    ],
+    take: Take::Nothing,
+    after: &[],
+    call: None,
 };
 
-/// `| eat; -> math.below.rest; math.expr 1`
+/// `| retag unparen; wrap MathAttach; -> math.after`
+const ROW_16: Row = Row {
+    condition: Condition::Always,
+    before: &[
+        Action::Retag(Map::Unparen),
+        Action::Wrap(SyntaxKind::MathAttach),
+        Action::Goto(State::MathAfter),
+    ],
+    take: Take::Nothing,
+    after: &[],
+    call: None,
+};
+
+/// `| retag unparen; eat; -> math.below.rest; math.expr 1`
 const ROW_17: Row = Row {
     condition: Condition::Always,
-    before: &[],
+    before: &[Action::Retag(Map::Unparen)],
     take: Take::Eat,
     after: &[Action::Goto(State::MathBelowRest)],
     call: Some(Call {
@@ -231,10 +227,10 @@ const ROW_17: Row = Row {
     }),
 };
 
-/// `| eat; -> math.above.rest; math.expr 1`
+/// `| retag unparen; eat; -> math.above.rest; math.expr 1`
 const ROW_18: Row = Row {
     condition: Condition::Always,
-    before: &[],
+    before: &[Action::Retag(Map::Unparen)],
     take: Take::Eat,
     after: &[Action::Goto(State::MathAboveRest)],
     call: Some(Call {
@@ -282,43 +278,12 @@ const ROW_21: Row = Row {
     call: None,
 };
 
-/// `| retag unparen; -> math.below`
-const ROW_22: Row = Row {
-    condition: Condition::Always,
-    before: &[Action::Retag(Map::Unparen), Action::Goto(State::MathBelow)],
-    take: Take::Nothing,
-    after: &[],
-    call: None,
-};
-
-/// `| retag unparen; -> math.above`
-const ROW_23: Row = Row {
-    condition: Condition::Always,
-    before: &[Action::Retag(Map::Unparen), Action::Goto(State::MathAbove)],
-    take: Take::Nothing,
-    after: &[],
-    call: None,
-};
-
 /// `| retag unparen; wrap MathFrac; -> math.after`
-const ROW_24: Row = Row {
+const ROW_22: Row = Row {
     condition: Condition::Always,
     before: &[
         Action::Retag(Map::Unparen),
         Action::Wrap(SyntaxKind::MathFrac),
-        Action::Goto(State::MathAfter),
-    ],
-    take: Take::Nothing,
-    after: &[],
-    call: None,
-};
-
-/// `| retag unparen; wrap MathAttach; -> math.after`
-const ROW_25: Row = Row {
-    condition: Condition::Always,
-    before: &[
-        Action::Retag(Map::Unparen),
-        Action::Wrap(SyntaxKind::MathAttach),
         Action::Goto(State::MathAfter),
     ],
     take: Take::Nothing,
@@ -387,8 +352,8 @@ pub(crate) fn math_primed(class: Class) -> &'static [Row]
     ensures { rows_of result.now ≡ math_primed class }
 {
     match class {
-        Class::Underscore => &[ROW_13, ROW_14],
-        Class::Hat => &[ROW_15, ROW_16],
+        Class::Underscore => &[ROW_13, ROW_6],
+        Class::Hat => &[ROW_14, ROW_9],
         _ => &[ROW_12],
     }
 }
@@ -398,8 +363,9 @@ pub(crate) fn math_below(class: Class) -> &'static [Row]
     ensures { rows_of result.now ≡ math_below class }
 {
     match class {
+        Class::Slash | Class::Underscore | Class::MathPrimes | Class::Bang => &[ROW_16],
         Class::Hat => &[ROW_17],
-        _ => &[ROW_12],
+        _ => &[ROW_15],
     }
 }
 
@@ -408,8 +374,9 @@ pub(crate) fn math_above(class: Class) -> &'static [Row]
     ensures { rows_of result.now ≡ math_above class }
 {
     match class {
+        Class::Slash | Class::MathPrimes | Class::Hat | Class::Bang => &[ROW_16],
         Class::Underscore => &[ROW_18],
-        _ => &[ROW_12],
+        _ => &[ROW_15],
     }
 }
 
@@ -435,50 +402,22 @@ pub(crate) fn math_joined_rest(_class: Class) -> &'static [Row]
 }
 
 /// The rest of a row of `math.after`, once the frame that it opened has returned.
-pub(crate) fn math_after_rest1(_class: Class) -> &'static [Row]
-    ensures { rows_of result.now ≡ math_after_rest1 _class }
+pub(crate) fn math_after_rest(_class: Class) -> &'static [Row]
+    ensures { rows_of result.now ≡ math_after_rest _class }
 {
     &[ROW_22]
-}
-
-/// The rest of a row of `math.after`, once the frame that it opened has returned.
-pub(crate) fn math_after_rest2(_class: Class) -> &'static [Row]
-    ensures { rows_of result.now ≡ math_after_rest2 _class }
-{
-    &[ROW_23]
-}
-
-/// The rest of a row of `math.after`, once the frame that it opened has returned.
-pub(crate) fn math_after_rest3(_class: Class) -> &'static [Row]
-    ensures { rows_of result.now ≡ math_after_rest3 _class }
-{
-    &[ROW_24]
-}
-
-/// The rest of a row of `math.primed`, once the frame that it opened has returned.
-pub(crate) fn math_primed_rest1(_class: Class) -> &'static [Row]
-    ensures { rows_of result.now ≡ math_primed_rest1 _class }
-{
-    &[ROW_22]
-}
-
-/// The rest of a row of `math.primed`, once the frame that it opened has returned.
-pub(crate) fn math_primed_rest2(_class: Class) -> &'static [Row]
-    ensures { rows_of result.now ≡ math_primed_rest2 _class }
-{
-    &[ROW_23]
 }
 
 /// The rest of a row of `math.below`, once the frame that it opened has returned.
 pub(crate) fn math_below_rest(_class: Class) -> &'static [Row]
     ensures { rows_of result.now ≡ math_below_rest _class }
 {
-    &[ROW_25]
+    &[ROW_16]
 }
 
 /// The rest of a row of `math.above`, once the frame that it opened has returned.
 pub(crate) fn math_above_rest(_class: Class) -> &'static [Row]
     ensures { rows_of result.now ≡ math_above_rest _class }
 {
-    &[ROW_25]
+    &[ROW_16]
 }

@@ -2,7 +2,7 @@
 //! The rows of statements and control flow.
 ghost use Rattle.std.specs.Prelude.{◌≡◌};
 ghost use Rattle.typst_grammar.specs.Row.{rows_of};
-ghost use Rattle.typst_grammar.specs.StatementsRows.{binding, binding_closure, binding_closure_rest, binding_name, binding_name_rest, binding_rest, binding_value, binding_value_rest, return_value, return_value_rest, set_arguments, set_condition, set_condition_rest, show_colon, show_colon_rest, show_selector, target, target_field, target_field_rest};
+ghost use Rattle.typst_grammar.specs.StatementsRows.{binding, binding_closure, binding_closure_rest, binding_end, binding_name, binding_name_rest, binding_rest, binding_value, binding_value_rest, return_value, return_value_rest, set_arguments, set_condition, set_condition_rest, show_colon, show_colon_rest, show_selector, target, target_field, target_field_rest};
 
 use crate::expectation::Expectation;
 use crate::row::{Action, Call, Condition, Newline, Row, Take, Unique};
@@ -33,19 +33,25 @@ const ROW_1: Row = Row {
     call: None,
 };
 
-/// `| return`
+/// `| wrap LetBinding; -> expr.after`
 const ROW_2: Row = Row {
     condition: Condition::Always,
-    before: &[Action::Return],
+    before: &[
+        Action::Wrap(SyntaxKind::LetBinding),
+        Action::Goto(State::ExprAfter),
+    ],
     take: Take::Nothing,
     after: &[],
     call: None,
 };
 
-/// `if direct | -> binding.closure; params`
+/// `if direct | around binding.end; -> binding.closure; params`
 const ROW_3: Row = Row {
     condition: Condition::Direct,
-    before: &[Action::Goto(State::BindingClosure)],
+    before: &[
+        Action::Around(State::BindingEnd, 0),
+        Action::Goto(State::BindingClosure),
+    ],
     take: Take::Nothing,
     after: &[],
     call: Some(Call {
@@ -100,10 +106,14 @@ const ROW_6: Row = Row {
     }),
 };
 
-/// `| expected equals sign; return`
+/// `| expected equals sign; wrap LetBinding; -> expr.after`
 const ROW_7: Row = Row {
     condition: Condition::Always,
-    before: &[Action::Expected(Expectation::EqualsSign), Action::Return],
+    before: &[
+        Action::Expected(Expectation::EqualsSign),
+        Action::Wrap(SyntaxKind::LetBinding),
+        Action::Goto(State::ExprAfter),
+    ],
     take: Take::Nothing,
     after: &[],
     call: None,
@@ -139,8 +149,17 @@ const ROW_9: Row = Row {
     }),
 };
 
-/// `| eat; -> target.field.rest; name`
+/// `| return`
 const ROW_10: Row = Row {
+    condition: Condition::Always,
+    before: &[Action::Return],
+    take: Take::Nothing,
+    after: &[],
+    call: None,
+};
+
+/// `| eat; -> target.field.rest; name`
+const ROW_11: Row = Row {
     condition: Condition::Always,
     before: &[],
     take: Take::Eat,
@@ -155,7 +174,7 @@ const ROW_10: Row = Row {
 };
 
 /// `| expected argument list; -> set.condition; args`
-const ROW_11: Row = Row {
+const ROW_12: Row = Row {
     condition: Condition::Always,
     before: &[
         Action::Expected(Expectation::ArgumentList),
@@ -173,7 +192,7 @@ const ROW_11: Row = Row {
 };
 
 /// `if direct | -> set.condition; args`
-const ROW_12: Row = Row {
+const ROW_13: Row = Row {
     condition: Condition::Direct,
     before: &[Action::Goto(State::SetCondition)],
     take: Take::Nothing,
@@ -188,7 +207,7 @@ const ROW_12: Row = Row {
 };
 
 /// `| wrap SetRule; -> expr.after`
-const ROW_13: Row = Row {
+const ROW_14: Row = Row {
     condition: Condition::Always,
     before: &[
         Action::Wrap(SyntaxKind::SetRule),
@@ -200,7 +219,7 @@ const ROW_13: Row = Row {
 };
 
 /// `| eat; -> set.condition.rest; expr 1`
-const ROW_14: Row = Row {
+const ROW_15: Row = Row {
     condition: Condition::Always,
     before: &[],
     take: Take::Eat,
@@ -215,7 +234,7 @@ const ROW_14: Row = Row {
 };
 
 /// `| -> show.colon; expr 1`
-const ROW_15: Row = Row {
+const ROW_16: Row = Row {
     condition: Condition::Always,
     before: &[Action::Goto(State::ShowColon)],
     take: Take::Nothing,
@@ -230,7 +249,7 @@ const ROW_15: Row = Row {
 };
 
 /// `| -> show.colon`
-const ROW_16: Row = Row {
+const ROW_17: Row = Row {
     condition: Condition::Always,
     before: &[Action::Goto(State::ShowColon)],
     take: Take::Nothing,
@@ -239,7 +258,7 @@ const ROW_16: Row = Row {
 };
 
 /// `| expected colon; wrap ShowRule; -> expr.after`
-const ROW_17: Row = Row {
+const ROW_18: Row = Row {
     condition: Condition::Always,
     before: &[
         Action::Expected(Expectation::Colon),
@@ -252,7 +271,7 @@ const ROW_17: Row = Row {
 };
 
 /// `| eat; -> show.colon.rest; expr 1`
-const ROW_18: Row = Row {
+const ROW_19: Row = Row {
     condition: Condition::Always,
     before: &[],
     take: Take::Eat,
@@ -267,7 +286,7 @@ const ROW_18: Row = Row {
 };
 
 /// `| wrap FuncReturn; -> expr.after`
-const ROW_19: Row = Row {
+const ROW_20: Row = Row {
     condition: Condition::Always,
     before: &[
         Action::Wrap(SyntaxKind::FuncReturn),
@@ -279,7 +298,7 @@ const ROW_19: Row = Row {
 };
 
 /// `| -> return.value.rest; expr 1`
-const ROW_20: Row = Row {
+const ROW_21: Row = Row {
     condition: Condition::Always,
     before: &[Action::Goto(State::ReturnValueRest)],
     take: Take::Nothing,
@@ -294,7 +313,7 @@ const ROW_20: Row = Row {
 };
 
 /// `| unique binding; -> binding.value`
-const ROW_21: Row = Row {
+const ROW_22: Row = Row {
     condition: Condition::Always,
     before: &[
         Action::Unique(Unique::Binding),
@@ -306,7 +325,7 @@ const ROW_21: Row = Row {
 };
 
 /// `| wrap Closure; return`
-const ROW_22: Row = Row {
+const ROW_23: Row = Row {
     condition: Condition::Always,
     before: &[Action::Wrap(SyntaxKind::Closure), Action::Return],
     take: Take::Nothing,
@@ -315,7 +334,7 @@ const ROW_22: Row = Row {
 };
 
 /// `| wrap FieldAccess; -> target.field`
-const ROW_23: Row = Row {
+const ROW_24: Row = Row {
     condition: Condition::Always,
     before: &[
         Action::Wrap(SyntaxKind::FieldAccess),
@@ -327,7 +346,7 @@ const ROW_23: Row = Row {
 };
 
 /// `| wrap ShowRule; -> expr.after`
-const ROW_24: Row = Row {
+const ROW_25: Row = Row {
     condition: Condition::Always,
     before: &[
         Action::Wrap(SyntaxKind::ShowRule),
@@ -369,6 +388,13 @@ pub(crate) fn binding_closure(class: Class) -> &'static [Row]
     }
 }
 
+/// The end of a function that has a name.
+pub(crate) fn binding_end(_class: Class) -> &'static [Row]
+    ensures { rows_of result.now ≡ binding_end _class }
+{
+    &[ROW_2]
+}
+
 /// The value of a pattern.
 pub(crate) fn binding_value(class: Class) -> &'static [Row]
     ensures { rows_of result.now ≡ binding_value class }
@@ -391,8 +417,8 @@ pub(crate) fn target_field(class: Class) -> &'static [Row]
     ensures { rows_of result.now ≡ target_field class }
 {
     match class {
-        Class::Dot | Class::Field => &[ROW_10],
-        _ => &[ROW_2],
+        Class::Dot | Class::Field => &[ROW_11],
+        _ => &[ROW_10],
     }
 }
 
@@ -401,8 +427,8 @@ pub(crate) fn set_arguments(class: Class) -> &'static [Row]
     ensures { rows_of result.now ≡ set_arguments class }
 {
     match class {
-        Class::LeftBracket | Class::LeftParen => &[ROW_12, ROW_11],
-        _ => &[ROW_11],
+        Class::LeftBracket | Class::LeftParen => &[ROW_13, ROW_12],
+        _ => &[ROW_12],
     }
 }
 
@@ -411,8 +437,8 @@ pub(crate) fn set_condition(class: Class) -> &'static [Row]
     ensures { rows_of result.now ≡ set_condition class }
 {
     match class {
-        Class::If => &[ROW_14],
-        _ => &[ROW_13],
+        Class::If => &[ROW_15],
+        _ => &[ROW_14],
     }
 }
 
@@ -421,8 +447,8 @@ pub(crate) fn show_selector(class: Class) -> &'static [Row]
     ensures { rows_of result.now ≡ show_selector class }
 {
     match class {
-        Class::Colon => &[ROW_16],
-        _ => &[ROW_15],
+        Class::Colon => &[ROW_17],
+        _ => &[ROW_16],
     }
 }
 
@@ -431,8 +457,8 @@ pub(crate) fn show_colon(class: Class) -> &'static [Row]
     ensures { rows_of result.now ≡ show_colon class }
 {
     match class {
-        Class::Colon => &[ROW_18],
-        _ => &[ROW_17],
+        Class::Colon => &[ROW_19],
+        _ => &[ROW_18],
     }
 }
 
@@ -465,8 +491,8 @@ pub(crate) fn return_value(class: Class) -> &'static [Row]
         | Class::Continue
         | Class::Return
         | Class::Import
-        | Class::Include => &[ROW_20],
-        _ => &[ROW_19],
+        | Class::Include => &[ROW_21],
+        _ => &[ROW_20],
     }
 }
 
@@ -474,7 +500,7 @@ pub(crate) fn return_value(class: Class) -> &'static [Row]
 pub(crate) fn binding_rest(_class: Class) -> &'static [Row]
     ensures { rows_of result.now ≡ binding_rest _class }
 {
-    &[ROW_21]
+    &[ROW_22]
 }
 
 /// The rest of a row of `binding.name`, once the frame that it opened has returned.
@@ -488,7 +514,7 @@ pub(crate) fn binding_name_rest(_class: Class) -> &'static [Row]
 pub(crate) fn binding_closure_rest(_class: Class) -> &'static [Row]
     ensures { rows_of result.now ≡ binding_closure_rest _class }
 {
-    &[ROW_22]
+    &[ROW_23]
 }
 
 /// The rest of a row of `binding.value`, once the frame that it opened has returned.
@@ -502,26 +528,26 @@ pub(crate) fn binding_value_rest(_class: Class) -> &'static [Row]
 pub(crate) fn target_field_rest(_class: Class) -> &'static [Row]
     ensures { rows_of result.now ≡ target_field_rest _class }
 {
-    &[ROW_23]
+    &[ROW_24]
 }
 
 /// The rest of a row of `set.condition`, once the frame that it opened has returned.
 pub(crate) fn set_condition_rest(_class: Class) -> &'static [Row]
     ensures { rows_of result.now ≡ set_condition_rest _class }
 {
-    &[ROW_13]
+    &[ROW_14]
 }
 
 /// The rest of a row of `show.colon`, once the frame that it opened has returned.
 pub(crate) fn show_colon_rest(_class: Class) -> &'static [Row]
     ensures { rows_of result.now ≡ show_colon_rest _class }
 {
-    &[ROW_24]
+    &[ROW_25]
 }
 
 /// The rest of a row of `return.value`, once the frame that it opened has returned.
 pub(crate) fn return_value_rest(_class: Class) -> &'static [Row]
     ensures { rows_of result.now ≡ return_value_rest _class }
 {
-    &[ROW_19]
+    &[ROW_20]
 }

@@ -2,19 +2,19 @@
 //! The rows of headings, items, references and blocks of content.
 ghost use Rattle.std.specs.Prelude.{◌≡◌};
 ghost use Rattle.typst_grammar.specs.Row.{rows_of};
-ghost use Rattle.typst_grammar.specs.StructureRows.{content, content_body, content_close, heading, heading_body, heading_rest, item, item_body, item_rest1, item_rest2, reference, reference_supplement, reference_supplement_rest, term, term_colon, term_colon_rest1, term_colon_rest2, term_head, term_head_rest, term_name};
+ghost use Rattle.typst_grammar.specs.StructureRows.{content, content_body, heading, heading_body, item, item_body, item_rest1, item_rest2, reference, reference_supplement, reference_supplement_rest, term, term_colon, term_colon_rest1, term_colon_rest2, term_head, term_head_rest, term_name};
 
 use crate::expectation::Expectation;
 use crate::row::{Action, Call, Condition, Newline, Row, Take};
 use crate::rows::{Class, State};
 use typst_base::SyntaxKind;
 
-/// `| eat; -> heading.rest; heading.body`
+/// `| eat; heading.body`
 const ROW_0: Row = Row {
     condition: Condition::Always,
     before: &[],
     take: Take::Eat,
-    after: &[Action::Goto(State::HeadingRest)],
+    after: &[],
     call: Some(Call {
         state: State::HeadingBody,
         number: 0,
@@ -24,10 +24,15 @@ const ROW_0: Row = Row {
     }),
 };
 
-/// `| wrap Markup; return`
+/// `| wrap Markup; return; wrap Heading; return`
 const ROW_1: Row = Row {
     condition: Condition::Always,
-    before: &[Action::Wrap(SyntaxKind::Markup), Action::Return],
+    before: &[
+        Action::Wrap(SyntaxKind::Markup),
+        Action::Return,
+        Action::Wrap(SyntaxKind::Heading),
+        Action::Return,
+    ],
     take: Take::Nothing,
     after: &[],
     call: None,
@@ -159,10 +164,15 @@ const ROW_11: Row = Row {
     call: None,
 };
 
-/// `if is 0 | wrap Markup; return`
+/// `if is 0 | wrap Markup; return; wrap Heading; return`
 const ROW_12: Row = Row {
     condition: Condition::Is(0),
-    before: &[Action::Wrap(SyntaxKind::Markup), Action::Return],
+    before: &[
+        Action::Wrap(SyntaxKind::Markup),
+        Action::Return,
+        Action::Wrap(SyntaxKind::Heading),
+        Action::Return,
+    ],
     take: Take::Nothing,
     after: &[],
     call: None,
@@ -246,8 +256,17 @@ const ROW_18: Row = Row {
     }),
 };
 
-/// `if empty | heading`
+/// `| wrap Markup; return`
 const ROW_19: Row = Row {
+    condition: Condition::Always,
+    before: &[Action::Wrap(SyntaxKind::Markup), Action::Return],
+    take: Take::Nothing,
+    after: &[],
+    call: None,
+};
+
+/// `if empty | heading`
+const ROW_20: Row = Row {
     condition: Condition::Empty,
     before: &[],
     take: Take::Nothing,
@@ -262,7 +281,7 @@ const ROW_19: Row = Row {
 };
 
 /// `if empty | item`
-const ROW_20: Row = Row {
+const ROW_21: Row = Row {
     condition: Condition::Empty,
     before: &[],
     take: Take::Nothing,
@@ -277,7 +296,7 @@ const ROW_20: Row = Row {
 };
 
 /// `if empty | term`
-const ROW_21: Row = Row {
+const ROW_22: Row = Row {
     condition: Condition::Empty,
     before: &[],
     take: Take::Nothing,
@@ -291,8 +310,17 @@ const ROW_21: Row = Row {
     }),
 };
 
+/// `if is 0 | wrap Markup; return`
+const ROW_23: Row = Row {
+    condition: Condition::Is(0),
+    before: &[Action::Wrap(SyntaxKind::Markup), Action::Return],
+    take: Take::Nothing,
+    after: &[],
+    call: None,
+};
+
 /// `| -> term.colon; term.head`
-const ROW_22: Row = Row {
+const ROW_24: Row = Row {
     condition: Condition::Always,
     before: &[Action::Goto(State::TermColon)],
     take: Take::Nothing,
@@ -307,7 +335,7 @@ const ROW_22: Row = Row {
 };
 
 /// `| eat; -> term.head.rest; term.name`
-const ROW_23: Row = Row {
+const ROW_25: Row = Row {
     condition: Condition::Always,
     before: &[],
     take: Take::Eat,
@@ -322,7 +350,7 @@ const ROW_23: Row = Row {
 };
 
 /// `| expected colon; -> term.colon.rest2; item.body`
-const ROW_24: Row = Row {
+const ROW_26: Row = Row {
     condition: Condition::Always,
     before: &[
         Action::Expected(Expectation::Colon),
@@ -340,7 +368,7 @@ const ROW_24: Row = Row {
 };
 
 /// `| eat; -> term.colon.rest1; item.body`
-const ROW_25: Row = Row {
+const ROW_27: Row = Row {
     condition: Condition::Always,
     before: &[],
     take: Take::Eat,
@@ -355,7 +383,7 @@ const ROW_25: Row = Row {
 };
 
 /// `| eat; -> reference.supplement`
-const ROW_26: Row = Row {
+const ROW_28: Row = Row {
     condition: Condition::Always,
     before: &[],
     take: Take::Eat,
@@ -364,7 +392,7 @@ const ROW_26: Row = Row {
 };
 
 /// `| wrap Ref; return`
-const ROW_27: Row = Row {
+const ROW_29: Row = Row {
     condition: Condition::Always,
     before: &[Action::Wrap(SyntaxKind::Ref), Action::Return],
     take: Take::Nothing,
@@ -373,7 +401,7 @@ const ROW_27: Row = Row {
 };
 
 /// `if direct | -> reference.supplement.rest; content`
-const ROW_28: Row = Row {
+const ROW_30: Row = Row {
     condition: Condition::Direct,
     before: &[Action::Goto(State::ReferenceSupplementRest)],
     take: Take::Nothing,
@@ -387,12 +415,12 @@ const ROW_28: Row = Row {
     }),
 };
 
-/// `| eat; -> content.close; enter content.body`
-const ROW_29: Row = Row {
+/// `| eat; enter content.body`
+const ROW_31: Row = Row {
     condition: Condition::Always,
     before: &[],
     take: Take::Eat,
-    after: &[Action::Goto(State::ContentClose)],
+    after: &[],
     call: Some(Call {
         state: State::ContentBody,
         number: 0,
@@ -402,36 +430,13 @@ const ROW_29: Row = Row {
     }),
 };
 
-/// `| flush; wrap Markup; return`
-const ROW_30: Row = Row {
-    condition: Condition::Always,
-    before: &[
-        Action::Flush,
-        Action::Wrap(SyntaxKind::Markup),
-        Action::Return,
-    ],
-    take: Take::Nothing,
-    after: &[],
-    call: None,
-};
-
-/// `if is 0 | flush; wrap Markup; return`
-const ROW_31: Row = Row {
-    condition: Condition::Is(0),
-    before: &[
-        Action::Flush,
-        Action::Wrap(SyntaxKind::Markup),
-        Action::Return,
-    ],
-    take: Take::Nothing,
-    after: &[],
-    call: None,
-};
-
-/// `| unclosed; wrap ContentBlock; return`
+/// `| flush; wrap Markup; return; unclosed; wrap ContentBlock; return`
 const ROW_32: Row = Row {
     condition: Condition::Always,
     before: &[
+        Action::Flush,
+        Action::Wrap(SyntaxKind::Markup),
+        Action::Return,
         Action::Unclosed,
         Action::Wrap(SyntaxKind::ContentBlock),
         Action::Return,
@@ -441,26 +446,21 @@ const ROW_32: Row = Row {
     call: None,
 };
 
-/// `| eat; wrap ContentBlock; return`
+/// `if is 0 | flush; wrap Markup; return; eat; wrap ContentBlock; return`
 const ROW_33: Row = Row {
-    condition: Condition::Always,
-    before: &[],
+    condition: Condition::Is(0),
+    before: &[
+        Action::Flush,
+        Action::Wrap(SyntaxKind::Markup),
+        Action::Return,
+    ],
     take: Take::Eat,
     after: &[Action::Wrap(SyntaxKind::ContentBlock), Action::Return],
     call: None,
 };
 
-/// `| wrap Heading; return`
-const ROW_34: Row = Row {
-    condition: Condition::Always,
-    before: &[Action::Wrap(SyntaxKind::Heading), Action::Return],
-    take: Take::Nothing,
-    after: &[],
-    call: None,
-};
-
 /// `| wrap ListItem; return`
-const ROW_35: Row = Row {
+const ROW_34: Row = Row {
     condition: Condition::Always,
     before: &[Action::Wrap(SyntaxKind::ListItem), Action::Return],
     take: Take::Nothing,
@@ -469,7 +469,7 @@ const ROW_35: Row = Row {
 };
 
 /// `| wrap EnumItem; return`
-const ROW_36: Row = Row {
+const ROW_35: Row = Row {
     condition: Condition::Always,
     before: &[Action::Wrap(SyntaxKind::EnumItem), Action::Return],
     take: Take::Nothing,
@@ -478,7 +478,7 @@ const ROW_36: Row = Row {
 };
 
 /// `| return`
-const ROW_37: Row = Row {
+const ROW_36: Row = Row {
     condition: Condition::Always,
     before: &[Action::Return],
     take: Take::Nothing,
@@ -487,7 +487,7 @@ const ROW_37: Row = Row {
 };
 
 /// `| wrap TermItem; return`
-const ROW_38: Row = Row {
+const ROW_37: Row = Row {
     condition: Condition::Always,
     before: &[Action::Wrap(SyntaxKind::TermItem), Action::Return],
     take: Take::Nothing,
@@ -543,17 +543,17 @@ pub(crate) fn item_body(class: Class) -> &'static [Row]
     ensures { rows_of result.now ≡ item_body class }
 {
     match class {
-        Class::End => &[ROW_1],
+        Class::End => &[ROW_19],
         Class::Text | Class::Linebreak | Class::Escape | Class::Label | Class::Raw => &[ROW_3],
         Class::RefMarker => &[ROW_4],
-        Class::HeadingMarker => &[ROW_19, ROW_5, ROW_6],
-        Class::ListMarker | Class::EnumMarker => &[ROW_20, ROW_7, ROW_6],
-        Class::TermMarker => &[ROW_21, ROW_8, ROW_6],
+        Class::HeadingMarker => &[ROW_20, ROW_5, ROW_6],
+        Class::ListMarker | Class::EnumMarker => &[ROW_21, ROW_7, ROW_6],
+        Class::TermMarker => &[ROW_22, ROW_8, ROW_6],
         Class::Hash => &[ROW_9],
         Class::Dollar => &[ROW_10],
         Class::Plain | Class::Colon => &[ROW_6],
         Class::LeftBracket => &[ROW_11],
-        Class::RightBracket => &[ROW_12, ROW_13, ROW_14],
+        Class::RightBracket => &[ROW_23, ROW_13, ROW_14],
         Class::Star => &[ROW_15],
         Class::Underscore => &[ROW_16],
         _ => &[ROW_2],
@@ -565,7 +565,7 @@ pub(crate) fn term(class: Class) -> &'static [Row]
     ensures { rows_of result.now ≡ term class }
 {
     match class {
-        Class::TermMarker => &[ROW_22],
+        Class::TermMarker => &[ROW_24],
         _ => &[],
     }
 }
@@ -575,7 +575,7 @@ pub(crate) fn term_head(class: Class) -> &'static [Row]
     ensures { rows_of result.now ≡ term_head class }
 {
     match class {
-        Class::TermMarker => &[ROW_23],
+        Class::TermMarker => &[ROW_25],
         _ => &[],
     }
 }
@@ -585,7 +585,7 @@ pub(crate) fn term_name(class: Class) -> &'static [Row]
     ensures { rows_of result.now ≡ term_name class }
 {
     match class {
-        Class::End | Class::Colon => &[ROW_1],
+        Class::End | Class::Colon => &[ROW_19],
         Class::Text | Class::Linebreak | Class::Escape | Class::Label | Class::Raw => &[ROW_3],
         Class::RefMarker => &[ROW_4],
         Class::HeadingMarker => &[ROW_5, ROW_6],
@@ -595,7 +595,7 @@ pub(crate) fn term_name(class: Class) -> &'static [Row]
         Class::Dollar => &[ROW_10],
         Class::Plain => &[ROW_6],
         Class::LeftBracket => &[ROW_11],
-        Class::RightBracket => &[ROW_12, ROW_13, ROW_14],
+        Class::RightBracket => &[ROW_23, ROW_13, ROW_14],
         Class::Star => &[ROW_15],
         Class::Underscore => &[ROW_16],
         _ => &[ROW_2],
@@ -607,8 +607,8 @@ pub(crate) fn term_colon(class: Class) -> &'static [Row]
     ensures { rows_of result.now ≡ term_colon class }
 {
     match class {
-        Class::Colon => &[ROW_25],
-        _ => &[ROW_24],
+        Class::Colon => &[ROW_27],
+        _ => &[ROW_26],
     }
 }
 
@@ -617,7 +617,7 @@ pub(crate) fn reference(class: Class) -> &'static [Row]
     ensures { rows_of result.now ≡ reference class }
 {
     match class {
-        Class::RefMarker => &[ROW_26],
+        Class::RefMarker => &[ROW_28],
         _ => &[],
     }
 }
@@ -627,8 +627,8 @@ pub(crate) fn reference_supplement(class: Class) -> &'static [Row]
     ensures { rows_of result.now ≡ reference_supplement class }
 {
     match class {
-        Class::LeftBracket => &[ROW_28, ROW_27],
-        _ => &[ROW_27],
+        Class::LeftBracket => &[ROW_30, ROW_29],
+        _ => &[ROW_29],
     }
 }
 
@@ -637,7 +637,7 @@ pub(crate) fn content(class: Class) -> &'static [Row]
     ensures { rows_of result.now ≡ content class }
 {
     match class {
-        Class::LeftBracket => &[ROW_29],
+        Class::LeftBracket => &[ROW_31],
         _ => &[],
     }
 }
@@ -647,78 +647,61 @@ pub(crate) fn content_body(class: Class) -> &'static [Row]
     ensures { rows_of result.now ≡ content_body class }
 {
     match class {
-        Class::End => &[ROW_30],
+        Class::End => &[ROW_32],
         Class::Text | Class::Linebreak | Class::Escape | Class::Label | Class::Raw => &[ROW_3],
         Class::RefMarker => &[ROW_4],
-        Class::HeadingMarker => &[ROW_19, ROW_5, ROW_6],
-        Class::ListMarker | Class::EnumMarker => &[ROW_20, ROW_7, ROW_6],
-        Class::TermMarker => &[ROW_21, ROW_8, ROW_6],
+        Class::HeadingMarker => &[ROW_20, ROW_5, ROW_6],
+        Class::ListMarker | Class::EnumMarker => &[ROW_21, ROW_7, ROW_6],
+        Class::TermMarker => &[ROW_22, ROW_8, ROW_6],
         Class::Hash => &[ROW_9],
         Class::Dollar => &[ROW_10],
         Class::Plain | Class::Colon => &[ROW_6],
         Class::LeftBracket => &[ROW_11],
-        Class::RightBracket => &[ROW_31, ROW_13, ROW_14],
+        Class::RightBracket => &[ROW_33, ROW_13, ROW_14],
         Class::Star => &[ROW_15],
         Class::Underscore => &[ROW_16],
         _ => &[ROW_2],
     }
 }
 
-/// The end of a block of content.
-pub(crate) fn content_close(class: Class) -> &'static [Row]
-    ensures { rows_of result.now ≡ content_close class }
-{
-    match class {
-        Class::RightBracket => &[ROW_33],
-        _ => &[ROW_32],
-    }
-}
-
-/// The rest of a row of `heading`, once the frame that it opened has returned.
-pub(crate) fn heading_rest(_class: Class) -> &'static [Row]
-    ensures { rows_of result.now ≡ heading_rest _class }
-{
-    &[ROW_34]
-}
-
 /// The rest of a row of `item`, once the frame that it opened has returned.
 pub(crate) fn item_rest1(_class: Class) -> &'static [Row]
     ensures { rows_of result.now ≡ item_rest1 _class }
 {
-    &[ROW_35]
+    &[ROW_34]
 }
 
 /// The rest of a row of `item`, once the frame that it opened has returned.
 pub(crate) fn item_rest2(_class: Class) -> &'static [Row]
     ensures { rows_of result.now ≡ item_rest2 _class }
 {
-    &[ROW_36]
+    &[ROW_35]
 }
 
 /// The rest of a row of `term.head`, once the frame that it opened has returned.
 pub(crate) fn term_head_rest(_class: Class) -> &'static [Row]
     ensures { rows_of result.now ≡ term_head_rest _class }
 {
-    &[ROW_37]
+    &[ROW_36]
 }
 
 /// The rest of a row of `term.colon`, once the frame that it opened has returned.
 pub(crate) fn term_colon_rest1(_class: Class) -> &'static [Row]
     ensures { rows_of result.now ≡ term_colon_rest1 _class }
 {
-    &[ROW_38]
+    &[ROW_37]
 }
 
 /// The rest of a row of `term.colon`, once the frame that it opened has returned.
 pub(crate) fn term_colon_rest2(_class: Class) -> &'static [Row]
     ensures { rows_of result.now ≡ term_colon_rest2 _class }
 {
-    &[ROW_38]
+    &[ROW_37]
 }
 
 /// The rest of a row of `reference.supplement`, once the frame that it opened has returned.
 pub(crate) fn reference_supplement_rest(_class: Class) -> &'static [Row]
     ensures { rows_of result.now ≡ reference_supplement_rest _class }
 {
-    &[ROW_27]
+    &[ROW_29]
 }

@@ -1,8 +1,8 @@
 //! White space and comments before a token.
-ghost use Rattle.std.specs.Prelude.{true, false, ◌≡◌, [], ◌∷◌, slice_index, take, IfSome, IsSome};
+ghost use Rattle.std.specs.Prelude.{true, false, ◌≡◌, ◌↔◌, [], ◌∷◌, take, IfSome, IsSome};
 ghost use Rattle.typst_lexer.specs.declared.mode.Mode.{Mode};
 ghost use Rattle.typst_lexer.specs.declared.place.Behind.{Behind};
-ghost use Rattle.typst_lexer.specs.LoneBlank.{IsBlankByte, IsLone};
+ghost use Rattle.typst_lexer.specs.LoneBlank.{IsAlone, IsBlankByte, IsLone};
 ghost use Rattle.typst_lexer.specs.Spaces.{is_markup};
 ghost use Rattle.typst_lexer.specs.White.{begins_white, is_solid, is_space_next, is_white_next};
 
@@ -60,7 +60,7 @@ fn begins_solid(text: &[u8]) -> bool
 #[tactic(auto, using(crate::proofs::LoneBlanks::byte_is))]
 pub fn lone_blank(text: &[u8]) -> Option<u8>
     ensures lone { IfSome result (λ byte. IsLone text.now) }
-    ensures found { IsBlankByte (slice_index text.now 0) → is_solid (slice_index text.now 1) ≡ true → IsSome result }
+    ensures found { IsSome result ↔ IsAlone text.now }
     ensures byte { IfSome result (λ byte. take 1 text.now ≡ byte ∷ []) }
     ensures kind { IfSome result IsBlankByte }
 {

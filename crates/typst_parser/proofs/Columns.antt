@@ -33,7 +33,7 @@ module _ (b : ℕ) (bs : List ℕ) (low : b < 128) where
 no_newline : (b : ℕ) → 32 ≤ b → b ≤ 126 → is_newline b ≡ false
 no_newline b above below = grind (arith, nat_tests)
 
-pub printable_is_no_newline : (w : List ℕ) → 0 < length w → 32 ≤ get_or w 0 0 → get_or w 0 0 ≤ 126 → begins_char is_newline w ≡ false
+printable_is_no_newline : (w : List ℕ) → 0 < length w → 32 ≤ get_or w 0 0 → get_or w 0 0 ≤ 126 → begins_char is_newline w ≡ false
 printable_is_no_newline [] some above below = absurd (omega arith)
 printable_is_no_newline (b ∷ bs) some above below = begins_is b bs (omega arith) is_newline ∙ no_newline b above below
 
@@ -42,6 +42,9 @@ no_middle b low = grind (arith, nat_tests)
 
 printable_low : (b : ℕ) → is_printable b ≡ true → (32 ≤ b) × (b ≤ 126)
 printable_low b e = (grind (arith, nat_tests), grind (arith, nat_tests))
+
+pub printable_begins : (w : List ℕ) → 0 < length w → is_printable (get_or w 0 0) ≡ true → begins_char is_newline w ≡ false
+printable_begins w some e = let bounds = printable_low (get_or w 0 0) e in printable_is_no_newline w some bounds.0 bounds.1
 
 -- a printable character is one more column
 step_is : (column b : ℕ) (bs : List ℕ) → is_printable b ≡ true → column_step column (b ∷ bs) ≡ capped_sum column 1

@@ -141,6 +141,7 @@ unclosed_cut text n (suc i) (e ∷ es) p = (p.0, unclosed_cut text (n + bytes_of
 act_cut : (base : ℕ) (text : List ℕ) (most : ℕ) (a : Action) (s : Stack) → IsGood base text s → IsCut text s → IsCut text (act most (take (events_end s) text) a s)
 act_cut base text most (actions.Goto state) s h p = p
 act_cut base text most actions.Return s h p = returned_cut text (last_of s.below) s p
+act_cut base text most (actions.Around state number) s h p = settled_cut base text s h p
 act_cut base text most (actions.Wrap kind) s h p = wrapped_cut base text most kind (settled s) (settled_good base text s h) (settled_cut base text s h p)
 act_cut base text most actions.Flush s h p = flushed_cut base text s h p
 act_cut base text most actions.Up s h p = p

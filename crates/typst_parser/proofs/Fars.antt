@@ -60,6 +60,7 @@ changed_far f s = elim (s.top.trees == 0) as (λ b. (cond b s (record s { events
 pub act_far : (most : ℕ) (text : List ℕ) (a : Action) (s : Stack) → (act most text a s).far ≡ s.far
 act_far most text (actions.Goto state) s = refl
 act_far most text actions.Return s = returned_far (last_of s.below) s
+act_far most text (actions.Around state number) s = settled_far s
 act_far most text (actions.Wrap kind) s = wrapped_far most kind (settled s) ∙ settled_far s
 act_far most text actions.Flush s = settled_far s
 act_far most text actions.Up s = refl

@@ -191,6 +191,7 @@ before_fits base text s h =
 pub act_good : (base : ℕ) (text : List ℕ) (most : ℕ) (a : Action) (s : Stack) → IsGood base text s → IsGood base text (act most (take (events_end s) text) a s)
 act_good base text most (actions.Goto state) s h = h
 act_good base text most actions.Return s h = returned_good base text (last_of s.below) s h
+act_good base text most (actions.Around state number) s h = settled_good base text s h
 act_good base text most (actions.Wrap kind) s h = wrapped_good base text most kind (settled s) (settled_good base text s h)
 act_good base text most actions.Flush s h = flushed_good base text s h
 act_good base text most actions.Up s h = h

@@ -1,11 +1,12 @@
 -- What the machine keeps of levels: no tree has more than the table allows.
-use Rattle.std.proofs.Common.{◌≡◌, ℕ, zero, suc, ◌+◌, ◌≤◌, ◌<◌, ◌||◌, ◌==◌, nat_lt, Bool, true, false, cond, List, [], ◌∷◌, ◌++◌, length, take, drop, Option, Some, None, refl, sym, ap, subst, ◌∙◌, arith, length-append}
+use Rattle.std.proofs.Common.{◌≡◌, ℕ, zero, suc, ◌+◌, ◌-◌, ◌≤◌, ◌<◌, min, ◌||◌, ◌==◌, nat_lt, Bool, true, false, cond, List, [], ◌∷◌, ◌++◌, length, take, drop, Option, Some, None, refl, sym, ap, subst, ◌∙◌, arith, length-append}
 use Rattle.std.proofs.lemmas.Bool.Decides.{nat_tests}
+use Rattle.std.specs.List.{slice_get}
 use Rattle.typst_base.specs.declared.kind.SyntaxKind.{SyntaxKind}
 use Rattle.typst_base.specs.declared.kind.SyntaxKind.TheVariants as kinds
-use Rattle.typst_parser.specs.Actions.{act, acts, as_unclosed, changed, expected_once, flushed, is_error_kind, joined, opened, rejoined, returned_by, wrapped}
+use Rattle.typst_parser.specs.Actions.{act, acts, as_unclosed, changed, covered, covered_by, expected_once, flushed, is_error_kind, joined, opened, rejoined, returned_by, surrounded, wrapped}
 use Rattle.typst_parser.specs.Classes.{fault_of}
-use Rattle.typst_parser.specs.Events.{greatest}
+use Rattle.typst_parser.specs.Events.{greatest, is_leaf}
 use Rattle.typst_parser.specs.Frames.{ended, events_end, grown, is_looking, is_taken, looking, placed, pushed, settled, settled_by}
 use Rattle.typst_parser.specs.Last.{last_of}
 use Rattle.typst_parser.proofs.Lasts.{last_was}
@@ -32,13 +33,15 @@ use Rattle.typst_grammar.specs.declared.row.Mode.{Mode as RowMode}
 use Rattle.typst_grammar.specs.declared.row.Take.{Take}
 use Rattle.typst_grammar.specs.declared.row.Take.TheVariants as takes
 use Rattle.typst_grammar.specs.declared.rows.Class.TheVariants.{End}
+use Rattle.typst_grammar.specs.declared.rows.State.{State}
 use Rattle.typst_lexer.specs.declared.head.FirstToken.{FirstToken}
 use Rattle.typst_lexer.specs.declared.mode.Mode.{Mode}
 use Rattle.typst_lexer.specs.declared.token.TokenKind.{TokenKind}
 use Rattle.typst_lexer.specs.declared.token.TokenKind.TheVariants as tokens
 use Rattle.typst_parser.proofs.Changes.{mistaken_low, raw_tops, retag_low, unique_low}
 use Rattle.typst_parser.proofs.Links.{changed_past}
-use Rattle.typst_parser.proofs.Tops.{Tall, all_join, all_ones, ones, tall_around, tall_join, tall_lower, tall_open, tall_push, tall_return, tall_top, tall_white, tops, tops_onto, tops-append, unclosed_tops}
+use Rattle.typst_parser.proofs.Walking.{last_split}
+use Rattle.typst_parser.proofs.Tops.{Tall, all_join, all_ones, first_fewer, ones, tall_around, tall_cover, tall_join, tall_lower, tall_open, tall_push, tall_return, tall_top, tall_white, tops, tops_onto, tops-append, unclosed_tops}
 
 pub record High (most : ℕ) (events white : List Event) (top : Frame) (below : List Frame) : Type 0 where
   pub all : greatest (tops events) ≤ most
@@ -112,6 +115,31 @@ opened_high : (most : ℕ) (c : Call) (s : Stack) → IsHigh most s → IsHigh m
 opened_high most c s h = record {
   all = h.all;
   frames = tall_open (tops s.events) s.below s.top h.frames;
+  least = omega arith;
+  leaves = h.leaves;
+}
+
+-- a frame opens around the last tree, if that is a leaf
+
+covered_few : (o : Option Event) (trees : ℕ) → covered_by o trees ≤ trees
+covered_few None trees = omega arith
+covered_few (Some e) trees = elim (is_leaf e) as (λ b. cond b (min trees 1) 0 ≤ trees) [ true ↦ omega arith | false ↦ omega arith ]
+
+covered_low : (es : List Event) (trees : ℕ) (o : Option Event) → slice_get es (length es - 1) ≡ o → greatest (take (covered_by o trees) (tops es)) ≤ 2
+covered_low es trees None is = omega arith
+covered_low es trees (Some (Error fault len)) is = omega arith
+covered_low es trees (Some (Node kind children)) is = omega arith
+covered_low es trees (Some (Leaf kind len)) is =
+    let front : List Event = take (length es - 1) es in
+    let hs : tops es ≡ 1 ∷ tops front = ap tops (last_split es (Leaf kind len) is) ∙ tops-append [] front (Leaf kind len ∷ []) in
+    subst (λ (ks : List ℕ). greatest (take (min trees 1) ks) ≤ 2) (sym hs) (omega (arith, first_fewer (min trees 1) 1 (1 ∷ tops front) (omega arith)))
+
+surrounded_high : (most : ℕ) (state : State) (number : ℕ) (s : Stack) → IsHigh most s → IsHigh most (surrounded state number s)
+surrounded_high most state number s h = record {
+  all = h.all;
+  frames = tall_cover (covered s) (tops s.events) s.below (record s.top { state = state; trees = s.top.trees - covered s }) s.top.trees
+      (covered_low s.events s.top.trees (slice_get s.events (length s.events - 1)) refl)
+      (omega (arith, covered_few (slice_get s.events (length s.events - 1)) s.top.trees)) h.frames;
   least = omega arith;
   leaves = h.leaves;
 }
@@ -196,6 +224,7 @@ unclosed_low i es n = omega (arith, ap (λ (hs : List ℕ). greatest (take n hs)
 act_high : (text : List ℕ) (most : ℕ) (a : Action) (s : Stack) → 2 ≤ most → IsHigh most s → IsHigh most (act most text a s)
 act_high text most (actions.Goto state) s two h = record { all = h.all; frames = h.frames; least = h.least; leaves = h.leaves }
 act_high text most actions.Return s two h = returned_high most (last_of s.below) s refl h
+act_high text most (actions.Around state number) s two h = surrounded_high most state number (settled s) (settled_high most s two h)
 act_high text most (actions.Wrap kind) s two h = wrapped_high most kind (settled s) two (settled_high most s two h)
 act_high text most actions.Flush s two h = flushed_high most s two h
 act_high text most actions.Up s two h = record { all = h.all; frames = h.frames; least = h.least; leaves = h.leaves }

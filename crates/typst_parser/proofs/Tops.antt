@@ -193,13 +193,13 @@ tall_around n (suc j) hs (f ∷ fs) trees levels low h =
       tall_around n j hs fs trees levels low h.1,
     )
 
--- a frame opens
-pub tall_open : (hs : List ℕ) (fs : List Frame) (f : Frame) → Tall hs fs f.trees f.levels → Tall hs (fs ++ f ∷ []) 0 2
-tall_open hs [] f h = (omega (arith, h, first_fewer (f.trees + 0 + 0) f.trees hs (omega arith)), omega arith)
-tall_open hs (g ∷ fs) f h =
+-- a frame opens, and takes over so many of the last trees of the one around it
+pub tall_cover : (n : ℕ) (hs : List ℕ) (fs : List Frame) (f : Frame) (trees : ℕ) → greatest (take n hs) ≤ 2 → f.trees + n ≤ trees → Tall hs fs trees f.levels → Tall hs (fs ++ f ∷ []) n 2
+tall_cover n hs [] f trees low is h = (omega (arith, h, first_fewer (f.trees + 0 + n) trees hs (omega (arith, is))), low)
+tall_cover n hs (g ∷ fs) f trees low is h =
     let sums : (fs : List Frame) → sum_trees (fs ++ f ∷ []) ≡ sum_trees fs + f.trees = sum_push f in (
-      omega (arith, h.0, most_push f fs, first_fewer (g.trees + sum_trees (fs ++ f ∷ []) + 0) (g.trees + sum_trees fs + f.trees) hs (omega (arith, sums fs))),
-      tall_open hs fs f h.1,
+      omega (arith, h.0, most_push f fs, first_fewer (g.trees + sum_trees (fs ++ f ∷ []) + n) (g.trees + sum_trees fs + trees) hs (omega (arith, sums fs, is))),
+      tall_cover n hs fs f trees low is h.1,
     )
   where
     sum_push : (f : Frame) (fs : List Frame) → sum_trees (fs ++ f ∷ []) ≡ sum_trees fs + f.trees
@@ -209,6 +209,10 @@ tall_open hs (g ∷ fs) f h =
     most_push : (f : Frame) (fs : List Frame) → most_of fs f.levels ≤ most_of (fs ++ f ∷ []) 2
     most_push f [] = omega arith
     most_push f (g ∷ fs) = omega (arith, most_push f fs)
+
+-- a frame opens
+pub tall_open : (hs : List ℕ) (fs : List Frame) (f : Frame) → Tall hs fs f.trees f.levels → Tall hs (fs ++ f ∷ []) 0 2
+tall_open hs fs f h = tall_cover 0 hs fs f f.trees (omega arith) (omega arith) h
 
 -- a frame ends
 pub tall_return : (hs : List ℕ) (fs : List Frame) (f : Frame) (trees levels more : ℕ) → more ≤ f.trees + trees → Tall hs (fs ++ f ∷ []) trees levels → Tall hs fs more (max f.levels levels)

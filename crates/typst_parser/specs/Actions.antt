@@ -1,8 +1,10 @@
 -- What actions do with the stack.
+use Rattle.std.specs.List.{slice_get}
 use Rattle.std.specs.Prelude.{ℕ, suc, ◌+◌, ◌-◌, ◌==◌, max, min, nat_lt, Bool, true, List, [], ◌∷◌, ◌++◌, length, take, Option, Some, None, if◌then◌else◌}
 use Rattle.typst_base.specs.contracts.kind.SyntaxKind.{the_type}
 use Rattle.typst_base.specs.declared.kind.SyntaxKind.{SyntaxKind}
 use Rattle.typst_base.specs.declared.kind.SyntaxKind.TheVariants as kinds
+use Rattle.typst_parser.specs.Events.{is_leaf}
 use Rattle.typst_parser.specs.Frames.{events_end, placed, pushed, settled}
 use Rattle.typst_parser.specs.Last.{last_of}
 use Rattle.typst_parser.specs.Lists.{changed_at}
@@ -60,6 +62,24 @@ opened c s = record s {
 -- What is missing becomes an error, and a frame opens behind it.
 abbrev pub called : Call → Stack → Stack
 called c s = opened c (settled s)
+
+-- how many trees a frame that opens around the last tree takes over from one with so many: that tree, if it is a leaf
+abbrev pub covered_by : Option Event → ℕ → ℕ
+covered_by (Some e) trees = if is_leaf e then min trees 1 else 0
+covered_by None trees = 0
+
+-- how many trees a frame that opens around the last tree takes over
+abbrev pub covered : Stack → ℕ
+covered s = covered_by (slice_get s.events (length s.events - 1)) s.top.trees
+
+-- A frame with a number opens around the last tree, if that is a leaf, and the frame that had it goes on in a state. White
+-- space before the next token goes into the new frame.
+abbrev pub surrounded : State → ℕ → Stack → Stack
+surrounded state number s = let n : ℕ = covered s in record s {
+  top = record s.top { start = length s.events - n; trees = n; number = number; levels = 2 };
+  below = s.below ++ record s.top { state = state; trees = s.top.trees - n } ∷ [];
+  judge = length s.below + 1;
+}
 
 -- the innermost frame goes on in another state
 abbrev pub gone_to : State → Stack → Stack
@@ -127,6 +147,7 @@ as_unclosed e = e
 abbrev pub act : ℕ → List ℕ → Action → Stack → Stack
 act most text (actions.Goto state) s = gone_to state s
 act most text actions.Return s = returned s
+act most text (actions.Around state number) s = surrounded state number (settled s)
 act most text (actions.Wrap kind) s = wrapped most kind (settled s)
 act most text actions.Flush s = flushed s
 act most text actions.Up s = numbered (capped_sum s.top.number 1) s

@@ -1,5 +1,5 @@
 -- Events: pieces of finished syntax, in the order of the text. A node comes after its children.
-use Rattle.std.specs.Prelude.{ℕ, ◌+◌, ◌-◌, suc, List, [], ◌∷◌, ◌++◌, length, drop, take, max}
+use Rattle.std.specs.Prelude.{ℕ, ◌+◌, ◌-◌, suc, Bool, true, false, List, [], ◌∷◌, ◌++◌, length, drop, take, max}
 use Rattle.std.specs.Str.{IsCharBoundary}
 use Rattle.typst_base.specs.declared.kind.SyntaxKind.{SyntaxKind}
 use Rattle.typst_base.specs.declared.kind.SyntaxKind.TheVariants as kinds
@@ -17,6 +17,11 @@ abbrev pub kind_of : Event → SyntaxKind
 kind_of (Leaf kind len) = kind
 kind_of (Error fault len) = kinds.Error
 kind_of (Node kind children) = kind
+
+-- whether an event is a leaf
+abbrev pub is_leaf : Event → Bool
+is_leaf (Leaf kind len) = true
+is_leaf _ = false
 
 -- how many bytes the trees of some events have
 abbrev pub bytes : List Event → ℕ

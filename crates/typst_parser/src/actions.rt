@@ -1,6 +1,6 @@
 //! What actions do with the stack.
 ghost use Rattle.std.specs.Prelude.{◌≡◌, ◌+◌, ◌<◌, ◌^◌, take, OnOk};
-ghost use Rattle.typst_parser.specs.Actions.{act, acts, as_unclosed, called, changed, column_of, expected_once, flushed, inherited, is_error_kind, joined, opened_frame, rejoined, returned, wrapped};
+ghost use Rattle.typst_parser.specs.Actions.{act, acts, as_unclosed, called, changed, column_of, covered, expected_once, flushed, inherited, is_error_kind, joined, opened_frame, rejoined, returned, surrounded, wrapped};
 ghost use Rattle.typst_parser.specs.Frames.{events_end, settled};
 ghost use Rattle.typst_parser.specs.Lists.{changed_at};
 ghost use Rattle.typst_parser.specs.Mistakes.{mistaken};
@@ -18,7 +18,7 @@ use crate::table::is_last;
 use crate::unique::make_unique;
 use std::alloc::{AllocError, Global};
 use typst_base::SyntaxKind;
-use typst_grammar::{Action, Call, Expectation, Map, Newline, Unique};
+use typst_grammar::{Action, Call, Expectation, Map, Newline, State, Unique};
 
 /// What a line feed does in a frame that opens in another one.
 fn inherited(new: Option<Newline>, old: Newline) -> Newline
@@ -109,6 +109,39 @@ impl Stack {
         if call.enters {
             self.judge = self.below.len();
         }
+        Ok(())
+    }
+
+    /// How many trees a frame that opens around the last tree takes over: that tree, if it is a leaf.
+    fn covered(&self) -> usize
+        ensures { result ≡ covered (stack_of self.now) }
+    {
+        match self.events.last() {
+            Some(Event::Leaf { .. }) => self.top.trees.min(1),
+            _ => 0,
+        }
+    }
+
+    /// Opens a frame with a number around the last tree, if that is a leaf. The frame that had it goes on in a state. White
+    /// space before the next token goes into the new frame.
+    fn surround(&mut self, state: State, number: usize) -> Result<(), AllocError>
+        ensures { OnOk result (stack_of self.new ≡ surrounded state number (settled (stack_of self.old))) }
+    {
+        self.settle()?;
+        let covered = self.covered();
+        self.below.push(Frame {
+            state,
+            trees: self.top.trees - covered,
+            ..self.top
+        })?;
+        self.top = Frame {
+            start: self.events.len() - covered,
+            trees: covered,
+            number,
+            levels: LEAST,
+            ..self.top
+        };
+        self.judge = self.below.len();
         Ok(())
     }
 
@@ -245,6 +278,7 @@ impl Stack {
         match action {
             Action::Goto(state) => self.top.state = state,
             Action::Return => self.end_frame(),
+            Action::Around(state, number) => self.surround(state, number)?,
             Action::Wrap(kind) => {
                 self.settle()?;
                 self.wrap(kind, most)?;

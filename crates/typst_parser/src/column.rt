@@ -16,11 +16,11 @@ fn is_printable(byte: u8) -> bool
 
 /// Whether a text begins with a printable character of ASCII, which is no newline.
 #[inline(always)]
-#[tactic(auto, using(crate::proofs::Columns::printable_is_no_newline))]
+#[tactic(auto, using(crate::proofs::Columns::printable_begins))]
 fn begins_printable(text: &[u8]) -> bool
     ensures { result ≡ true → begins_char is_newline text.now ≡ false }
 {
-    matches!(text, [b' '..=b'~', ..])
+    matches!(text, [byte, ..] if is_printable(*byte))
 }
 
 /// Whether a text begins with a newline. For a printable character of ASCII nothing is decoded.

@@ -18,6 +18,9 @@ pub(crate) const LEAST: usize = 2;
 /// For how many events a stack has room from the start: most lines of a text have no more.
 const ROOM: usize = 64;
 
+/// For how many open frames it has room from the start.
+const DEPTH: usize = 16;
+
 /// An open frame: where in the syntax it is, and which trees are its own.
 #[derive(Clone, Copy)]
 pub struct Frame {
@@ -126,7 +129,7 @@ impl Stack {
             far: 0,
             phase: Phase::Looking,
             top: Frame::outermost(room),
-            below: Vec::new(alloc),
+            below: Vec::with_capacity(alloc, DEPTH)?,
             judge: 0,
         })
     }
@@ -191,14 +194,16 @@ impl Stack {
         }
     }
 
-    /// Puts white space before the next token behind all events, into the frame that judges.
+    /// Puts white space before the next token behind all events, into the frame that judges. Most often it is one event.
     pub(crate) fn place(&mut self) -> Result<(), AllocError>
         ensures { OnOk result (stack_of self.new ≡ placed (stack_of self.old)) }
     {
         let trees = self.white.len();
         self.count(trees);
-        if trees > 0 {
+        if trees > 1 {
             self.events.append(&mut self.white)?;
+        } else if let Some(event) = self.white.pop() {
+            self.events.push(event)?;
         }
         Ok(())
     }
