@@ -18,7 +18,9 @@ SOURCE = TABLE.relative_to(TOP)
 WRITTEN = f"Written by bench/grammar_crate.py from {SOURCE}: change that and run it."
 DECLARED = "Rattle.typst_grammar.specs.declared"
 # The enum of each action's word, by the action.
-WORDS = {"->": "State", "around": "State", "wrap": "SyntaxKind", "eat": "SyntaxKind", "retag": "Map", "unique": "Unique"}
+WORDS = {
+    "->": "State", "around": "State", "wrap": "SyntaxKind", "eat": "SyntaxKind", "delimit": "SyntaxKind", "retag": "Map", "unique": "Unique",
+}  # fmt: skip
 NAMES = {"->": "Goto"}
 
 
@@ -30,14 +32,16 @@ def expectations(table):
 
 
 def value(action):
-    """The enum, the variant and the number that an action has, or None."""
+    """What an action has: each variant with its enum, and a number. None if it has nothing."""
     if not action[1:]:
         return None
-    name, number = WORDS.get(action[0], "Expectation"), ()
-    said = action[1]
+    name = WORDS.get(action[0], "Expectation")
     if action[0] == "around":
-        said, *number = (said + " 0").split()[:2]
-    return name, said if name == "SyntaxKind" else camel(said), *number
+        state, number = (action[1] + " 0").split()[:2]
+        return (name, camel(state)), number
+    if name == "SyntaxKind":
+        return tuple((name, kind) for kind in action[1].split())
+    return ((name, camel(action[1])),)
 
 
 def take_of(row):
@@ -45,6 +49,12 @@ def take_of(row):
     if not row.take:
         return ("Nothing",)
     return ("EatAs", *row.take[1:]) if row.take[0] == "eat" and row.take[1:] else (row.take[0].capitalize(), *row.take[1:])
+
+
+def taken(take):
+    """What becomes of a token, as an action has it."""
+    kind = {"EatAs": "SyntaxKind", "Mistake": "Expectation"}.get(take[0])
+    return ((kind, take[1] if kind == "SyntaxKind" else camel(take[1])),) if kind else None
 
 
 def conditions(row):
@@ -103,7 +113,8 @@ class Parts:
 
 def of_enum(name, word, said):
     """A variant with what it holds, in code."""
-    return f"{name}::{word}" + (f"({', '.join([f'{said[0]}::{said[1]}', *said[2:]])})" if said else "")
+    held = (it if isinstance(it, str) else "::".join(it) for it in said or ())
+    return f"{name}::{word}" + (f"({', '.join(held)})" if said else "")
 
 
 def action_in_code(action):
@@ -111,8 +122,7 @@ def action_in_code(action):
 
 
 def take_in_code(take):
-    kind = {"EatAs": "SyntaxKind", "Mistake": "Expectation"}.get(take[0])
-    return of_enum("Take", take[0], (kind, take[1] if kind == "SyntaxKind" else camel(take[1])) if kind else None)
+    return of_enum("Take", take[0], taken(take))
 
 
 def condition_in_code(condition):
@@ -295,7 +305,8 @@ impl Expectation {{
 
 def variant_in_specs(module, word, said):
     enums = {"SyntaxKind": "kinds", "State": "states", "Expectation": "expectations", "Map": "maps", "Unique": "uniques"}
-    return f"{module}.{word}" + (f" {' '.join([f'{enums[said[0]]}.{said[1]}', *said[2:]])}" if said else "")
+    held = (it if isinstance(it, str) else f"{enums[it[0]]}.{it[1]}" for it in said or ())
+    return " ".join([f"{module}.{word}", *held])
 
 
 def action_in_specs(action):
@@ -303,8 +314,7 @@ def action_in_specs(action):
 
 
 def take_in_specs(take):
-    kind = {"EatAs": "SyntaxKind", "Mistake": "Expectation"}.get(take[0])
-    return variant_in_specs("takes", take[0], (kind, take[1] if kind == "SyntaxKind" else camel(take[1])) if kind else None)
+    return variant_in_specs("takes", take[0], taken(take))
 
 
 def condition_in_specs(condition):

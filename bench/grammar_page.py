@@ -36,6 +36,7 @@ def action_said(action):
         "wrap": f"make {code(said)}",
         "expected": f"expect {said}",
         "wrong": f"mistake for {said}",
+        "delimit": f"delimit by {' and '.join(map(code, rest))}",
         "retag": f"relabel by {code(said)}",
         "unique": f"check names: {said}",
     }

@@ -40,7 +40,7 @@ BOUNDS = {
     "text: place_of": (490, 520),
 }
 # The most instructions for each line of a text that is parsed: of paragraphs, of one block, and of items without blank lines.
-PER_LINE = {"text: parse": (9_400, 9_400), "text: parse block": (10_950, 10_800), "text: parse list": (11_300, 11_300)}
+PER_LINE = {"text: parse": (9_000, 9_000), "text: parse block": (10_950, 10_800), "text: parse list": (11_300, 11_300)}
 # The same for each piece of a text of one line that repeats it: brackets that nothing closes, operators, fields, calls, names.
 PER_PIECE = {
     "text: parse round": (2_900, 2_800),
@@ -54,7 +54,7 @@ PER_PIECE = {
     "text: parse keys": (8_300, 8_450),
 }
 # The same for each function of code and for each equation: of so many.
-PIECES, PER_LONG_PIECE = (100, 1_600), {"text: parse code": (119_500, 120_500), "text: parse equations": (67_700, 69_000)}
+PIECES, PER_LONG_PIECE = (100, 1_600), {"text: parse code": (116_500, 117_000), "text: parse equations": (58_500, 59_500)}
 # The most instructions for each level of a chain, whose leaf a reconciliation changes: at so many levels.
 LEVELS, PER_LEVEL = (30, 480), {"text: reconcile chain": (1_500, 1_210)}
 # The most bytes of memory that a call may ask for.

@@ -215,10 +215,14 @@ class Machine:
             self.settle()
             self.change(word, rest, top)
 
+    @staticmethod
+    def is_token(node):
+        return node.children is None and node.kind != "Error"
+
     def surround(self, top, state, number=0):
         """Opens a frame around the last node of the innermost one, if that is a token."""
         self.settle()
-        is_token = len(self.nodes) > top.start and self.nodes[-1].children is None and self.nodes[-1].kind != "Error"
+        is_token = len(self.nodes) > top.start and self.is_token(self.nodes[-1])
         top.state = state
         self.frames.append(Frame(state, len(self.nodes) - is_token, int(number), top.newline, top.column, top.room))
         self.judge = len(self.frames) - 1
@@ -237,6 +241,11 @@ class Machine:
             self.is_flushed |= bool(self.gap.nodes)
             return self.place()
         if len(self.nodes) <= top.start:
+            return None
+        if word == "delimit":
+            for at, kind in zip((top.start, -1), rest.split()):
+                if self.is_token(self.nodes[at]):
+                    self.nodes[at] = Node(kind, self.nodes[at].text)
             return None
         if word == "unclosed":
             if self.nodes[top.start].children is None:
@@ -285,13 +294,7 @@ class Machine:
     def fits(self, row, node):
         if not self.table.is_of(node.kind, row.kinds):
             return False
-        word = row.test[0] if row.test else ""
-        children = node.children or ()
-        if word in ("opening", "closing"):
-            return node.children is None and node.text == ("(" if word == "opening" else ")")
-        if word == "parenthesized":
-            return bool(children) and children[0].full_text() == "(" and children[-1].full_text() == ")"
-        return word == "" or len(children) == 1
+        return not row.test or len(node.children or ()) == 1
 
 
 def parse(rows, text, lexer=None):

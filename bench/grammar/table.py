@@ -17,13 +17,13 @@ UNIQUE = ("argument", "parameter", "binding", "key", "sink")
 # The words of an action, the first one counted. No number: as many as its message has.
 ACTIONS = {
     "eat": (1, 2), "unexpected": (1,), "mistake": (), "enter": (2,), "around": (2, 3), "->": (2,), "return": (1,), "wrap": (2,), "flush": (1,),
-    "up": (1,), "down": (1,), "expected": (), "wrong": (), "unclosed": (1,), "retag": (2,), "unique": (2,),
+    "up": (1,), "down": (1,), "expected": (), "wrong": (), "delimit": (3,), "unclosed": (1,), "retag": (2,), "unique": (2,),
 }  # fmt: skip
 MOVES = ("->", "enter", "around")
 TAKES = ("eat", "unexpected", "mistake")
 # How many words a condition of a row has, and a test of a map. No number: as many as there are kinds.
 CONDITIONS = {"newline": 1, "direct": 1, "empty": 1, "is": 2, "upto": 2, "only": 0, "last": 0}
-TESTS = {"opening": 1, "closing": 1, "parenthesized": 1, "alone": 1}
+TESTS = {"alone": 1}
 
 
 @dataclass
@@ -269,7 +269,7 @@ class Table:
             return True
         if ACTIONS[word] and len(action) not in ACTIONS[word] or len(action) == 1 and not ACTIONS[word]:
             raise ValueError(f"`{said}` has {len(action) - 1} words behind the first")
-        if word in ("wrap", "eat"):
+        if word in ("wrap", "eat", "delimit"):
             self.known_kinds(action[1:])
         known = {"->": self.states, "enter": self.states, "around": self.states, "retag": self.maps, "unique": UNIQUE}
         if word == "around" and not all(number.isdigit() for number in action[2:]):

@@ -130,24 +130,6 @@ change_19 = record {
   effect = effects.Become (record { kind = Some kinds.Named; first = Some maps.Mistaken; others = Some maps.Target });
 }
 
-abbrev pub change_20 : Change
-change_20 = record {
-  test = tests.Parenthesized;
-  effect = effects.Become (record { kind = Some kinds.Math; first = Some maps.Paren; others = Some maps.Paren });
-}
-
-abbrev pub change_21 : Change
-change_21 = record {
-  test = tests.Opening;
-  effect = effects.Become (record { kind = Some kinds.LeftParen; first = None; others = None });
-}
-
-abbrev pub change_22 : Change
-change_22 = record {
-  test = tests.Closing;
-  effect = effects.Become (record { kind = Some kinds.RightParen; first = None; others = None });
-}
-
 -- a parenthesis that is a value
 abbrev pub value : SyntaxKind → List Change
 value kinds.Parenthesized = change_0 ∷ []
@@ -265,16 +247,6 @@ target kinds.Closure = change_9 ∷ []
 target kinds.DestructAssignment = change_9 ∷ []
 target _ = []
 
--- an expression that loses its parentheses
-abbrev pub unparen : SyntaxKind → List Change
-unparen kinds.MathDelimited = change_20 ∷ []
-unparen _ = []
-
--- a parenthesis in math
-abbrev pub paren : SyntaxKind → List Change
-paren kinds.MathText = change_21 ∷ change_22 ∷ []
-paren _ = []
-
 -- the changes of a map for a kind
 unfoldable pub changes : Map → SyntaxKind → List Change
 changes maps.Value kind = value kind
@@ -289,5 +261,3 @@ changes maps.Sink kind = sink kind
 changes maps.Mistaken kind = mistaken kind
 changes maps.Place kind = place kind
 changes maps.Target kind = target kind
-changes maps.Unparen kind = unparen kind
-changes maps.Paren kind = paren kind

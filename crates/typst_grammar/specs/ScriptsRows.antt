@@ -2,7 +2,6 @@
 -- The rows of what may follow an expression in math.
 use Rattle.std.specs.Prelude.{List, [], ◌∷◌, true, false, Some, None}
 use Rattle.typst_base.specs.declared.kind.SyntaxKind.TheVariants as kinds
-use Rattle.typst_grammar.specs.declared.maps.Map.TheVariants as maps
 use Rattle.typst_grammar.specs.declared.row.Action.TheVariants as actions
 use Rattle.typst_grammar.specs.declared.row.Condition.TheVariants as conditions
 use Rattle.typst_grammar.specs.declared.row.Take.TheVariants as takes
@@ -50,7 +49,7 @@ row_3 = record {
 abbrev pub row_4 : Row
 row_4 = record {
   condition = conditions.Is 0;
-  before = actions.Retag maps.Unparen ∷ [];
+  before = [];
   take = takes.Eat;
   after = actions.Goto states.MathAfterRest ∷ [];
   call = Some (record { state = states.MathExpr; number = 1; enters = false; is_deep = false; newline = None });
@@ -122,16 +121,16 @@ row_11 = record {
 abbrev pub row_12 : Row
 row_12 = record {
   condition = conditions.Always;
-  before = actions.Wrap kinds.MathAttach ∷ actions.Goto states.MathAfter ∷ [];
-  take = takes.Nothing;
-  after = [];
-  call = None;
+  before = [];
+  take = takes.EatAs kinds.MathText;
+  after = actions.Goto states.MathParen ∷ [];
+  call = Some (record { state = states.DelimitedBody; number = 0; enters = false; is_deep = true; newline = None });
 }
 
 abbrev pub row_13 : Row
 row_13 = record {
-  condition = conditions.Is 3;
-  before = actions.Wrap kinds.MathAttach ∷ actions.Return ∷ [];
+  condition = conditions.Only kinds.Math;
+  before = actions.Goto states.MathAfter ∷ [];
   take = takes.Nothing;
   after = [];
   call = None;
@@ -139,8 +138,8 @@ row_13 = record {
 
 abbrev pub row_14 : Row
 row_14 = record {
-  condition = conditions.Is 2;
-  before = actions.Wrap kinds.MathAttach ∷ actions.Return ∷ [];
+  condition = conditions.Only kinds.MathDelimited;
+  before = actions.Goto states.MathAfter ∷ [];
   take = takes.Nothing;
   after = [];
   call = None;
@@ -148,8 +147,8 @@ row_14 = record {
 
 abbrev pub row_15 : Row
 row_15 = record {
-  condition = conditions.Always;
-  before = actions.Retag maps.Unparen ∷ actions.Wrap kinds.MathAttach ∷ actions.Return ∷ [];
+  condition = conditions.Is 0;
+  before = actions.Wrap kinds.MathDelimited ∷ actions.Return ∷ [];
   take = takes.Nothing;
   after = [];
   call = None;
@@ -158,7 +157,7 @@ row_15 = record {
 abbrev pub row_16 : Row
 row_16 = record {
   condition = conditions.Always;
-  before = actions.Retag maps.Unparen ∷ actions.Wrap kinds.MathAttach ∷ actions.Goto states.MathAfter ∷ [];
+  before = actions.Delimit kinds.LeftParen kinds.RightParen ∷ actions.Wrap kinds.Math ∷ actions.Return ∷ [];
   take = takes.Nothing;
   after = [];
   call = None;
@@ -166,26 +165,26 @@ row_16 = record {
 
 abbrev pub row_17 : Row
 row_17 = record {
-  condition = conditions.Always;
-  before = actions.Retag maps.Unparen ∷ [];
+  condition = conditions.Is 0;
+  before = actions.Delimit kinds.LeftParen kinds.RightParen ∷ actions.Wrap kinds.Math ∷ [];
   take = takes.Eat;
-  after = actions.Goto states.MathBelowRest ∷ [];
+  after = actions.Goto states.MathParenRest ∷ [];
   call = Some (record { state = states.MathExpr; number = 1; enters = false; is_deep = false; newline = None });
 }
 
 abbrev pub row_18 : Row
 row_18 = record {
-  condition = conditions.Always;
-  before = actions.Retag maps.Unparen ∷ [];
-  take = takes.Eat;
-  after = actions.Goto states.MathAboveRest ∷ [];
-  call = Some (record { state = states.MathExpr; number = 1; enters = false; is_deep = false; newline = None });
+  condition = conditions.Is 3;
+  before = actions.Delimit kinds.LeftParen kinds.RightParen ∷ actions.Wrap kinds.Math ∷ actions.Return ∷ [];
+  take = takes.Nothing;
+  after = [];
+  call = None;
 }
 
 abbrev pub row_19 : Row
 row_19 = record {
   condition = conditions.Always;
-  before = actions.Wrap kinds.MathFieldAccess ∷ actions.Goto states.MathIdent ∷ [];
+  before = actions.Wrap kinds.MathDelimited ∷ actions.Goto states.MathAfter ∷ [];
   take = takes.Nothing;
   after = [];
   call = None;
@@ -193,8 +192,8 @@ row_19 = record {
 
 abbrev pub row_20 : Row
 row_20 = record {
-  condition = conditions.Always;
-  before = actions.Wrap kinds.MathCall ∷ actions.Goto states.MathAfter ∷ [];
+  condition = conditions.Direct;
+  before = actions.Wrap kinds.MathDelimited ∷ actions.Goto states.MathAfter ∷ [];
   take = takes.Nothing;
   after = [];
   call = None;
@@ -202,8 +201,8 @@ row_20 = record {
 
 abbrev pub row_21 : Row
 row_21 = record {
-  condition = conditions.Always;
-  before = actions.Wrap kinds.Math ∷ actions.Goto states.MathAfter ∷ [];
+  condition = conditions.Is 2;
+  before = actions.Delimit kinds.LeftParen kinds.RightParen ∷ actions.Wrap kinds.Math ∷ actions.Return ∷ [];
   take = takes.Nothing;
   after = [];
   call = None;
@@ -212,7 +211,88 @@ row_21 = record {
 abbrev pub row_22 : Row
 row_22 = record {
   condition = conditions.Always;
-  before = actions.Retag maps.Unparen ∷ actions.Wrap kinds.MathFrac ∷ actions.Goto states.MathAfter ∷ [];
+  before = actions.Wrap kinds.MathAttach ∷ actions.Goto states.MathAfter ∷ [];
+  take = takes.Nothing;
+  after = [];
+  call = None;
+}
+
+abbrev pub row_23 : Row
+row_23 = record {
+  condition = conditions.Is 3;
+  before = actions.Wrap kinds.MathAttach ∷ actions.Return ∷ [];
+  take = takes.Nothing;
+  after = [];
+  call = None;
+}
+
+abbrev pub row_24 : Row
+row_24 = record {
+  condition = conditions.Is 2;
+  before = actions.Wrap kinds.MathAttach ∷ actions.Return ∷ [];
+  take = takes.Nothing;
+  after = [];
+  call = None;
+}
+
+abbrev pub row_25 : Row
+row_25 = record {
+  condition = conditions.Always;
+  before = actions.Wrap kinds.MathAttach ∷ actions.Return ∷ [];
+  take = takes.Nothing;
+  after = [];
+  call = None;
+}
+
+abbrev pub row_26 : Row
+row_26 = record {
+  condition = conditions.Always;
+  before = [];
+  take = takes.Eat;
+  after = actions.Goto states.MathBelowRest ∷ [];
+  call = Some (record { state = states.MathExpr; number = 1; enters = false; is_deep = false; newline = None });
+}
+
+abbrev pub row_27 : Row
+row_27 = record {
+  condition = conditions.Always;
+  before = [];
+  take = takes.Eat;
+  after = actions.Goto states.MathAboveRest ∷ [];
+  call = Some (record { state = states.MathExpr; number = 1; enters = false; is_deep = false; newline = None });
+}
+
+abbrev pub row_28 : Row
+row_28 = record {
+  condition = conditions.Always;
+  before = actions.Wrap kinds.MathFieldAccess ∷ actions.Goto states.MathIdent ∷ [];
+  take = takes.Nothing;
+  after = [];
+  call = None;
+}
+
+abbrev pub row_29 : Row
+row_29 = record {
+  condition = conditions.Always;
+  before = actions.Wrap kinds.MathCall ∷ actions.Goto states.MathAfter ∷ [];
+  take = takes.Nothing;
+  after = [];
+  call = None;
+}
+
+abbrev pub row_30 : Row
+row_30 = record {
+  condition = conditions.Always;
+  before = actions.Wrap kinds.Math ∷ actions.Goto states.MathAfter ∷ [];
+  take = takes.Nothing;
+  after = [];
+  call = None;
+}
+
+abbrev pub row_31 : Row
+row_31 = record {
+  condition = conditions.Always;
+  before = actions.Wrap kinds.MathFrac ∷ actions.Goto states.MathAfter ∷ [];
   take = takes.Nothing;
   after = [];
   call = None;
@@ -249,6 +329,20 @@ math_joined classes.Hat = row_8 ∷ row_9 ∷ []
 math_joined classes.Bang = row_10 ∷ row_0 ∷ []
 math_joined _ = row_0 ∷ []
 
+-- parentheses of an operand
+abbrev pub math_group : Class → List Row
+math_group classes.LeftParen = row_12 ∷ []
+math_group _ = []
+
+-- whether parentheses stay
+abbrev pub math_paren : Class → List Row
+math_paren classes.Slash = row_13 ∷ row_14 ∷ row_17 ∷ row_15 ∷ row_16 ∷ []
+math_paren classes.Underscore = row_13 ∷ row_14 ∷ row_18 ∷ row_19 ∷ []
+math_paren classes.MathPrimes = row_13 ∷ row_14 ∷ row_20 ∷ row_15 ∷ row_16 ∷ []
+math_paren classes.Hat = row_13 ∷ row_14 ∷ row_21 ∷ row_19 ∷ []
+math_paren classes.Bang = row_13 ∷ row_14 ∷ row_20 ∷ row_15 ∷ row_16 ∷ []
+math_paren _ = row_13 ∷ row_14 ∷ row_15 ∷ row_16 ∷ []
+
 -- what may follow an expression in math
 abbrev pub math_after : Class → List Row
 math_after classes.Slash = row_4 ∷ row_0 ∷ []
@@ -260,48 +354,52 @@ math_after _ = row_0 ∷ []
 
 -- what may follow primes
 abbrev pub math_primed : Class → List Row
-math_primed classes.Underscore = row_13 ∷ row_6 ∷ []
-math_primed classes.Hat = row_14 ∷ row_9 ∷ []
-math_primed _ = row_12 ∷ []
+math_primed classes.Underscore = row_23 ∷ row_6 ∷ []
+math_primed classes.Hat = row_24 ∷ row_9 ∷ []
+math_primed _ = row_22 ∷ []
 
 -- whether a script above follows the one below
 abbrev pub math_below : Class → List Row
-math_below classes.Slash = row_16 ∷ []
-math_below classes.Underscore = row_16 ∷ []
-math_below classes.MathPrimes = row_16 ∷ []
-math_below classes.Hat = row_17 ∷ []
-math_below classes.Bang = row_16 ∷ []
-math_below _ = row_15 ∷ []
+math_below classes.Slash = row_22 ∷ []
+math_below classes.Underscore = row_22 ∷ []
+math_below classes.MathPrimes = row_22 ∷ []
+math_below classes.Hat = row_26 ∷ []
+math_below classes.Bang = row_22 ∷ []
+math_below _ = row_25 ∷ []
 
 -- whether a script below follows the one above
 abbrev pub math_above : Class → List Row
-math_above classes.Slash = row_16 ∷ []
-math_above classes.Underscore = row_18 ∷ []
-math_above classes.MathPrimes = row_16 ∷ []
-math_above classes.Hat = row_16 ∷ []
-math_above classes.Bang = row_16 ∷ []
-math_above _ = row_15 ∷ []
+math_above classes.Slash = row_22 ∷ []
+math_above classes.Underscore = row_27 ∷ []
+math_above classes.MathPrimes = row_22 ∷ []
+math_above classes.Hat = row_22 ∷ []
+math_above classes.Bang = row_22 ∷ []
+math_above _ = row_25 ∷ []
 
 -- the rest of a row of `math.ident`, once the frame that it opened has returned
 abbrev pub math_ident_rest1 : Class → List Row
-math_ident_rest1 _ = row_19 ∷ []
+math_ident_rest1 _ = row_28 ∷ []
 
 -- the rest of a row of `math.ident`, once the frame that it opened has returned
 abbrev pub math_ident_rest2 : Class → List Row
-math_ident_rest2 _ = row_20 ∷ []
+math_ident_rest2 _ = row_29 ∷ []
 
 -- the rest of a row of `math.joined`, once the frame that it opened has returned
 abbrev pub math_joined_rest : Class → List Row
-math_joined_rest _ = row_21 ∷ []
+math_joined_rest _ = row_30 ∷ []
+
+-- the rest of a row of `math.paren`, once the frame that it opened has returned
+abbrev pub math_paren_rest : Class → List Row
+math_paren_rest _ = row_31 ∷ []
 
 -- the rest of a row of `math.after`, once the frame that it opened has returned
 abbrev pub math_after_rest : Class → List Row
-math_after_rest _ = row_22 ∷ []
+math_after_rest _ = row_31 ∷ []
 
 -- the rest of a row of `math.below`, once the frame that it opened has returned
 abbrev pub math_below_rest : Class → List Row
-math_below_rest _ = row_16 ∷ []
+math_below_rest _ = row_22 ∷ []
 
 -- the rest of a row of `math.above`, once the frame that it opened has returned
 abbrev pub math_above_rest : Class → List Row
-math_above_rest _ = row_16 ∷ []
+math_above_rest _ = row_22 ∷ []

@@ -10,12 +10,6 @@ pub enum Test {
     Always,
     /// It is of a kind of expressions.
     Expr,
-    /// Its text is an opening parenthesis.
-    Opening,
-    /// Its text is a closing parenthesis.
-    Closing,
-    /// The text of its first child is an opening parenthesis, and that of its last child a closing one.
-    Parenthesized,
     /// It has one child.
     Alone,
 }

@@ -39,9 +39,9 @@ const ROW_1: Row = Row {
     }),
 };
 
-/// `if is 0 | wrap Math; return; unclosed; wrap Equation; return`
+/// `if is 2 | wrap Math; return; unclosed; wrap Equation; return`
 const ROW_2: Row = Row {
-    condition: Condition::Is(0),
+    condition: Condition::Is(2),
     before: &[
         Action::Wrap(SyntaxKind::Math),
         Action::Return,
@@ -105,18 +105,18 @@ const ROW_7: Row = Row {
     }),
 };
 
-/// `if is 0 | wrap Math; return; eat; wrap Equation; return`
+/// `if is 2 | wrap Math; return; eat; wrap Equation; return`
 const ROW_8: Row = Row {
-    condition: Condition::Is(0),
+    condition: Condition::Is(2),
     before: &[Action::Wrap(SyntaxKind::Math), Action::Return],
     take: Take::Eat,
     after: &[Action::Wrap(SyntaxKind::Equation), Action::Return],
     call: None,
 };
 
-/// `if is 1 | wrap Math; return; eat MathText; wrap MathDelimited`
+/// `if upto 1 | wrap Math; return; eat MathText; wrap MathDelimited`
 const ROW_9: Row = Row {
-    condition: Condition::Is(1),
+    condition: Condition::UpTo(1),
     before: &[Action::Wrap(SyntaxKind::Math), Action::Return],
     take: Take::EatAs(SyntaxKind::MathText),
     after: &[Action::Wrap(SyntaxKind::MathDelimited)],
@@ -132,8 +132,17 @@ const ROW_10: Row = Row {
     call: None,
 };
 
-/// `| eat; -> math.name`
+/// `if is 0 | wrap Math; return; eat MathText`
 const ROW_11: Row = Row {
+    condition: Condition::Is(0),
+    before: &[Action::Wrap(SyntaxKind::Math), Action::Return],
+    take: Take::EatAs(SyntaxKind::MathText),
+    after: &[],
+    call: None,
+};
+
+/// `| eat; -> math.name`
+const ROW_12: Row = Row {
     condition: Condition::Always,
     before: &[],
     take: Take::Eat,
@@ -141,9 +150,9 @@ const ROW_11: Row = Row {
     call: None,
 };
 
-/// `if is 1 | wrap Math; return; eat; wrap MathDelimited`
-const ROW_12: Row = Row {
-    condition: Condition::Is(1),
+/// `if upto 1 | wrap Math; return; eat; wrap MathDelimited`
+const ROW_13: Row = Row {
+    condition: Condition::UpTo(1),
     before: &[Action::Wrap(SyntaxKind::Math), Action::Return],
     take: Take::Eat,
     after: &[Action::Wrap(SyntaxKind::MathDelimited)],
@@ -151,7 +160,7 @@ const ROW_12: Row = Row {
 };
 
 /// `| eat; -> math.args.item`
-const ROW_13: Row = Row {
+const ROW_14: Row = Row {
     condition: Condition::Always,
     before: &[],
     take: Take::Eat,
@@ -160,7 +169,7 @@ const ROW_13: Row = Row {
 };
 
 /// `| -> math.args.close`
-const ROW_14: Row = Row {
+const ROW_15: Row = Row {
     condition: Condition::Always,
     before: &[Action::Goto(State::MathArgsClose)],
     take: Take::Nothing,
@@ -169,7 +178,7 @@ const ROW_14: Row = Row {
 };
 
 /// `| -> math.args.comma; math.arg`
-const ROW_15: Row = Row {
+const ROW_16: Row = Row {
     condition: Condition::Always,
     before: &[Action::Goto(State::MathArgsComma)],
     take: Take::Nothing,
@@ -184,7 +193,7 @@ const ROW_15: Row = Row {
 };
 
 /// `| unclosed; wrap MathArgs; unique argument; return`
-const ROW_16: Row = Row {
+const ROW_17: Row = Row {
     condition: Condition::Always,
     before: &[
         Action::Unclosed,
@@ -198,7 +207,7 @@ const ROW_16: Row = Row {
 };
 
 /// `| eat; wrap MathArgs; unique argument; return`
-const ROW_17: Row = Row {
+const ROW_18: Row = Row {
     condition: Condition::Always,
     before: &[],
     take: Take::Eat,
@@ -211,7 +220,7 @@ const ROW_17: Row = Row {
 };
 
 /// `| -> math.value`
-const ROW_18: Row = Row {
+const ROW_19: Row = Row {
     condition: Condition::Always,
     before: &[Action::Goto(State::MathValue)],
     take: Take::Nothing,
@@ -220,7 +229,7 @@ const ROW_18: Row = Row {
 };
 
 /// `| eat; -> math.arg.rest; math.value`
-const ROW_19: Row = Row {
+const ROW_20: Row = Row {
     condition: Condition::Always,
     before: &[],
     take: Take::Eat,
@@ -235,7 +244,7 @@ const ROW_19: Row = Row {
 };
 
 /// `| eat; -> math.arg.colon`
-const ROW_20: Row = Row {
+const ROW_21: Row = Row {
     condition: Condition::Always,
     before: &[],
     take: Take::Eat,
@@ -244,7 +253,7 @@ const ROW_20: Row = Row {
 };
 
 /// `| mistake identifier; -> math.arg.colon`
-const ROW_21: Row = Row {
+const ROW_22: Row = Row {
     condition: Condition::Always,
     before: &[],
     take: Take::Mistake(Expectation::Identifier),
@@ -253,7 +262,7 @@ const ROW_21: Row = Row {
 };
 
 /// `| eat Colon; -> math.arg.colon.rest; math.named`
-const ROW_22: Row = Row {
+const ROW_23: Row = Row {
     condition: Condition::Always,
     before: &[],
     take: Take::EatAs(SyntaxKind::Colon),
@@ -268,7 +277,7 @@ const ROW_22: Row = Row {
 };
 
 /// `| expected expression; return`
-const ROW_23: Row = Row {
+const ROW_24: Row = Row {
     condition: Condition::Always,
     before: &[Action::Expected(Expectation::Expression), Action::Return],
     take: Take::Nothing,
@@ -277,7 +286,7 @@ const ROW_23: Row = Row {
 };
 
 /// `| flush; wrap Math; return`
-const ROW_24: Row = Row {
+const ROW_25: Row = Row {
     condition: Condition::Always,
     before: &[
         Action::Flush,
@@ -290,7 +299,7 @@ const ROW_24: Row = Row {
 };
 
 /// `| unexpected`
-const ROW_25: Row = Row {
+const ROW_26: Row = Row {
     condition: Condition::Always,
     before: &[],
     take: Take::Unexpected,
@@ -299,7 +308,7 @@ const ROW_25: Row = Row {
 };
 
 /// `| -> math.value.one; math.expr`
-const ROW_26: Row = Row {
+const ROW_27: Row = Row {
     condition: Condition::Always,
     before: &[Action::Goto(State::MathValueOne)],
     take: Take::Nothing,
@@ -314,7 +323,7 @@ const ROW_26: Row = Row {
 };
 
 /// `| return`
-const ROW_27: Row = Row {
+const ROW_28: Row = Row {
     condition: Condition::Always,
     before: &[Action::Return],
     take: Take::Nothing,
@@ -323,7 +332,7 @@ const ROW_27: Row = Row {
 };
 
 /// `| -> math.value.more`
-const ROW_28: Row = Row {
+const ROW_29: Row = Row {
     condition: Condition::Always,
     before: &[Action::Goto(State::MathValueMore)],
     take: Take::Nothing,
@@ -332,7 +341,7 @@ const ROW_28: Row = Row {
 };
 
 /// `| wrap Math; return`
-const ROW_29: Row = Row {
+const ROW_30: Row = Row {
     condition: Condition::Always,
     before: &[Action::Wrap(SyntaxKind::Math), Action::Return],
     take: Take::Nothing,
@@ -341,7 +350,7 @@ const ROW_29: Row = Row {
 };
 
 /// `| math.expr`
-const ROW_30: Row = Row {
+const ROW_31: Row = Row {
     condition: Condition::Always,
     before: &[],
     take: Take::Nothing,
@@ -356,7 +365,7 @@ const ROW_30: Row = Row {
 };
 
 /// `| wrap Spread; return`
-const ROW_31: Row = Row {
+const ROW_32: Row = Row {
     condition: Condition::Always,
     before: &[Action::Wrap(SyntaxKind::Spread), Action::Return],
     take: Take::Nothing,
@@ -365,7 +374,7 @@ const ROW_31: Row = Row {
 };
 
 /// `| wrap Named; return`
-const ROW_32: Row = Row {
+const ROW_33: Row = Row {
     condition: Condition::Always,
     before: &[Action::Wrap(SyntaxKind::Named), Action::Return],
     take: Take::Nothing,
@@ -396,10 +405,11 @@ pub(crate) fn delimited_body(class: Class) -> &'static [Row]
             ROW_7,
         ],
         Class::Dollar => &[ROW_8, ROW_3],
-        Class::RightBrace | Class::RightParen => &[ROW_9, ROW_10],
+        Class::RightBrace => &[ROW_9, ROW_10],
+        Class::RightParen => &[ROW_11, ROW_9, ROW_10],
         Class::Comma | Class::Semicolon | Class::Dot | Class::Field | Class::Bang => &[ROW_10],
-        Class::MathIdent => &[ROW_11],
-        Class::Closing => &[ROW_12, ROW_5],
+        Class::MathIdent => &[ROW_12],
+        Class::Closing => &[ROW_13, ROW_5],
         _ => &[ROW_4],
     }
 }
@@ -409,7 +419,7 @@ pub(crate) fn math_args(class: Class) -> &'static [Row]
     ensures { rows_of result.now ≡ math_args class }
 {
     match class {
-        Class::LeftParen => &[ROW_13],
+        Class::LeftParen => &[ROW_14],
         _ => &[],
     }
 }
@@ -419,8 +429,8 @@ pub(crate) fn math_args_item(class: Class) -> &'static [Row]
     ensures { rows_of result.now ≡ math_args_item class }
 {
     match class {
-        Class::End | Class::Dollar | Class::RightParen => &[ROW_14],
-        _ => &[ROW_15],
+        Class::End | Class::Dollar | Class::RightParen => &[ROW_15],
+        _ => &[ROW_16],
     }
 }
 
@@ -429,8 +439,8 @@ pub(crate) fn math_args_comma(class: Class) -> &'static [Row]
     ensures { rows_of result.now ≡ math_args_comma class }
 {
     match class {
-        Class::End | Class::Dollar | Class::RightParen => &[ROW_14],
-        Class::Comma | Class::Semicolon => &[ROW_13],
+        Class::End | Class::Dollar | Class::RightParen => &[ROW_15],
+        Class::Comma | Class::Semicolon => &[ROW_14],
         _ => &[],
     }
 }
@@ -440,8 +450,8 @@ pub(crate) fn math_args_close(class: Class) -> &'static [Row]
     ensures { rows_of result.now ≡ math_args_close class }
 {
     match class {
-        Class::RightParen => &[ROW_17],
-        _ => &[ROW_16],
+        Class::RightParen => &[ROW_18],
+        _ => &[ROW_17],
     }
 }
 
@@ -450,10 +460,10 @@ pub(crate) fn math_arg(class: Class) -> &'static [Row]
     ensures { rows_of result.now ≡ math_arg class }
 {
     match class {
-        Class::Dots => &[ROW_19],
-        Class::ArgumentName => &[ROW_20],
-        Class::ArgumentBlank => &[ROW_21],
-        _ => &[ROW_18],
+        Class::Dots => &[ROW_20],
+        Class::ArgumentName => &[ROW_21],
+        Class::ArgumentBlank => &[ROW_22],
+        _ => &[ROW_19],
     }
 }
 
@@ -462,7 +472,7 @@ pub(crate) fn math_arg_colon(class: Class) -> &'static [Row]
     ensures { rows_of result.now ≡ math_arg_colon class }
 {
     match class {
-        Class::MathText => &[ROW_22],
+        Class::MathText => &[ROW_23],
         _ => &[],
     }
 }
@@ -473,9 +483,9 @@ pub(crate) fn math_named(class: Class) -> &'static [Row]
 {
     match class {
         Class::End | Class::Dollar | Class::RightParen | Class::Comma | Class::Semicolon => &[
-            ROW_23,
+            ROW_24,
         ],
-        _ => &[ROW_18],
+        _ => &[ROW_19],
     }
 }
 
@@ -485,7 +495,7 @@ pub(crate) fn math_value(class: Class) -> &'static [Row]
 {
     match class {
         Class::End | Class::Dollar | Class::RightParen | Class::Comma | Class::Semicolon => &[
-            ROW_24,
+            ROW_25,
         ],
         Class::Linebreak
         | Class::Escape
@@ -503,8 +513,8 @@ pub(crate) fn math_value(class: Class) -> &'static [Row]
         | Class::Opening
         | Class::Closing
         | Class::Bang
-        | Class::Root => &[ROW_26],
-        _ => &[ROW_25],
+        | Class::Root => &[ROW_27],
+        _ => &[ROW_26],
     }
 }
 
@@ -514,9 +524,9 @@ pub(crate) fn math_value_one(class: Class) -> &'static [Row]
 {
     match class {
         Class::End | Class::Dollar | Class::RightParen | Class::Comma | Class::Semicolon => &[
-            ROW_27,
+            ROW_28,
         ],
-        _ => &[ROW_28],
+        _ => &[ROW_29],
     }
 }
 
@@ -526,7 +536,7 @@ pub(crate) fn math_value_more(class: Class) -> &'static [Row]
 {
     match class {
         Class::End | Class::Dollar | Class::RightParen | Class::Comma | Class::Semicolon => &[
-            ROW_29,
+            ROW_30,
         ],
         Class::Linebreak
         | Class::Escape
@@ -544,8 +554,8 @@ pub(crate) fn math_value_more(class: Class) -> &'static [Row]
         | Class::Opening
         | Class::Closing
         | Class::Bang
-        | Class::Root => &[ROW_30],
-        _ => &[ROW_25],
+        | Class::Root => &[ROW_31],
+        _ => &[ROW_26],
     }
 }
 
@@ -553,26 +563,26 @@ pub(crate) fn math_value_more(class: Class) -> &'static [Row]
 pub(crate) fn delimited_rest1(_class: Class) -> &'static [Row]
     ensures { rows_of result.now ≡ delimited_rest1 _class }
 {
-    &[ROW_27]
+    &[ROW_28]
 }
 
 /// The rest of a row of `delimited`, once the frame that it opened has returned.
 pub(crate) fn delimited_rest2(_class: Class) -> &'static [Row]
     ensures { rows_of result.now ≡ delimited_rest2 _class }
 {
-    &[ROW_27]
+    &[ROW_28]
 }
 
 /// The rest of a row of `math.arg`, once the frame that it opened has returned.
 pub(crate) fn math_arg_rest(_class: Class) -> &'static [Row]
     ensures { rows_of result.now ≡ math_arg_rest _class }
 {
-    &[ROW_31]
+    &[ROW_32]
 }
 
 /// The rest of a row of `math.arg.colon`, once the frame that it opened has returned.
 pub(crate) fn math_arg_colon_rest(_class: Class) -> &'static [Row]
     ensures { rows_of result.now ≡ math_arg_colon_rest _class }
 {
-    &[ROW_32]
+    &[ROW_33]
 }

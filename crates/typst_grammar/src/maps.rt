@@ -1,7 +1,7 @@
 // Written by bench/grammar_crate.py from crates/grammar.table: change that and run it.
 //! The maps that give nodes other kinds.
 ghost use Rattle.std.specs.Prelude.{◌≡◌};
-ghost use Rattle.typst_grammar.specs.Maps.{changes, entry, item, member, mistaken, param, params, paren, part, pattern, place, sink, target, unparen, value};
+ghost use Rattle.typst_grammar.specs.Maps.{changes, entry, item, member, mistaken, param, params, part, pattern, place, sink, target, value};
 
 use crate::change::{Change, Effect, Relabel, Test};
 use crate::expectation::Expectation;
@@ -34,10 +34,6 @@ pub enum Map {
     Place,
     /// What a value is assigned to.
     Target,
-    /// An expression that loses its parentheses.
-    Unparen,
-    /// A parenthesis in math.
-    Paren,
 }
 
 const CHANGE_0: Change = Change {
@@ -193,33 +189,6 @@ const CHANGE_19: Change = Change {
         kind: Some(SyntaxKind::Named),
         first: Some(Map::Mistaken),
         others: Some(Map::Target),
-    }),
-};
-
-const CHANGE_20: Change = Change {
-    test: Test::Parenthesized,
-    effect: Effect::Become(Relabel {
-        kind: Some(SyntaxKind::Math),
-        first: Some(Map::Paren),
-        others: Some(Map::Paren),
-    }),
-};
-
-const CHANGE_21: Change = Change {
-    test: Test::Opening,
-    effect: Effect::Become(Relabel {
-        kind: Some(SyntaxKind::LeftParen),
-        first: None,
-        others: None,
-    }),
-};
-
-const CHANGE_22: Change = Change {
-    test: Test::Closing,
-    effect: Effect::Become(Relabel {
-        kind: Some(SyntaxKind::RightParen),
-        first: None,
-        others: None,
     }),
 };
 
@@ -383,26 +352,6 @@ fn target(kind: SyntaxKind) -> &'static [Change]
     }
 }
 
-/// An expression that loses its parentheses.
-fn unparen(kind: SyntaxKind) -> &'static [Change]
-    ensures { result.now ≡ unparen kind }
-{
-    match kind {
-        SyntaxKind::MathDelimited => &[CHANGE_20],
-        _ => &[],
-    }
-}
-
-/// A parenthesis in math.
-fn paren(kind: SyntaxKind) -> &'static [Change]
-    ensures { result.now ≡ paren kind }
-{
-    match kind {
-        SyntaxKind::MathText => &[CHANGE_21, CHANGE_22],
-        _ => &[],
-    }
-}
-
 /// The changes of a map for a kind. The first one that fits is done.
 #[tactic(auto, unfolding(crate::specs::Maps::changes))]
 pub fn changes(map: Map, kind: SyntaxKind) -> &'static [Change]
@@ -421,7 +370,5 @@ pub fn changes(map: Map, kind: SyntaxKind) -> &'static [Change]
         Map::Mistaken => mistaken(kind),
         Map::Place => place(kind),
         Map::Target => target(kind),
-        Map::Unparen => unparen(kind),
-        Map::Paren => paren(kind),
     }
 }

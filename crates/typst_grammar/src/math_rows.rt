@@ -2,15 +2,14 @@
 //! The rows of math.
 ghost use Rattle.std.specs.Prelude.{◌≡◌};
 ghost use Rattle.typst_grammar.specs.Row.{rows_of};
-ghost use Rattle.typst_grammar.specs.MathRows.{equation, math, math_expr, math_expr_rest1, math_expr_rest2, math_expr_rest3, math_leaf, math_leaf_rest, math_letter, math_letter_rest, math_name, math_name_rest1, math_name_rest2};
+ghost use Rattle.typst_grammar.specs.MathRows.{equation, math, math_expr, math_expr_rest1, math_expr_rest2, math_expr_rest3, math_expr_rest4, math_expr_rest5, math_expr_rest6, math_leaf, math_leaf_rest, math_letter, math_letter_rest, math_name, math_name_rest1, math_name_rest2};
 
 use crate::expectation::Expectation;
-use crate::maps::Map;
 use crate::row::{Action, Call, Condition, Newline, Row, Take};
 use crate::rows::{Class, State};
 use typst_base::SyntaxKind;
 
-/// `| eat; math`
+/// `| eat; math 2`
 const ROW_0: Row = Row {
     condition: Condition::Always,
     before: &[],
@@ -18,16 +17,16 @@ const ROW_0: Row = Row {
     after: &[],
     call: Some(Call {
         state: State::Math,
-        number: 0,
+        number: 2,
         enters: false,
         is_deep: false,
         newline: None,
     }),
 };
 
-/// `if is 0 | wrap Math; return; unclosed; wrap Equation; return`
+/// `if is 2 | wrap Math; return; unclosed; wrap Equation; return`
 const ROW_1: Row = Row {
-    condition: Condition::Is(0),
+    condition: Condition::Is(2),
     before: &[
         Action::Wrap(SyntaxKind::Math),
         Action::Return,
@@ -91,18 +90,18 @@ const ROW_6: Row = Row {
     }),
 };
 
-/// `if is 0 | wrap Math; return; eat; wrap Equation; return`
+/// `if is 2 | wrap Math; return; eat; wrap Equation; return`
 const ROW_7: Row = Row {
-    condition: Condition::Is(0),
+    condition: Condition::Is(2),
     before: &[Action::Wrap(SyntaxKind::Math), Action::Return],
     take: Take::Eat,
     after: &[Action::Wrap(SyntaxKind::Equation), Action::Return],
     call: None,
 };
 
-/// `if is 1 | wrap Math; return; eat MathText; wrap MathDelimited`
+/// `if upto 1 | wrap Math; return; eat MathText; wrap MathDelimited`
 const ROW_8: Row = Row {
-    condition: Condition::Is(1),
+    condition: Condition::UpTo(1),
     before: &[Action::Wrap(SyntaxKind::Math), Action::Return],
     take: Take::EatAs(SyntaxKind::MathText),
     after: &[Action::Wrap(SyntaxKind::MathDelimited)],
@@ -118,8 +117,17 @@ const ROW_9: Row = Row {
     call: None,
 };
 
-/// `| eat; -> math.name`
+/// `if is 0 | wrap Math; return; eat MathText`
 const ROW_10: Row = Row {
+    condition: Condition::Is(0),
+    before: &[Action::Wrap(SyntaxKind::Math), Action::Return],
+    take: Take::EatAs(SyntaxKind::MathText),
+    after: &[],
+    call: None,
+};
+
+/// `| eat; -> math.name`
+const ROW_11: Row = Row {
     condition: Condition::Always,
     before: &[],
     take: Take::Eat,
@@ -127,9 +135,9 @@ const ROW_10: Row = Row {
     call: None,
 };
 
-/// `if is 1 | wrap Math; return; eat; wrap MathDelimited`
-const ROW_11: Row = Row {
-    condition: Condition::Is(1),
+/// `if upto 1 | wrap Math; return; eat; wrap MathDelimited`
+const ROW_12: Row = Row {
+    condition: Condition::UpTo(1),
     before: &[Action::Wrap(SyntaxKind::Math), Action::Return],
     take: Take::Eat,
     after: &[Action::Wrap(SyntaxKind::MathDelimited)],
@@ -137,7 +145,7 @@ const ROW_11: Row = Row {
 };
 
 /// `| around math; eat; -> math.leaf.rest; math.expr 1`
-const ROW_12: Row = Row {
+const ROW_13: Row = Row {
     condition: Condition::Always,
     before: &[Action::Around(State::Math, 0)],
     take: Take::Eat,
@@ -152,7 +160,7 @@ const ROW_12: Row = Row {
 };
 
 /// `| around math; eat; -> math.below; math.expr 2`
-const ROW_13: Row = Row {
+const ROW_14: Row = Row {
     condition: Condition::Always,
     before: &[Action::Around(State::Math, 0)],
     take: Take::Eat,
@@ -167,7 +175,7 @@ const ROW_13: Row = Row {
 };
 
 /// `if direct | around math; eat; -> math.primed`
-const ROW_14: Row = Row {
+const ROW_15: Row = Row {
     condition: Condition::Direct,
     before: &[Action::Around(State::Math, 0)],
     take: Take::Eat,
@@ -176,7 +184,7 @@ const ROW_14: Row = Row {
 };
 
 /// `| around math; eat; -> math.above; math.expr 3`
-const ROW_15: Row = Row {
+const ROW_16: Row = Row {
     condition: Condition::Always,
     before: &[Action::Around(State::Math, 0)],
     take: Take::Eat,
@@ -191,7 +199,7 @@ const ROW_15: Row = Row {
 };
 
 /// `if direct | around math; eat MathText; wrap Math; -> math.after`
-const ROW_16: Row = Row {
+const ROW_17: Row = Row {
     condition: Condition::Direct,
     before: &[Action::Around(State::Math, 0)],
     take: Take::EatAs(SyntaxKind::MathText),
@@ -203,7 +211,7 @@ const ROW_16: Row = Row {
 };
 
 /// `if direct | around math; -> math.letter.rest; delimited`
-const ROW_17: Row = Row {
+const ROW_18: Row = Row {
     condition: Condition::Direct,
     before: &[
         Action::Around(State::Math, 0),
@@ -221,7 +229,7 @@ const ROW_17: Row = Row {
 };
 
 /// `if direct | around math; -> math.name.rest2; math.args`
-const ROW_18: Row = Row {
+const ROW_19: Row = Row {
     condition: Condition::Direct,
     before: &[
         Action::Around(State::Math, 0),
@@ -239,7 +247,7 @@ const ROW_18: Row = Row {
 };
 
 /// `if direct | around math; eat; -> math.name.rest1; field`
-const ROW_19: Row = Row {
+const ROW_20: Row = Row {
     condition: Condition::Direct,
     before: &[Action::Around(State::Math, 0)],
     take: Take::Eat,
@@ -254,7 +262,7 @@ const ROW_19: Row = Row {
 };
 
 /// `| expected expression; -> math.after`
-const ROW_20: Row = Row {
+const ROW_21: Row = Row {
     condition: Condition::Always,
     before: &[
         Action::Expected(Expectation::Expression),
@@ -266,7 +274,7 @@ const ROW_20: Row = Row {
 };
 
 /// `| eat; -> math.after`
-const ROW_21: Row = Row {
+const ROW_22: Row = Row {
     condition: Condition::Always,
     before: &[],
     take: Take::Eat,
@@ -275,7 +283,7 @@ const ROW_21: Row = Row {
 };
 
 /// `| eat; -> math.joined`
-const ROW_22: Row = Row {
+const ROW_23: Row = Row {
     condition: Condition::Always,
     before: &[],
     take: Take::Eat,
@@ -284,7 +292,7 @@ const ROW_22: Row = Row {
 };
 
 /// `| -> math.after; hash`
-const ROW_23: Row = Row {
+const ROW_24: Row = Row {
     condition: Condition::Always,
     before: &[Action::Goto(State::MathAfter)],
     take: Take::Nothing,
@@ -299,7 +307,7 @@ const ROW_23: Row = Row {
 };
 
 /// `| eat MathText; -> math.after; delimited.body 1`
-const ROW_24: Row = Row {
+const ROW_25: Row = Row {
     condition: Condition::Always,
     before: &[],
     take: Take::EatAs(SyntaxKind::MathText),
@@ -314,7 +322,7 @@ const ROW_24: Row = Row {
 };
 
 /// `| eat MathText; -> math.after`
-const ROW_25: Row = Row {
+const ROW_26: Row = Row {
     condition: Condition::Always,
     before: &[],
     take: Take::EatAs(SyntaxKind::MathText),
@@ -322,8 +330,68 @@ const ROW_25: Row = Row {
     call: None,
 };
 
+/// `if is 0 | eat MathText; -> math.paren; delimited.body`
+const ROW_27: Row = Row {
+    condition: Condition::Is(0),
+    before: &[],
+    take: Take::EatAs(SyntaxKind::MathText),
+    after: &[Action::Goto(State::MathParen)],
+    call: Some(Call {
+        state: State::DelimitedBody,
+        number: 0,
+        enters: false,
+        is_deep: true,
+        newline: None,
+    }),
+};
+
+/// `if is 1 | -> math.expr.rest1; math.group 1`
+const ROW_28: Row = Row {
+    condition: Condition::Is(1),
+    before: &[Action::Goto(State::MathExprRest1)],
+    take: Take::Nothing,
+    after: &[],
+    call: Some(Call {
+        state: State::MathGroup,
+        number: 1,
+        enters: false,
+        is_deep: false,
+        newline: None,
+    }),
+};
+
+/// `if is 2 | -> math.expr.rest2; math.group 2`
+const ROW_29: Row = Row {
+    condition: Condition::Is(2),
+    before: &[Action::Goto(State::MathExprRest2)],
+    take: Take::Nothing,
+    after: &[],
+    call: Some(Call {
+        state: State::MathGroup,
+        number: 2,
+        enters: false,
+        is_deep: false,
+        newline: None,
+    }),
+};
+
+/// `| -> math.expr.rest3; math.group 3`
+const ROW_30: Row = Row {
+    condition: Condition::Always,
+    before: &[Action::Goto(State::MathExprRest3)],
+    take: Take::Nothing,
+    after: &[],
+    call: Some(Call {
+        state: State::MathGroup,
+        number: 3,
+        enters: false,
+        is_deep: false,
+        newline: None,
+    }),
+};
+
 /// `| eat; -> math.ident`
-const ROW_26: Row = Row {
+const ROW_31: Row = Row {
     condition: Condition::Always,
     before: &[],
     take: Take::Eat,
@@ -332,7 +400,7 @@ const ROW_26: Row = Row {
 };
 
 /// `| eat; -> math.after; delimited.body 1`
-const ROW_27: Row = Row {
+const ROW_32: Row = Row {
     condition: Condition::Always,
     before: &[],
     take: Take::Eat,
@@ -346,12 +414,12 @@ const ROW_27: Row = Row {
     }),
 };
 
-/// `if is 3 | eat; -> math.expr.rest1; math.expr 3`
-const ROW_28: Row = Row {
+/// `if is 3 | eat; -> math.expr.rest4; math.expr 3`
+const ROW_33: Row = Row {
     condition: Condition::Is(3),
     before: &[],
     take: Take::Eat,
-    after: &[Action::Goto(State::MathExprRest1)],
+    after: &[Action::Goto(State::MathExprRest4)],
     call: Some(Call {
         state: State::MathExpr,
         number: 3,
@@ -361,12 +429,12 @@ const ROW_28: Row = Row {
     }),
 };
 
-/// `if is 2 | eat; -> math.expr.rest2; math.expr 2`
-const ROW_29: Row = Row {
+/// `if is 2 | eat; -> math.expr.rest5; math.expr 2`
+const ROW_34: Row = Row {
     condition: Condition::Is(2),
     before: &[],
     take: Take::Eat,
-    after: &[Action::Goto(State::MathExprRest2)],
+    after: &[Action::Goto(State::MathExprRest5)],
     call: Some(Call {
         state: State::MathExpr,
         number: 2,
@@ -376,12 +444,12 @@ const ROW_29: Row = Row {
     }),
 };
 
-/// `| eat; -> math.expr.rest3; math.expr 1`
-const ROW_30: Row = Row {
+/// `| eat; -> math.expr.rest6; math.expr 1`
+const ROW_35: Row = Row {
     condition: Condition::Always,
     before: &[],
     take: Take::Eat,
-    after: &[Action::Goto(State::MathExprRest3)],
+    after: &[Action::Goto(State::MathExprRest6)],
     call: Some(Call {
         state: State::MathExpr,
         number: 1,
@@ -391,11 +459,10 @@ const ROW_30: Row = Row {
     }),
 };
 
-/// `| retag unparen; wrap MathFrac; -> math.after`
-const ROW_31: Row = Row {
+/// `| wrap MathFrac; -> math.after`
+const ROW_36: Row = Row {
     condition: Condition::Always,
     before: &[
-        Action::Retag(Map::Unparen),
         Action::Wrap(SyntaxKind::MathFrac),
         Action::Goto(State::MathAfter),
     ],
@@ -405,7 +472,7 @@ const ROW_31: Row = Row {
 };
 
 /// `| wrap Math; -> math.after`
-const ROW_32: Row = Row {
+const ROW_37: Row = Row {
     condition: Condition::Always,
     before: &[
         Action::Wrap(SyntaxKind::Math),
@@ -417,7 +484,7 @@ const ROW_32: Row = Row {
 };
 
 /// `| wrap MathFieldAccess; -> math.ident`
-const ROW_33: Row = Row {
+const ROW_38: Row = Row {
     condition: Condition::Always,
     before: &[
         Action::Wrap(SyntaxKind::MathFieldAccess),
@@ -429,7 +496,7 @@ const ROW_33: Row = Row {
 };
 
 /// `| wrap MathCall; -> math.after`
-const ROW_34: Row = Row {
+const ROW_39: Row = Row {
     condition: Condition::Always,
     before: &[
         Action::Wrap(SyntaxKind::MathCall),
@@ -440,11 +507,19 @@ const ROW_34: Row = Row {
     call: None,
 };
 
-/// `| retag unparen; wrap MathRoot; -> math.after`
-const ROW_35: Row = Row {
+/// `| return`
+const ROW_40: Row = Row {
+    condition: Condition::Always,
+    before: &[Action::Return],
+    take: Take::Nothing,
+    after: &[],
+    call: None,
+};
+
+/// `| wrap MathRoot; -> math.after`
+const ROW_41: Row = Row {
     condition: Condition::Always,
     before: &[
-        Action::Retag(Map::Unparen),
         Action::Wrap(SyntaxKind::MathRoot),
         Action::Goto(State::MathAfter),
     ],
@@ -475,10 +550,11 @@ pub(crate) fn math(class: Class) -> &'static [Row]
             ROW_6,
         ],
         Class::Dollar => &[ROW_7, ROW_2],
-        Class::RightBrace | Class::RightParen => &[ROW_8, ROW_9],
+        Class::RightBrace => &[ROW_8, ROW_9],
+        Class::RightParen => &[ROW_10, ROW_8, ROW_9],
         Class::Comma | Class::Semicolon | Class::Dot | Class::Field | Class::Bang => &[ROW_9],
-        Class::MathIdent => &[ROW_10],
-        Class::Closing => &[ROW_11, ROW_4],
+        Class::MathIdent => &[ROW_11],
+        Class::Closing => &[ROW_12, ROW_4],
         _ => &[ROW_3],
     }
 }
@@ -495,15 +571,16 @@ pub(crate) fn math_leaf(class: Class) -> &'static [Row]
             ROW_6,
         ],
         Class::Dollar => &[ROW_7, ROW_2],
-        Class::RightBrace | Class::RightParen => &[ROW_8, ROW_9],
+        Class::RightBrace => &[ROW_8, ROW_9],
+        Class::RightParen => &[ROW_10, ROW_8, ROW_9],
         Class::Comma | Class::Semicolon | Class::Dot | Class::Field => &[ROW_9],
-        Class::Slash => &[ROW_12],
-        Class::Underscore => &[ROW_13],
-        Class::MathIdent => &[ROW_10],
-        Class::MathPrimes => &[ROW_14, ROW_5],
-        Class::Closing => &[ROW_11, ROW_4],
-        Class::Hat => &[ROW_15],
-        Class::Bang => &[ROW_16, ROW_9],
+        Class::Slash => &[ROW_13],
+        Class::Underscore => &[ROW_14],
+        Class::MathIdent => &[ROW_11],
+        Class::MathPrimes => &[ROW_15, ROW_5],
+        Class::Closing => &[ROW_12, ROW_4],
+        Class::Hat => &[ROW_16],
+        Class::Bang => &[ROW_17, ROW_9],
         _ => &[ROW_3],
     }
 }
@@ -518,16 +595,17 @@ pub(crate) fn math_letter(class: Class) -> &'static [Row]
         Class::Escape | Class::Str | Class::MathLetter => &[ROW_5],
         Class::Hash | Class::Root => &[ROW_6],
         Class::Dollar => &[ROW_7, ROW_2],
-        Class::LeftBrace | Class::LeftParen | Class::Opening => &[ROW_17, ROW_6],
-        Class::RightBrace | Class::RightParen => &[ROW_8, ROW_9],
+        Class::LeftBrace | Class::LeftParen | Class::Opening => &[ROW_18, ROW_6],
+        Class::RightBrace => &[ROW_8, ROW_9],
+        Class::RightParen => &[ROW_10, ROW_8, ROW_9],
         Class::Comma | Class::Semicolon | Class::Dot | Class::Field => &[ROW_9],
-        Class::Slash => &[ROW_12],
-        Class::Underscore => &[ROW_13],
-        Class::MathIdent => &[ROW_10],
-        Class::MathPrimes => &[ROW_14, ROW_5],
-        Class::Closing => &[ROW_11, ROW_4],
-        Class::Hat => &[ROW_15],
-        Class::Bang => &[ROW_16, ROW_9],
+        Class::Slash => &[ROW_13],
+        Class::Underscore => &[ROW_14],
+        Class::MathIdent => &[ROW_11],
+        Class::MathPrimes => &[ROW_15, ROW_5],
+        Class::Closing => &[ROW_12, ROW_4],
+        Class::Hat => &[ROW_16],
+        Class::Bang => &[ROW_17, ROW_9],
         _ => &[ROW_3],
     }
 }
@@ -542,18 +620,19 @@ pub(crate) fn math_name(class: Class) -> &'static [Row]
         Class::Escape | Class::Str | Class::MathLetter => &[ROW_5],
         Class::Hash | Class::Root => &[ROW_6],
         Class::Dollar => &[ROW_7, ROW_2],
-        Class::LeftBrace | Class::Opening => &[ROW_17, ROW_6],
-        Class::RightBrace | Class::RightParen => &[ROW_8, ROW_9],
-        Class::LeftParen => &[ROW_18, ROW_17, ROW_6],
+        Class::LeftBrace | Class::Opening => &[ROW_18, ROW_6],
+        Class::RightBrace => &[ROW_8, ROW_9],
+        Class::LeftParen => &[ROW_19, ROW_18, ROW_6],
+        Class::RightParen => &[ROW_10, ROW_8, ROW_9],
         Class::Comma | Class::Semicolon | Class::Dot => &[ROW_9],
-        Class::Field => &[ROW_19, ROW_9],
-        Class::Slash => &[ROW_12],
-        Class::Underscore => &[ROW_13],
-        Class::MathIdent => &[ROW_10],
-        Class::MathPrimes => &[ROW_14, ROW_5],
-        Class::Closing => &[ROW_11, ROW_4],
-        Class::Hat => &[ROW_15],
-        Class::Bang => &[ROW_16, ROW_9],
+        Class::Field => &[ROW_20, ROW_9],
+        Class::Slash => &[ROW_13],
+        Class::Underscore => &[ROW_14],
+        Class::MathIdent => &[ROW_11],
+        Class::MathPrimes => &[ROW_15, ROW_5],
+        Class::Closing => &[ROW_12, ROW_4],
+        Class::Hat => &[ROW_16],
+        Class::Bang => &[ROW_17, ROW_9],
         _ => &[ROW_3],
     }
 }
@@ -563,21 +642,22 @@ pub(crate) fn math_expr(class: Class) -> &'static [Row]
     ensures { rows_of result.now ≡ math_expr class }
 {
     match class {
-        Class::Linebreak | Class::MathText | Class::Closing => &[ROW_21],
-        Class::Escape | Class::Str | Class::MathLetter | Class::MathPrimes => &[ROW_22],
-        Class::Hash => &[ROW_23],
-        Class::LeftBrace | Class::LeftParen => &[ROW_24],
+        Class::Linebreak | Class::MathText | Class::Closing => &[ROW_22],
+        Class::Escape | Class::Str | Class::MathLetter | Class::MathPrimes => &[ROW_23],
+        Class::Hash => &[ROW_24],
+        Class::LeftBrace => &[ROW_25],
         Class::RightBrace
         | Class::RightParen
         | Class::Comma
         | Class::Semicolon
         | Class::Dot
         | Class::Field
-        | Class::Bang => &[ROW_25],
-        Class::MathIdent => &[ROW_26],
-        Class::Opening => &[ROW_27],
-        Class::Root => &[ROW_28, ROW_29, ROW_30],
-        _ => &[ROW_20],
+        | Class::Bang => &[ROW_26],
+        Class::LeftParen => &[ROW_27, ROW_28, ROW_29, ROW_30],
+        Class::MathIdent => &[ROW_31],
+        Class::Opening => &[ROW_32],
+        Class::Root => &[ROW_33, ROW_34, ROW_35],
+        _ => &[ROW_21],
     }
 }
 
@@ -585,47 +665,68 @@ pub(crate) fn math_expr(class: Class) -> &'static [Row]
 pub(crate) fn math_leaf_rest(_class: Class) -> &'static [Row]
     ensures { rows_of result.now ≡ math_leaf_rest _class }
 {
-    &[ROW_31]
+    &[ROW_36]
 }
 
 /// The rest of a row of `math.letter`, once the frame that it opened has returned.
 pub(crate) fn math_letter_rest(_class: Class) -> &'static [Row]
     ensures { rows_of result.now ≡ math_letter_rest _class }
 {
-    &[ROW_32]
+    &[ROW_37]
 }
 
 /// The rest of a row of `math.name`, once the frame that it opened has returned.
 pub(crate) fn math_name_rest1(_class: Class) -> &'static [Row]
     ensures { rows_of result.now ≡ math_name_rest1 _class }
 {
-    &[ROW_33]
+    &[ROW_38]
 }
 
 /// The rest of a row of `math.name`, once the frame that it opened has returned.
 pub(crate) fn math_name_rest2(_class: Class) -> &'static [Row]
     ensures { rows_of result.now ≡ math_name_rest2 _class }
 {
-    &[ROW_34]
+    &[ROW_39]
 }
 
 /// The rest of a row of `math.expr`, once the frame that it opened has returned.
 pub(crate) fn math_expr_rest1(_class: Class) -> &'static [Row]
     ensures { rows_of result.now ≡ math_expr_rest1 _class }
 {
-    &[ROW_35]
+    &[ROW_40]
 }
 
 /// The rest of a row of `math.expr`, once the frame that it opened has returned.
 pub(crate) fn math_expr_rest2(_class: Class) -> &'static [Row]
     ensures { rows_of result.now ≡ math_expr_rest2 _class }
 {
-    &[ROW_35]
+    &[ROW_40]
 }
 
 /// The rest of a row of `math.expr`, once the frame that it opened has returned.
 pub(crate) fn math_expr_rest3(_class: Class) -> &'static [Row]
     ensures { rows_of result.now ≡ math_expr_rest3 _class }
 {
-    &[ROW_35]
+    &[ROW_40]
+}
+
+/// The rest of a row of `math.expr`, once the frame that it opened has returned.
+pub(crate) fn math_expr_rest4(_class: Class) -> &'static [Row]
+    ensures { rows_of result.now ≡ math_expr_rest4 _class }
+{
+    &[ROW_41]
+}
+
+/// The rest of a row of `math.expr`, once the frame that it opened has returned.
+pub(crate) fn math_expr_rest5(_class: Class) -> &'static [Row]
+    ensures { rows_of result.now ≡ math_expr_rest5 _class }
+{
+    &[ROW_41]
+}
+
+/// The rest of a row of `math.expr`, once the frame that it opened has returned.
+pub(crate) fn math_expr_rest6(_class: Class) -> &'static [Row]
+    ensures { rows_of result.now ≡ math_expr_rest6 _class }
+{
+    &[ROW_41]
 }

@@ -129,6 +129,8 @@ pub fn mode_of(state: State) -> Option<Mode>
         State::MathIdent => Some(Mode::Math),
         State::Field => Some(Mode::Math),
         State::MathJoined => Some(Mode::Math),
+        State::MathGroup => Some(Mode::Math),
+        State::MathParen => Some(Mode::Math),
         State::MathAfter => Some(Mode::Math),
         State::MathPrimed => Some(Mode::Math),
         State::MathBelow => Some(Mode::Math),

@@ -25,6 +25,8 @@ pub enum Action {
     Expected(Expectation),
     /// The last tree becomes an error, unless it is one.
     Wrong(Expectation),
+    /// The first and the last tree get these kinds, if they are leaves.
+    Delimit(SyntaxKind, SyntaxKind),
     /// The first tree becomes an error, if that has no children: the delimiter isn't closed.
     Unclosed,
     /// A map changes the last tree.

@@ -394,6 +394,10 @@ pub enum State {
     Field,
     /// A delimiter directly behind a name, a letter or a string.
     MathJoined,
+    /// Parentheses of an operand.
+    MathGroup,
+    /// Whether parentheses stay.
+    MathParen,
     /// What may follow an expression in math.
     MathAfter,
     /// What may follow primes.
@@ -562,12 +566,20 @@ pub enum State {
     MathExprRest2,
     /// The rest of a row of `math.expr`, once the frame that it opened has returned.
     MathExprRest3,
+    /// The rest of a row of `math.expr`, once the frame that it opened has returned.
+    MathExprRest4,
+    /// The rest of a row of `math.expr`, once the frame that it opened has returned.
+    MathExprRest5,
+    /// The rest of a row of `math.expr`, once the frame that it opened has returned.
+    MathExprRest6,
     /// The rest of a row of `math.ident`, once the frame that it opened has returned.
     MathIdentRest1,
     /// The rest of a row of `math.ident`, once the frame that it opened has returned.
     MathIdentRest2,
     /// The rest of a row of `math.joined`, once the frame that it opened has returned.
     MathJoinedRest,
+    /// The rest of a row of `math.paren`, once the frame that it opened has returned.
+    MathParenRest,
     /// The rest of a row of `math.after`, once the frame that it opened has returned.
     MathAfterRest,
     /// The rest of a row of `math.below`, once the frame that it opened has returned.
@@ -708,6 +720,8 @@ pub fn rows(state: State, class: Class) -> &'static [Row]
         State::MathIdent => scripts_rows::math_ident(class),
         State::Field => scripts_rows::field(class),
         State::MathJoined => scripts_rows::math_joined(class),
+        State::MathGroup => scripts_rows::math_group(class),
+        State::MathParen => scripts_rows::math_paren(class),
         State::MathAfter => scripts_rows::math_after(class),
         State::MathPrimed => scripts_rows::math_primed(class),
         State::MathBelow => scripts_rows::math_below(class),
@@ -792,9 +806,13 @@ pub fn rows(state: State, class: Class) -> &'static [Row]
         State::MathExprRest1 => math_rows::math_expr_rest1(class),
         State::MathExprRest2 => math_rows::math_expr_rest2(class),
         State::MathExprRest3 => math_rows::math_expr_rest3(class),
+        State::MathExprRest4 => math_rows::math_expr_rest4(class),
+        State::MathExprRest5 => math_rows::math_expr_rest5(class),
+        State::MathExprRest6 => math_rows::math_expr_rest6(class),
         State::MathIdentRest1 => scripts_rows::math_ident_rest1(class),
         State::MathIdentRest2 => scripts_rows::math_ident_rest2(class),
         State::MathJoinedRest => scripts_rows::math_joined_rest(class),
+        State::MathParenRest => scripts_rows::math_paren_rest(class),
         State::MathAfterRest => scripts_rows::math_after_rest(class),
         State::MathBelowRest => scripts_rows::math_below_rest(class),
         State::MathAboveRest => scripts_rows::math_above_rest(class),

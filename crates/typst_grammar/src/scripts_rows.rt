@@ -2,9 +2,8 @@
 //! The rows of what may follow an expression in math.
 ghost use Rattle.std.specs.Prelude.{◌≡◌};
 ghost use Rattle.typst_grammar.specs.Row.{rows_of};
-ghost use Rattle.typst_grammar.specs.ScriptsRows.{field, math_above, math_above_rest, math_after, math_after_rest, math_below, math_below_rest, math_ident, math_ident_rest1, math_ident_rest2, math_joined, math_joined_rest, math_primed};
+ghost use Rattle.typst_grammar.specs.ScriptsRows.{field, math_above, math_above_rest, math_after, math_after_rest, math_below, math_below_rest, math_group, math_ident, math_ident_rest1, math_ident_rest2, math_joined, math_joined_rest, math_paren, math_paren_rest, math_primed};
 
-use crate::maps::Map;
 use crate::row::{Action, Call, Condition, Row, Take};
 use crate::rows::{Class, State};
 use typst_base::SyntaxKind;
@@ -63,10 +62,10 @@ const ROW_3: Row = Row {
     }),
 };
 
-/// `if is 0 | retag unparen; eat; -> math.after.rest; math.expr 1`
+/// `if is 0 | eat; -> math.after.rest; math.expr 1`
 const ROW_4: Row = Row {
     condition: Condition::Is(0),
-    before: &[Action::Retag(Map::Unparen)],
+    before: &[],
     take: Take::Eat,
     after: &[Action::Goto(State::MathAfterRest)],
     call: Some(Call {
@@ -156,8 +155,131 @@ const ROW_11: Row = Row {
     call: None,
 };
 
-/// `| wrap MathAttach; -> math.after`
+/// `| eat MathText; -> math.paren; delimited.body`
 const ROW_12: Row = Row {
+    condition: Condition::Always,
+    before: &[],
+    take: Take::EatAs(SyntaxKind::MathText),
+    after: &[Action::Goto(State::MathParen)],
+    call: Some(Call {
+        state: State::DelimitedBody,
+        number: 0,
+        enters: false,
+        is_deep: true,
+        newline: None,
+    }),
+};
+
+/// `if only math | -> math.after`
+const ROW_13: Row = Row {
+    condition: Condition::Only(SyntaxKind::Math),
+    before: &[Action::Goto(State::MathAfter)],
+    take: Take::Nothing,
+    after: &[],
+    call: None,
+};
+
+/// `if only mathdelimited | -> math.after`
+const ROW_14: Row = Row {
+    condition: Condition::Only(SyntaxKind::MathDelimited),
+    before: &[Action::Goto(State::MathAfter)],
+    take: Take::Nothing,
+    after: &[],
+    call: None,
+};
+
+/// `if is 0 | wrap MathDelimited; return`
+const ROW_15: Row = Row {
+    condition: Condition::Is(0),
+    before: &[Action::Wrap(SyntaxKind::MathDelimited), Action::Return],
+    take: Take::Nothing,
+    after: &[],
+    call: None,
+};
+
+/// `| delimit LeftParen RightParen; wrap Math; return`
+const ROW_16: Row = Row {
+    condition: Condition::Always,
+    before: &[
+        Action::Delimit(SyntaxKind::LeftParen, SyntaxKind::RightParen),
+        Action::Wrap(SyntaxKind::Math),
+        Action::Return,
+    ],
+    take: Take::Nothing,
+    after: &[],
+    call: None,
+};
+
+/// `if is 0 | delimit LeftParen RightParen; wrap Math; eat; -> math.paren.rest; math.expr 1`
+const ROW_17: Row = Row {
+    condition: Condition::Is(0),
+    before: &[
+        Action::Delimit(SyntaxKind::LeftParen, SyntaxKind::RightParen),
+        Action::Wrap(SyntaxKind::Math),
+    ],
+    take: Take::Eat,
+    after: &[Action::Goto(State::MathParenRest)],
+    call: Some(Call {
+        state: State::MathExpr,
+        number: 1,
+        enters: false,
+        is_deep: false,
+        newline: None,
+    }),
+};
+
+/// `if is 3 | delimit LeftParen RightParen; wrap Math; return`
+const ROW_18: Row = Row {
+    condition: Condition::Is(3),
+    before: &[
+        Action::Delimit(SyntaxKind::LeftParen, SyntaxKind::RightParen),
+        Action::Wrap(SyntaxKind::Math),
+        Action::Return,
+    ],
+    take: Take::Nothing,
+    after: &[],
+    call: None,
+};
+
+/// `| wrap MathDelimited; -> math.after`
+const ROW_19: Row = Row {
+    condition: Condition::Always,
+    before: &[
+        Action::Wrap(SyntaxKind::MathDelimited),
+        Action::Goto(State::MathAfter),
+    ],
+    take: Take::Nothing,
+    after: &[],
+    call: None,
+};
+
+/// `if direct | wrap MathDelimited; -> math.after`
+const ROW_20: Row = Row {
+    condition: Condition::Direct,
+    before: &[
+        Action::Wrap(SyntaxKind::MathDelimited),
+        Action::Goto(State::MathAfter),
+    ],
+    take: Take::Nothing,
+    after: &[],
+    call: None,
+};
+
+/// `if is 2 | delimit LeftParen RightParen; wrap Math; return`
+const ROW_21: Row = Row {
+    condition: Condition::Is(2),
+    before: &[
+        Action::Delimit(SyntaxKind::LeftParen, SyntaxKind::RightParen),
+        Action::Wrap(SyntaxKind::Math),
+        Action::Return,
+    ],
+    take: Take::Nothing,
+    after: &[],
+    call: None,
+};
+
+/// `| wrap MathAttach; -> math.after`
+const ROW_22: Row = Row {
     condition: Condition::Always,
     before: &[
         Action::Wrap(SyntaxKind::MathAttach),
@@ -169,7 +291,7 @@ const ROW_12: Row = Row {
 };
 
 /// `if is 3 | wrap MathAttach; return`
-const ROW_13: Row = Row {
+const ROW_23: Row = Row {
     condition: Condition::Is(3),
     before: &[Action::Wrap(SyntaxKind::MathAttach), Action::Return],
     take: Take::Nothing,
@@ -178,7 +300,7 @@ const ROW_13: Row = Row {
 };
 
 /// `if is 2 | wrap MathAttach; return`
-const ROW_14: Row = Row {
+const ROW_24: Row = Row {
     condition: Condition::Is(2),
     before: &[Action::Wrap(SyntaxKind::MathAttach), Action::Return],
     take: Take::Nothing,
@@ -186,36 +308,19 @@ const ROW_14: Row = Row {
     call: None,
 };
 
-/// `| retag unparen; wrap MathAttach; return`
-const ROW_15: Row = Row {
+/// `| wrap MathAttach; return`
+const ROW_25: Row = Row {
     condition: Condition::Always,
-    before: &[
-        Action::Retag(Map::Unparen),
-        Action::Wrap(SyntaxKind::MathAttach),
-        Action::Return,
-    ],
+    before: &[Action::Wrap(SyntaxKind::MathAttach), Action::Return],
     take: Take::Nothing,
     after: &[],
     call: None,
 };
 
-/// `| retag unparen; wrap MathAttach; -> math.after`
-const ROW_16: Row = Row {
+/// `| eat; -> math.below.rest; math.expr 1`
+const ROW_26: Row = Row {
     condition: Condition::Always,
-    before: &[
-        Action::Retag(Map::Unparen),
-        Action::Wrap(SyntaxKind::MathAttach),
-        Action::Goto(State::MathAfter),
-    ],
-    take: Take::Nothing,
-    after: &[],
-    call: None,
-};
-
-/// `| retag unparen; eat; -> math.below.rest; math.expr 1`
-const ROW_17: Row = Row {
-    condition: Condition::Always,
-    before: &[Action::Retag(Map::Unparen)],
+    before: &[],
     take: Take::Eat,
     after: &[Action::Goto(State::MathBelowRest)],
     call: Some(Call {
@@ -227,10 +332,10 @@ const ROW_17: Row = Row {
     }),
 };
 
-/// `| retag unparen; eat; -> math.above.rest; math.expr 1`
-const ROW_18: Row = Row {
+/// `| eat; -> math.above.rest; math.expr 1`
+const ROW_27: Row = Row {
     condition: Condition::Always,
-    before: &[Action::Retag(Map::Unparen)],
+    before: &[],
     take: Take::Eat,
     after: &[Action::Goto(State::MathAboveRest)],
     call: Some(Call {
@@ -243,7 +348,7 @@ const ROW_18: Row = Row {
 };
 
 /// `| wrap MathFieldAccess; -> math.ident`
-const ROW_19: Row = Row {
+const ROW_28: Row = Row {
     condition: Condition::Always,
     before: &[
         Action::Wrap(SyntaxKind::MathFieldAccess),
@@ -255,7 +360,7 @@ const ROW_19: Row = Row {
 };
 
 /// `| wrap MathCall; -> math.after`
-const ROW_20: Row = Row {
+const ROW_29: Row = Row {
     condition: Condition::Always,
     before: &[
         Action::Wrap(SyntaxKind::MathCall),
@@ -267,7 +372,7 @@ const ROW_20: Row = Row {
 };
 
 /// `| wrap Math; -> math.after`
-const ROW_21: Row = Row {
+const ROW_30: Row = Row {
     condition: Condition::Always,
     before: &[
         Action::Wrap(SyntaxKind::Math),
@@ -278,11 +383,10 @@ const ROW_21: Row = Row {
     call: None,
 };
 
-/// `| retag unparen; wrap MathFrac; -> math.after`
-const ROW_22: Row = Row {
+/// `| wrap MathFrac; -> math.after`
+const ROW_31: Row = Row {
     condition: Condition::Always,
     before: &[
-        Action::Retag(Map::Unparen),
         Action::Wrap(SyntaxKind::MathFrac),
         Action::Goto(State::MathAfter),
     ],
@@ -333,6 +437,29 @@ pub(crate) fn math_joined(class: Class) -> &'static [Row]
     }
 }
 
+/// Parentheses of an operand.
+pub(crate) fn math_group(class: Class) -> &'static [Row]
+    ensures { rows_of result.now ≡ math_group class }
+{
+    match class {
+        Class::LeftParen => &[ROW_12],
+        _ => &[],
+    }
+}
+
+/// Whether parentheses stay.
+pub(crate) fn math_paren(class: Class) -> &'static [Row]
+    ensures { rows_of result.now ≡ math_paren class }
+{
+    match class {
+        Class::Slash => &[ROW_13, ROW_14, ROW_17, ROW_15, ROW_16],
+        Class::Underscore => &[ROW_13, ROW_14, ROW_18, ROW_19],
+        Class::MathPrimes | Class::Bang => &[ROW_13, ROW_14, ROW_20, ROW_15, ROW_16],
+        Class::Hat => &[ROW_13, ROW_14, ROW_21, ROW_19],
+        _ => &[ROW_13, ROW_14, ROW_15, ROW_16],
+    }
+}
+
 /// What may follow an expression in math.
 pub(crate) fn math_after(class: Class) -> &'static [Row]
     ensures { rows_of result.now ≡ math_after class }
@@ -352,9 +479,9 @@ pub(crate) fn math_primed(class: Class) -> &'static [Row]
     ensures { rows_of result.now ≡ math_primed class }
 {
     match class {
-        Class::Underscore => &[ROW_13, ROW_6],
-        Class::Hat => &[ROW_14, ROW_9],
-        _ => &[ROW_12],
+        Class::Underscore => &[ROW_23, ROW_6],
+        Class::Hat => &[ROW_24, ROW_9],
+        _ => &[ROW_22],
     }
 }
 
@@ -363,9 +490,9 @@ pub(crate) fn math_below(class: Class) -> &'static [Row]
     ensures { rows_of result.now ≡ math_below class }
 {
     match class {
-        Class::Slash | Class::Underscore | Class::MathPrimes | Class::Bang => &[ROW_16],
-        Class::Hat => &[ROW_17],
-        _ => &[ROW_15],
+        Class::Slash | Class::Underscore | Class::MathPrimes | Class::Bang => &[ROW_22],
+        Class::Hat => &[ROW_26],
+        _ => &[ROW_25],
     }
 }
 
@@ -374,9 +501,9 @@ pub(crate) fn math_above(class: Class) -> &'static [Row]
     ensures { rows_of result.now ≡ math_above class }
 {
     match class {
-        Class::Slash | Class::MathPrimes | Class::Hat | Class::Bang => &[ROW_16],
-        Class::Underscore => &[ROW_18],
-        _ => &[ROW_15],
+        Class::Slash | Class::MathPrimes | Class::Hat | Class::Bang => &[ROW_22],
+        Class::Underscore => &[ROW_27],
+        _ => &[ROW_25],
     }
 }
 
@@ -384,40 +511,47 @@ pub(crate) fn math_above(class: Class) -> &'static [Row]
 pub(crate) fn math_ident_rest1(_class: Class) -> &'static [Row]
     ensures { rows_of result.now ≡ math_ident_rest1 _class }
 {
-    &[ROW_19]
+    &[ROW_28]
 }
 
 /// The rest of a row of `math.ident`, once the frame that it opened has returned.
 pub(crate) fn math_ident_rest2(_class: Class) -> &'static [Row]
     ensures { rows_of result.now ≡ math_ident_rest2 _class }
 {
-    &[ROW_20]
+    &[ROW_29]
 }
 
 /// The rest of a row of `math.joined`, once the frame that it opened has returned.
 pub(crate) fn math_joined_rest(_class: Class) -> &'static [Row]
     ensures { rows_of result.now ≡ math_joined_rest _class }
 {
-    &[ROW_21]
+    &[ROW_30]
+}
+
+/// The rest of a row of `math.paren`, once the frame that it opened has returned.
+pub(crate) fn math_paren_rest(_class: Class) -> &'static [Row]
+    ensures { rows_of result.now ≡ math_paren_rest _class }
+{
+    &[ROW_31]
 }
 
 /// The rest of a row of `math.after`, once the frame that it opened has returned.
 pub(crate) fn math_after_rest(_class: Class) -> &'static [Row]
     ensures { rows_of result.now ≡ math_after_rest _class }
 {
-    &[ROW_22]
+    &[ROW_31]
 }
 
 /// The rest of a row of `math.below`, once the frame that it opened has returned.
 pub(crate) fn math_below_rest(_class: Class) -> &'static [Row]
     ensures { rows_of result.now ≡ math_below_rest _class }
 {
-    &[ROW_16]
+    &[ROW_22]
 }
 
 /// The rest of a row of `math.above`, once the frame that it opened has returned.
 pub(crate) fn math_above_rest(_class: Class) -> &'static [Row]
     ensures { rows_of result.now ≡ math_above_rest _class }
 {
-    &[ROW_16]
+    &[ROW_22]
 }

@@ -11,7 +11,12 @@ pub(crate) fn bytes_of(text: &str) -> [u8; LONGEST]
     ensures { take (length text.now) result ≡ text.now }
 {
     let mut bytes = [0; LONGEST];
-    bytes[..text.len()].copy_from_slice(text.as_bytes());
+    if text.len() == 1 {
+        // Most leaves of code and of equations. So no call is made for them.
+        bytes[0] = text.as_bytes()[0];
+    } else {
+        bytes[..text.len()].copy_from_slice(text.as_bytes());
+    }
     bytes
 }
 

@@ -16,8 +16,8 @@ use Rattle.typst_grammar.specs.declared.maps.Map.{Map}
 use Rattle.typst_grammar.specs.declared.row.Unique.{Unique}
 
 -- no tree has more levels
-pub retag_low : (map : Map) (text : List ℕ) (es : List Event) (n : ℕ) → greatest (take n (tops (retagged map text es))) ≤ greatest (take n (tops es))
-retag_low map text es = high_tops (retagged map text es) es (retag_high map text es)
+pub retag_low : (map : Map) (end : ℕ) (es : List Event) (n : ℕ) → greatest (take n (tops (retagged map end es))) ≤ greatest (take n (tops es))
+retag_low map end es = high_tops (retagged map end es) es (retag_high map end es)
 
 pub mistaken_low : (what : Expectation) (end : ℕ) (es : List Event) (n : ℕ) → greatest (take n (tops (mistaken what end es))) ≤ greatest (take n (tops es))
 mistaken_low what end es = high_tops (mistaken what end es) es (mistaken_high what end es)

@@ -4,7 +4,7 @@ use Rattle.std.proofs.lemmas.Str.{IsCharBoundary-from_rest, IsCharBoundary-start
 use Rattle.std.specs.Str.{IsCharBoundary, IsUtf8}
 use Rattle.typst_base.specs.declared.kind.SyntaxKind.{SyntaxKind}
 use Rattle.typst_base.specs.declared.kind.SyntaxKind.TheVariants as kinds
-use Rattle.typst_parser.specs.Actions.{act, acts, as_unclosed, changed, expected_once, flushed, is_error_kind, joined, returned_by, wrapped}
+use Rattle.typst_parser.specs.Actions.{act, acts, as_kind, as_unclosed, changed, delimited, expected_once, flushed, is_error_kind, joined, returned_by, wrapped}
 use Rattle.typst_parser.specs.Classes.{fault_of}
 use Rattle.typst_parser.specs.Events.{bytes, bytes_of, CanBeCut, CanBeCutFrom}
 use Rattle.typst_parser.specs.Frames.{ended, events_end, is_looking, is_taken, looking, placed, pushed, settled, settled_by}
@@ -42,7 +42,7 @@ use Rattle.typst_lexer.specs.declared.token.TokenKind.TheVariants as tokens
 use Rattle.typst_lexer.proofs.FirstTokens.{first_boundary}
 use Rattle.typst_parser.proofs.Uniques.{unique_bytes, unique_cut}
 use Rattle.typst_parser.proofs.RawCuts.{raw_cut_in}
-use Rattle.typst_parser.proofs.Good.{IsGood, IsToken, act_good, acts_good, before_fits, next_settled, placed_bytes, push_bytes, settled_good, unclosed_bytes}
+use Rattle.typst_parser.proofs.Good.{IsGood, IsToken, act_good, acts_good, before_fits, kind_bytes, next_settled, placed_bytes, push_bytes, settled_good, unclosed_bytes}
 use Rattle.typst_parser.proofs.Mistaking.{mistaken_bytes, mistaken_cut}
 use Rattle.typst_parser.proofs.Placing.{Skips, between_good, forgotten_good, forgotten_next, known_good, looked_good, looking_good, part_len, read_good, spaced_good, step_good, taken_good, unflushed, unspaced_good, whitened_good, whitened_skips}
 use Rattle.typst_parser.proofs.Retags.{cut_push, from-append, retag_bytes, retag_cut}
@@ -131,6 +131,21 @@ changed_cut text f s same made p =
       | false ↦ same_cut text s.events (f s.events) s.white s.from s.next same made p
     ]
 
+kind_cut : (kind : SyntaxKind) (text : List ℕ) (n i : ℕ) (es : List Event) → CanBeCutFrom n text es → CanBeCutFrom n text (changed_at (as_kind kind) i es)
+kind_cut kind text n i [] p = tt
+kind_cut kind text n zero (Leaf old len ∷ es) p = p
+kind_cut kind text n zero (Error fault len ∷ es) p = p
+kind_cut kind text n zero (Node old children ∷ es) p = p
+kind_cut kind text n (suc i) (e ∷ es) p = (p.0, kind_cut kind text (n + bytes_of e) i es p.1)
+
+delimited_cut : (text : List ℕ) (first last : SyntaxKind) (s : Stack) → IsCut text s → IsCut text (delimited first last s)
+delimited_cut text first last s p =
+    let one : Stack = changed (changed_at (as_kind first) s.top.start) s in
+    let q : IsCut text one =
+    changed_cut text (changed_at (as_kind first) s.top.start) s (kind_bytes first s.top.start s.events) (kind_cut first text 0 s.top.start s.events p.made) p in
+    changed_cut text (changed_at (as_kind last) (length s.events - 1)) one (kind_bytes last (length s.events - 1) one.events)
+    (kind_cut last text 0 (length s.events - 1) one.events q.made) q
+
 unclosed_cut : (text : List ℕ) (n i : ℕ) (es : List Event) → CanBeCutFrom n text es → CanBeCutFrom n text (changed_at as_unclosed i es)
 unclosed_cut text n i [] p = tt
 unclosed_cut text n zero (Leaf kind len ∷ es) p = p
@@ -152,14 +167,16 @@ act_cut base text most (actions.Wrong what) s h p =
     let end : ℕ = length (take (events_end s) text) in
     changed_cut text (mistaken what end) (settled s) (mistaken_bytes what end (settled s).events (before_fits base text s h))
     (mistaken_cut what end text (settled s).events (before_fits base text s h) q.made) q
+act_cut base text most (actions.Delimit first last) s h p = delimited_cut text first last (settled s) (settled_cut base text s h p)
 act_cut base text most actions.Unclosed s h p =
     let q : IsCut text (settled s) = settled_cut base text s h p in
     changed_cut text (changed_at as_unclosed (settled s).top.start) (settled s) (unclosed_bytes (settled s).top.start (settled s).events)
     (unclosed_cut text 0 (settled s).top.start (settled s).events q.made) q
 act_cut base text most (actions.Retag map) s h p =
     let q : IsCut text (settled s) = settled_cut base text s h p in
-    changed_cut text (retagged map (take (events_end s) text)) (settled s) (retag_bytes map (take (events_end s) text) (settled s).events (before_fits base text s h))
-    (retag_cut map text (take (events_end s) text) (settled s).events (before_fits base text s h) q.made) q
+    let end : ℕ = length (take (events_end s) text) in
+    changed_cut text (retagged map end) (settled s) (retag_bytes map end (settled s).events (before_fits base text s h))
+    (retag_cut map text end (settled s).events (before_fits base text s h) q.made) q
 act_cut base text most (actions.Unique what) s h p =
     let q : IsCut text (settled s) = settled_cut base text s h p in
     changed_cut text (made_unique what (take (events_end s) text)) (settled s) (unique_bytes what (take (events_end s) text) (settled s).events (before_fits base text s h))

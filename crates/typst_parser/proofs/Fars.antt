@@ -1,8 +1,8 @@
 -- How far the text was looked at never falls.
-use Rattle.std.proofs.Common.{◌≡◌, ℕ, zero, suc, ◌≤◌, ◌||◌, ◌==◌, nat_lt, true, false, cond, List, [], ◌∷◌, length, take, Option, Some, None, refl, ◌∙◌, arith}
+use Rattle.std.proofs.Common.{◌≡◌, ℕ, zero, suc, ◌-◌, ◌≤◌, ◌||◌, ◌==◌, nat_lt, true, false, cond, List, [], ◌∷◌, length, take, Option, Some, None, refl, ◌∙◌, arith}
 use Rattle.typst_base.specs.declared.kind.SyntaxKind.{SyntaxKind}
 use Rattle.typst_base.specs.declared.kind.SyntaxKind.TheVariants as kinds
-use Rattle.typst_parser.specs.Actions.{act, acts, as_unclosed, changed, expected_once, is_error_kind, joined, returned_by, wrapped}
+use Rattle.typst_parser.specs.Actions.{act, acts, as_kind, as_unclosed, changed, expected_once, is_error_kind, joined, returned_by, wrapped}
 use Rattle.typst_parser.specs.Frames.{ended, events_end, is_looking, is_taken, looking, pushed, settled, settled_by}
 use Rattle.typst_parser.specs.Last.{last_of}
 use Rattle.typst_parser.specs.Lists.{changed_at}
@@ -67,8 +67,11 @@ act_far most text actions.Up s = refl
 act_far most text actions.Down s = refl
 act_far most text (actions.Expected what) s = expected_far s.missing what s
 act_far most text (actions.Wrong what) s = changed_far (mistaken what (length text)) (settled s) ∙ settled_far s
+act_far most text (actions.Delimit first last) s =
+    let u : Stack = settled s in
+    changed_far (changed_at (as_kind last) (length u.events - 1)) (changed (changed_at (as_kind first) u.top.start) u) ∙ changed_far (changed_at (as_kind first) u.top.start) u ∙ settled_far s
 act_far most text actions.Unclosed s = changed_far (changed_at as_unclosed (settled s).top.start) (settled s) ∙ settled_far s
-act_far most text (actions.Retag map) s = changed_far (retagged map text) (settled s) ∙ settled_far s
+act_far most text (actions.Retag map) s = changed_far (retagged map (length text)) (settled s) ∙ settled_far s
 act_far most text (actions.Unique what) s = changed_far (made_unique what text) (settled s) ∙ settled_far s
 
 pub acts_far : (most : ℕ) (text : List ℕ) (all : List Action) (s : Stack) → (acts most text all s).far ≡ s.far

@@ -1,9 +1,9 @@
 -- What the machine keeps of places: the events have exactly the bytes up to where they end.
-use Rattle.std.proofs.Common.{◌≡◌, ℕ, zero, suc, ◌+◌, ◌≤◌, ◌<◌, ◌==◌, nat_lt, true, false, cond, List, [], ◌∷◌, ◌++◌, length, take, Option, Some, None, refl, sym, ap, subst, ◌∙◌, arith}
+use Rattle.std.proofs.Common.{◌≡◌, ℕ, zero, suc, ◌+◌, ◌-◌, ◌≤◌, ◌<◌, ◌==◌, nat_lt, true, false, cond, List, [], ◌∷◌, ◌++◌, length, take, Option, Some, None, refl, sym, ap, subst, ◌∙◌, arith}
 use Rattle.std.proofs.lemmas.List.{length-take}
 use Rattle.typst_base.specs.declared.kind.SyntaxKind.{SyntaxKind}
 use Rattle.typst_base.specs.declared.kind.SyntaxKind.TheVariants as kinds
-use Rattle.typst_parser.specs.Actions.{act, acts, as_unclosed, changed, expected_once, flushed, is_error_kind, joined, returned_by, wrapped}
+use Rattle.typst_parser.specs.Actions.{act, acts, as_kind, as_unclosed, changed, delimited, expected_once, flushed, is_error_kind, joined, returned_by, wrapped}
 use Rattle.typst_parser.specs.Events.{bytes, bytes_of}
 use Rattle.typst_parser.specs.Frames.{ended, events_end, is_looking, is_taken, placed, pushed, settled, settled_by}
 use Rattle.typst_parser.specs.Last.{last_of}
@@ -168,6 +168,19 @@ changed_good base text f s same h =
       | false ↦ same_bytes base text s.events (f s.events) s.white s.from s.next s.far s.phase same h
     ]
 
+pub kind_bytes : (kind : SyntaxKind) (i : ℕ) (es : List Event) → bytes (changed_at (as_kind kind) i es) ≡ bytes es
+kind_bytes kind i [] = refl
+kind_bytes kind zero (Leaf old len ∷ es) = refl
+kind_bytes kind zero (Error fault len ∷ es) = refl
+kind_bytes kind zero (Node old children ∷ es) = refl
+kind_bytes kind (suc i) (e ∷ es) = ap (λ n. bytes_of e + n) (kind_bytes kind i es)
+
+delimited_good : (base : ℕ) (text : List ℕ) (first last : SyntaxKind) (s : Stack) → IsGood base text s → IsGood base text (delimited first last s)
+delimited_good base text first last s h =
+    let one : Stack = changed (changed_at (as_kind first) s.top.start) s in
+    changed_good base text (changed_at (as_kind last) (length s.events - 1)) one (kind_bytes last (length s.events - 1) one.events)
+    (changed_good base text (changed_at (as_kind first) s.top.start) s (kind_bytes first s.top.start s.events) h)
+
 pub unclosed_bytes : (i : ℕ) (es : List Event) → bytes (changed_at as_unclosed i es) ≡ bytes es
 unclosed_bytes i [] = refl
 unclosed_bytes zero (Leaf kind len ∷ es) = refl
@@ -199,9 +212,11 @@ act_good base text most actions.Down s h = h
 act_good base text most (actions.Expected what) s h = expected_good base text s.missing what s h
 act_good base text most (actions.Wrong what) s h = changed_good base text (mistaken what (length (take (events_end s) text))) (settled s)
     (mistaken_bytes what (length (take (events_end s) text)) (settled s).events (before_fits base text s h)) (settled_good base text s h)
+act_good base text most (actions.Delimit first last) s h = delimited_good base text first last (settled s) (settled_good base text s h)
 act_good base text most actions.Unclosed s h = changed_good base text (changed_at as_unclosed (settled s).top.start) (settled s) (unclosed_bytes (settled s).top.start (settled s).events) (settled_good base text s h)
 act_good base text most (actions.Retag map) s h =
-    changed_good base text (retagged map (take (events_end s) text)) (settled s) (retag_bytes map (take (events_end s) text) (settled s).events (before_fits base text s h)) (settled_good base text s h)
+    let end : ℕ = length (take (events_end s) text) in
+    changed_good base text (retagged map end) (settled s) (retag_bytes map end (settled s).events (before_fits base text s h)) (settled_good base text s h)
 act_good base text most (actions.Unique what) s h =
     changed_good base text (made_unique what (take (events_end s) text)) (settled s) (unique_bytes what (take (events_end s) text) (settled s).events (before_fits base text s h)) (settled_good base text s h)
 

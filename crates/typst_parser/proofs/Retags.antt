@@ -2,9 +2,9 @@
 use Rattle.std.proofs.Common.{◌≡◌, ℕ, zero, suc, ◌+◌, ◌-◌, ◌≤◌, ◌<◌, ◌&&◌, min, nat_le, nat_lt, Bool, true, false, cond, List, [], ◌∷◌, ◌++◌, length, take, drop, reverse, Option, Some, None, refl, sym, ap, subst, ◌∙◌, add-one, arith}
 use Rattle.std.specs.Str.{IsCharBoundary}
 use Rattle.std.proofs.lemmas.Bool.Decides.{nat_tests}
-use Rattle.std.proofs.lemmas.List.{length-take, reverse-reverse}
+use Rattle.std.proofs.lemmas.List.{reverse-reverse}
 use Rattle.typst_base.specs.declared.kind.SyntaxKind.{SyntaxKind}
-use Rattle.typst_parser.specs.Events.{but_last, bytes, bytes_of, CanBeCut, CanBeCutFrom, greatest, levels, trees}
+use Rattle.typst_parser.specs.Events.{bytes, bytes_of, CanBeCut, CanBeCutFrom, greatest, levels, trees}
 use Rattle.typst_parser.specs.Retag.{effect_of, expected_back, gone, is_parent, maps_below, put_back, retagged, retagged_back, with_kind}
 use Rattle.typst_parser.specs.Spans.{children_of, span, width}
 use Rattle.typst_parser.specs.declared.event.Event.{Event}
@@ -69,16 +69,16 @@ step_high (Some (effects.Wrong what)) end (Error fault len) back rest h = (omega
 step_high (Some (effects.Wrong what)) end (Node kind children) back rest h = (omega arith, subst (NoHigher (heights rest)) (sym (span_heights children back)) h)
 step_high (Some (effects.Expected what)) end e back rest h = expected_high what e back rest h
 
-high : (k : ℕ) (maps : List (Option Map)) (text : List ℕ) (back : List Event) → NoHigher (heights (retagged_back k maps text back)) (heights (drop k back))
+high : (k : ℕ) (maps : List (Option Map)) (end : ℕ) (back : List Event) → NoHigher (heights (retagged_back k maps end back)) (heights (drop k back))
 unfolding retagged_back
-high (suc n) maps text [] = tt
-high (suc n) maps text (e ∷ back) = high n maps (but_last (bytes_of e) text) back
-high zero [] text back = same_high (heights back)
-high zero (m ∷ maps) text [] = tt
-high zero (m ∷ maps) text (e ∷ back) =
-    let f : Option Effect = effect_of m text e back in
-    step_high f (length text) e back (retagged_back (gone f e back) (maps_below f e back ++ maps) (but_last (bytes_of e) text) back)
-    (high (gone f e back) (maps_below f e back ++ maps) (but_last (bytes_of e) text) back)
+high (suc n) maps end [] = tt
+high (suc n) maps end (e ∷ back) = high n maps (end - bytes_of e) back
+high zero [] end back = same_high (heights back)
+high zero (m ∷ maps) end [] = tt
+high zero (m ∷ maps) end (e ∷ back) =
+    let f : Option Effect = effect_of m e in
+    step_high f end e back (retagged_back (gone f e back) (maps_below f e back ++ maps) (end - bytes_of e) back)
+    (high (gone f e back) (maps_below f e back ++ maps) (end - bytes_of e) back)
 
 -- bytes
 
@@ -108,22 +108,19 @@ step_bytes (Some (effects.Become r)) end e back low = omega (arith, kind_bytes r
 step_bytes (Some (effects.Wrong what)) end e back low = omega (arith, bytes_cut (span (children_of e) back) back, low)
 step_bytes (Some (effects.Expected what)) end e back low = omega (arith, expected_bytes what e back)
 
-length-but_last : (n : ℕ) (text : List ℕ) → length (but_last n text) ≡ length text - n
-length-but_last n text = omega (arith, length-take (length text - n) text)
-
-pub retagged_bytes : (k : ℕ) (maps : List (Option Map)) (text : List ℕ) (back : List Event) → bytes back ≤ length text → bytes (retagged_back k maps text back) ≡ bytes (drop k back)
+pub retagged_bytes : (k : ℕ) (maps : List (Option Map)) (end : ℕ) (back : List Event) → bytes back ≤ end → bytes (retagged_back k maps end back) ≡ bytes (drop k back)
 unfolding retagged_back
-retagged_bytes (suc n) maps text [] low = refl
-retagged_bytes (suc n) maps text (e ∷ back) low = retagged_bytes n maps (but_last (bytes_of e) text) back (omega (arith, length-but_last (bytes_of e) text, low))
-retagged_bytes zero [] text back low = refl
-retagged_bytes zero (m ∷ maps) text [] low = refl
-retagged_bytes zero (m ∷ maps) text (e ∷ back) low =
-    let f : Option Effect = effect_of m text e back in
-    let rest : List Event = retagged_back (gone f e back) (maps_below f e back ++ maps) (but_last (bytes_of e) text) back in
-    bytes-append (put_back f (length text) e back) rest
-    ∙ ap (λ n. bytes (put_back f (length text) e back) + n)
-    (retagged_bytes (gone f e back) (maps_below f e back ++ maps) (but_last (bytes_of e) text) back (omega (arith, length-but_last (bytes_of e) text, low)))
-    ∙ step_bytes f (length text) e back low
+retagged_bytes (suc n) maps end [] low = refl
+retagged_bytes (suc n) maps end (e ∷ back) low = retagged_bytes n maps (end - bytes_of e) back (omega (arith, low))
+retagged_bytes zero [] end back low = refl
+retagged_bytes zero (m ∷ maps) end [] low = refl
+retagged_bytes zero (m ∷ maps) end (e ∷ back) low =
+    let f : Option Effect = effect_of m e in
+    let rest : List Event = retagged_back (gone f e back) (maps_below f e back ++ maps) (end - bytes_of e) back in
+    bytes-append (put_back f end e back) rest
+    ∙ ap (λ n. bytes (put_back f end e back) + n)
+    (retagged_bytes (gone f e back) (maps_below f e back ++ maps) (end - bytes_of e) back (omega (arith, low)))
+    ∙ step_bytes f end e back low
 
 -- cuts of the text
 
@@ -195,39 +192,38 @@ step_cut (Some (effects.Wrong what)) text end e back rest p is at =
 step_cut (Some (effects.Expected what)) text end e back rest p is at =
     expected_cut what text e back rest (bytes (e ∷ back)) p (omega (arith, is, expected_bytes what e back)) at
 
-cut_back : (k : ℕ) (maps : List (Option Map)) (whole text : List ℕ) (back : List Event) → bytes back ≤ length text → CutBack whole back → CutBack whole (retagged_back k maps text back)
+cut_back : (k : ℕ) (maps : List (Option Map)) (whole : List ℕ) (end : ℕ) (back : List Event) → bytes back ≤ end → CutBack whole back → CutBack whole (retagged_back k maps end back)
 unfolding retagged_back
-cut_back (suc n) maps whole text [] low p = tt
-cut_back (suc n) maps whole text (e ∷ back) low p = cut_back n maps whole (but_last (bytes_of e) text) back (omega (arith, length-but_last (bytes_of e) text, low)) p.1
-cut_back zero [] whole text back low p = p
-cut_back zero (m ∷ maps) whole text [] low p = tt
-cut_back zero (m ∷ maps) whole text (e ∷ back) low p =
-    let f : Option Effect = effect_of m text e back in
-    let shorter : List ℕ = but_last (bytes_of e) text in
-    let within : bytes back ≤ length shorter = omega (arith, length-but_last (bytes_of e) text, low) in
-    let rest : List Event = retagged_back (gone f e back) (maps_below f e back ++ maps) shorter back in
-    let left : bytes rest ≡ bytes (drop (gone f e back) back) = retagged_bytes (gone f e back) (maps_below f e back ++ maps) shorter back within in
-    step_cut f whole (length text) e back rest (cut_back (gone f e back) (maps_below f e back ++ maps) whole shorter back within p.1)
-    (ap (λ n. bytes (put_back f (length text) e back) + n) left ∙ step_bytes f (length text) e back low) p.0
+cut_back (suc n) maps whole end [] low p = tt
+cut_back (suc n) maps whole end (e ∷ back) low p = cut_back n maps whole (end - bytes_of e) back (omega (arith, low)) p.1
+cut_back zero [] whole end back low p = p
+cut_back zero (m ∷ maps) whole end [] low p = tt
+cut_back zero (m ∷ maps) whole end (e ∷ back) low p =
+    let f : Option Effect = effect_of m e in
+    let within : bytes back ≤ end - bytes_of e = omega (arith, low) in
+    let rest : List Event = retagged_back (gone f e back) (maps_below f e back ++ maps) (end - bytes_of e) back in
+    let left : bytes rest ≡ bytes (drop (gone f e back) back) = retagged_bytes (gone f e back) (maps_below f e back ++ maps) (end - bytes_of e) back within in
+    step_cut f whole end e back rest (cut_back (gone f e back) (maps_below f e back ++ maps) whole (end - bytes_of e) back within p.1)
+    (ap (λ n. bytes (put_back f end e back) + n) left ∙ step_bytes f end e back low) p.0
 
--- The laws of maps, for events that have no more bytes than the text.
+-- The laws of maps, for events that have no more bytes than come up to their end.
 
-pub retag_high : (map : Map) (text : List ℕ) (es : List Event) → NoHigher (levels (retagged map text es)) (levels es)
-retag_high map text es =
-    subst (λ fs. NoHigher (levels (retagged map text es)) (levels fs)) (reverse-reverse es)
-    (levels_high (retagged_back 0 (Some map ∷ []) text (reverse es)) (reverse es) (high 0 (Some map ∷ []) text (reverse es)))
+pub retag_high : (map : Map) (end : ℕ) (es : List Event) → NoHigher (levels (retagged map end es)) (levels es)
+retag_high map end es =
+    subst (λ fs. NoHigher (levels (retagged map end es)) (levels fs)) (reverse-reverse es)
+    (levels_high (retagged_back 0 (Some map ∷ []) end (reverse es)) (reverse es) (high 0 (Some map ∷ []) end (reverse es)))
 
-pub retag_trees : (map : Map) (text : List ℕ) (es : List Event) → trees (retagged map text es) ≡ trees es
-retag_trees map text es =
-    sym (levels_length (retagged map text es)) ∙ high_length (levels (retagged map text es)) (levels es) (retag_high map text es) ∙ levels_length es
+pub retag_trees : (map : Map) (end : ℕ) (es : List Event) → trees (retagged map end es) ≡ trees es
+retag_trees map end es =
+    sym (levels_length (retagged map end es)) ∙ high_length (levels (retagged map end es)) (levels es) (retag_high map end es) ∙ levels_length es
 
-pub retag_bytes : (map : Map) (text : List ℕ) (es : List Event) → bytes es ≤ length text → bytes (retagged map text es) ≡ bytes es
-retag_bytes map text es low =
-    bytes-reverse (retagged_back 0 (Some map ∷ []) text (reverse es))
-    ∙ retagged_bytes 0 (Some map ∷ []) text (reverse es) (omega (arith, bytes-reverse es, low))
+pub retag_bytes : (map : Map) (end : ℕ) (es : List Event) → bytes es ≤ end → bytes (retagged map end es) ≡ bytes es
+retag_bytes map end es low =
+    bytes-reverse (retagged_back 0 (Some map ∷ []) end (reverse es))
+    ∙ retagged_bytes 0 (Some map ∷ []) end (reverse es) (omega (arith, bytes-reverse es, low))
     ∙ bytes-reverse es
 
-pub retag_cut : (map : Map) (whole text : List ℕ) (es : List Event) → bytes es ≤ length text → CanBeCut whole es → CanBeCut whole (retagged map text es)
-retag_cut map whole text es low p =
-    of_back whole (retagged_back 0 (Some map ∷ []) text (reverse es))
-    (cut_back 0 (Some map ∷ []) whole text (reverse es) (omega (arith, bytes-reverse es, low)) (to_back whole (reverse es) (subst (CanBeCut whole) (sym (reverse-reverse es)) p)))
+pub retag_cut : (map : Map) (whole : List ℕ) (end : ℕ) (es : List Event) → bytes es ≤ end → CanBeCut whole es → CanBeCut whole (retagged map end es)
+retag_cut map whole end es low p =
+    of_back whole (retagged_back 0 (Some map ∷ []) end (reverse es))
+    (cut_back 0 (Some map ∷ []) whole end (reverse es) (omega (arith, bytes-reverse es, low)) (to_back whole (reverse es) (subst (CanBeCut whole) (sym (reverse-reverse es)) p)))

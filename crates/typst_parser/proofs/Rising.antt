@@ -4,7 +4,7 @@ use Rattle.std.proofs.lemmas.Bool.Decides.{nat_tests}
 use Rattle.std.specs.List.{slice_get}
 use Rattle.typst_base.specs.declared.kind.SyntaxKind.{SyntaxKind}
 use Rattle.typst_base.specs.declared.kind.SyntaxKind.TheVariants as kinds
-use Rattle.typst_parser.specs.Actions.{act, acts, as_unclosed, changed, covered, covered_by, expected_once, flushed, is_error_kind, joined, opened, rejoined, returned_by, surrounded, wrapped}
+use Rattle.typst_parser.specs.Actions.{act, acts, as_kind, as_unclosed, changed, covered, covered_by, delimited, expected_once, flushed, is_error_kind, joined, opened, rejoined, returned_by, surrounded, wrapped}
 use Rattle.typst_parser.specs.Classes.{fault_of}
 use Rattle.typst_parser.specs.Events.{greatest, is_leaf}
 use Rattle.typst_parser.specs.Frames.{ended, events_end, grown, is_looking, is_taken, looking, placed, pushed, settled, settled_by}
@@ -41,7 +41,7 @@ use Rattle.typst_lexer.specs.declared.token.TokenKind.TheVariants as tokens
 use Rattle.typst_parser.proofs.Changes.{mistaken_low, raw_tops, retag_low, unique_low}
 use Rattle.typst_parser.proofs.Links.{changed_past}
 use Rattle.typst_parser.proofs.Walking.{last_split}
-use Rattle.typst_parser.proofs.Tops.{Tall, all_join, all_ones, first_fewer, ones, tall_around, tall_cover, tall_join, tall_lower, tall_open, tall_push, tall_return, tall_top, tall_white, tops, tops_onto, tops-append, unclosed_tops}
+use Rattle.typst_parser.proofs.Tops.{Tall, all_join, all_ones, first_fewer, kind_tops, ones, tall_around, tall_cover, tall_join, tall_lower, tall_open, tall_push, tall_return, tall_top, tall_white, tops, tops_onto, tops-append, unclosed_tops}
 
 pub record High (most : ℕ) (events white : List Event) (top : Frame) (below : List Frame) : Type 0 where
   pub all : greatest (tops events) ≤ most
@@ -221,6 +221,15 @@ changed_high most f s low h =
 unclosed_low : (i : ℕ) (es : List Event) (n : ℕ) → greatest (take n (tops (changed_at as_unclosed i es))) ≤ greatest (take n (tops es))
 unclosed_low i es n = omega (arith, ap (λ (hs : List ℕ). greatest (take n hs)) (unclosed_tops i [] es))
 
+kind_low : (kind : SyntaxKind) (i : ℕ) (es : List Event) (n : ℕ) → greatest (take n (tops (changed_at (as_kind kind) i es))) ≤ greatest (take n (tops es))
+kind_low kind i es n = omega (arith, ap (λ (hs : List ℕ). greatest (take n hs)) (kind_tops kind i [] es))
+
+delimited_high : (most : ℕ) (first last : SyntaxKind) (s : Stack) → IsHigh most s → IsHigh most (delimited first last s)
+delimited_high most first last s h =
+    let one : Stack = changed (changed_at (as_kind first) s.top.start) s in
+    changed_high most (changed_at (as_kind last) (length s.events - 1)) one (kind_low last (length s.events - 1) one.events)
+    (changed_high most (changed_at (as_kind first) s.top.start) s (kind_low first s.top.start s.events) h)
+
 act_high : (text : List ℕ) (most : ℕ) (a : Action) (s : Stack) → 2 ≤ most → IsHigh most s → IsHigh most (act most text a s)
 act_high text most (actions.Goto state) s two h = record { all = h.all; frames = h.frames; least = h.least; leaves = h.leaves }
 act_high text most actions.Return s two h = returned_high most (last_of s.below) s refl h
@@ -231,8 +240,9 @@ act_high text most actions.Up s two h = record { all = h.all; frames = h.frames;
 act_high text most actions.Down s two h = record { all = h.all; frames = h.frames; least = h.least; leaves = h.leaves }
 act_high text most (actions.Expected what) s two h = expected_high most s.missing what s h
 act_high text most (actions.Wrong what) s two h = changed_high most (mistaken what (length text)) (settled s) (mistaken_low what (length text) (settled s).events) (settled_high most s two h)
+act_high text most (actions.Delimit first last) s two h = delimited_high most first last (settled s) (settled_high most s two h)
 act_high text most actions.Unclosed s two h = changed_high most (changed_at as_unclosed (settled s).top.start) (settled s) (unclosed_low (settled s).top.start (settled s).events) (settled_high most s two h)
-act_high text most (actions.Retag map) s two h = changed_high most (retagged map text) (settled s) (retag_low map text (settled s).events) (settled_high most s two h)
+act_high text most (actions.Retag map) s two h = changed_high most (retagged map (length text)) (settled s) (retag_low map (length text) (settled s).events) (settled_high most s two h)
 act_high text most (actions.Unique what) s two h = changed_high most (made_unique what text) (settled s) (unique_low what text (settled s).events) (settled_high most s two h)
 
 acts_high : (text : List ℕ) (most : ℕ) (all : List Action) (s : Stack) → 2 ≤ most → IsHigh most s → IsHigh most (acts most text all s)

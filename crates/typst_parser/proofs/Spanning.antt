@@ -1,7 +1,7 @@
 -- What the loop over the events of the last trees keeps.
 use Rattle.std.proofs.Common.{◌≡◌, ℕ, zero, suc, ◌+◌, ◌-◌, ◌≤◌, ◌<◌, min, List, [], ◌∷◌, ◌++◌, length, reverse, take, drop, replicate, get_or, refl, sym, ap, ◌∙◌, arith}
-use Rattle.std.proofs.lemmas.List.{drop-take, length-reverse, length-take, reverse-append, reverse-reverse, take_more}
-use Rattle.typst_parser.specs.Events.{but_last, bytes, last_some}
+use Rattle.std.proofs.lemmas.List.{length-reverse, length-take, reverse-append, reverse-reverse, take_more}
+use Rattle.typst_parser.specs.Events.{bytes}
 use Rattle.typst_parser.specs.Spans.{children_of, span}
 use Rattle.typst_parser.specs.declared.event.Event.{Event}
 use Rattle.typst_parser.proofs.Heights.{but_last-reverse, bytes-reverse, last_some-reverse}
@@ -54,16 +54,3 @@ last_bytes n es =
 pub reverse-but_last : {X : Type 0} (n : ℕ) (xs : List X) → reverse (take (length xs - n) xs) ≡ drop n (reverse xs)
 reverse-but_last n xs =
     ap (λ ys. reverse (take (length ys - n) ys)) (sym (reverse-reverse xs)) ∙ ap reverse (but_last-reverse n (reverse xs)) ∙ reverse-reverse (drop n (reverse xs))
-
--- what is between two places
-pub between : {X : Type 0} (from to : ℕ) (xs : List X) → from ≤ to → take (to - from) (drop from xs) ≡ drop from (take to xs)
-between from to xs low = let same : from + (to - from) ≡ to = omega arith in sym (drop-take from (to - from) xs) ∙ ap (λ n. drop from (take n xs)) same
-
--- the text of a tree, by places that are counted with a largest number
-pub text_between : (text : List ℕ) (behind both end from most : ℕ) → length text ≤ most → end ≡ length text - min behind most → from ≡ end - (min both most - min behind most)
-    → take (end - from) (drop from text) ≡ last_some (both - behind) (but_last behind text)
-text_between text behind both end from most short end_is from_is =
-    let end_now : end ≡ length text - behind = omega arith in
-    let count : length (take (length text - behind) text) ≡ length text - behind = omega (arith, length-take (length text - behind) text) in
-    let from_now : from ≡ length (take (length text - behind) text) - (both - behind) = omega arith in
-    between from end text (omega arith) ∙ (λ i. drop (from_now i) (take (end_now i) text))

@@ -2,7 +2,8 @@
 use Rattle.std.proofs.Common.{◌≡◌, ℕ, zero, suc, ◌+◌, ◌≤◌, ◌<◌, max, List, [], ◌∷◌, ◌++◌, take, drop, reverse, refl, sym, ap, subst, ◌∙◌, arith}
 use Rattle.std.proofs.lemmas.List.{reverse-reverse}
 use Rattle.typst_parser.proofs.Heights.{after-reverse, height_after, high_take, high-reverse, NoHigher, reverse-cons}
-use Rattle.typst_parser.specs.Actions.{as_unclosed}
+use Rattle.typst_base.specs.declared.kind.SyntaxKind.{SyntaxKind}
+use Rattle.typst_parser.specs.Actions.{as_kind, as_unclosed}
 use Rattle.typst_parser.specs.Events.{greatest, levels, levels_onto}
 use Rattle.typst_parser.specs.Frames.{grown}
 use Rattle.typst_parser.specs.Lists.{changed_at}
@@ -20,6 +21,13 @@ tops es = tops_onto [] es
 pub tops-append : (hs : List ℕ) (es fs : List Event) → tops_onto hs (es ++ fs) ≡ tops_onto (tops_onto hs es) fs
 tops-append hs [] fs = refl
 tops-append hs (e ∷ es) fs = tops-append (height_after e hs) es fs
+
+pub kind_tops : (kind : SyntaxKind) (i : ℕ) (hs : List ℕ) (es : List Event) → tops_onto hs (changed_at (as_kind kind) i es) ≡ tops_onto hs es
+kind_tops kind i hs [] = refl
+kind_tops kind zero hs (Leaf old len ∷ es) = refl
+kind_tops kind zero hs (Error fault len ∷ es) = refl
+kind_tops kind zero hs (Node old children ∷ es) = refl
+kind_tops kind (suc i) hs (e ∷ es) = kind_tops kind i (height_after e hs) es
 
 pub unclosed_tops : (i : ℕ) (hs : List ℕ) (es : List Event) → tops_onto hs (changed_at as_unclosed i es) ≡ tops_onto hs es
 unclosed_tops i hs [] = refl

@@ -138,6 +138,16 @@ expected_once (Some old) what s = s
 abbrev pub changed : (List Event → List Event) → Stack → Stack
 changed f s = if s.top.trees == 0 then s else record s { events = f s.events }
 
+-- a leaf gets a kind
+abbrev pub as_kind : SyntaxKind → Event → Event
+as_kind kind (Leaf old len) = Leaf kind len
+as_kind kind e = e
+
+-- the first and the last tree of the innermost frame get kinds, if they are leaves
+abbrev pub delimited : SyntaxKind → SyntaxKind → Stack → Stack
+delimited first last s =
+    changed (changed_at (as_kind last) (length s.events - 1)) (changed (changed_at (as_kind first) s.top.start) s)
+
 -- a leaf becomes an error
 abbrev pub as_unclosed : Event → Event
 as_unclosed (Leaf kind len) = Error faults.Unclosed len
@@ -154,8 +164,9 @@ act most text actions.Up s = numbered (capped_sum s.top.number 1) s
 act most text actions.Down s = numbered (s.top.number - 1) s
 act most text (actions.Expected what) s = expected_once s.missing what s
 act most text (actions.Wrong what) s = changed (mistaken what (length text)) (settled s)
+act most text (actions.Delimit first last) s = delimited first last (settled s)
 act most text actions.Unclosed s = let u : Stack = settled s in changed (changed_at as_unclosed u.top.start) u
-act most text (actions.Retag map) s = changed (retagged map text) (settled s)
+act most text (actions.Retag map) s = changed (retagged map (length text)) (settled s)
 act most text (actions.Unique what) s = changed (made_unique what text) (settled s)
 
 -- the stack after some actions, which see the text up to the end of the events

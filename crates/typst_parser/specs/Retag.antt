@@ -1,9 +1,9 @@
--- What maps do with the last tree. Lists of events that are named `back` have the last event first, and `text` ends with it.
+-- What maps do with the last tree. Lists of events that are named `back` have the last event first.
 use Rattle.std.specs.Prelude.{ℕ, zero, suc, ◌+◌, ◌-◌, ◌==◌, ◌&&◌, min, nat_le, nat_lt, Bool, true, List, [], ◌∷◌, ◌++◌, length, reverse, replicate, Option, Some, None, if◌then◌else◌}
 use Rattle.typst_atoms.specs.ExprKinds.{is_expr_kind}
 use Rattle.typst_base.specs.declared.kind.SyntaxKind.{SyntaxKind}
-use Rattle.typst_parser.specs.Events.{but_last, bytes_of, kind_of, last_some}
-use Rattle.typst_parser.specs.Spans.{children_of, is_byte, span, text_but, width}
+use Rattle.typst_parser.specs.Events.{bytes_of, kind_of}
+use Rattle.typst_parser.specs.Spans.{children_of, span, width}
 use Rattle.typst_parser.specs.declared.event.Event.{Event}
 use Rattle.typst_parser.specs.declared.event.Event.TheVariants.{Leaf, Error, Node}
 use Rattle.typst_parser.specs.declared.fault.Fault.TheVariants as faults
@@ -16,24 +16,21 @@ use Rattle.typst_grammar.specs.declared.change.Test.TheVariants as tests
 use Rattle.typst_grammar.specs.declared.expectation.Expectation.{Expectation}
 use Rattle.typst_grammar.specs.declared.maps.Map.{Map}
 
--- whether a test holds of the tree of an event, which comes behind those of `back`
-abbrev pub holds : Test → List ℕ → Event → List Event → Bool
-holds tests.Always text e back = true
-holds tests.Expr text e back = is_expr_kind (kind_of e)
-holds tests.Opening text e back = is_byte 40 (last_some (bytes_of e) text)
-holds tests.Closing text e back = is_byte 41 (last_some (bytes_of e) text)
-holds tests.Parenthesized text e back = is_byte 40 (text_but (children_of e - 1) text back) && is_byte 41 (text_but 0 text back)
-holds tests.Alone text e back = children_of e == 1
+-- whether a test holds of the tree of an event
+abbrev pub holds : Test → Event → Bool
+holds tests.Always e = true
+holds tests.Expr e = is_expr_kind (kind_of e)
+holds tests.Alone e = children_of e == 1
 
 -- the effect of the first change whose test holds
-abbrev pub effect_in : List Change → List ℕ → Event → List Event → Option Effect
-effect_in [] text e back = None
-effect_in (c ∷ cs) text e back = if holds c.test text e back then Some c.effect else effect_in cs text e back
+abbrev pub effect_in : List Change → Event → Option Effect
+effect_in [] e = None
+effect_in (c ∷ cs) e = if holds c.test e then Some c.effect else effect_in cs e
 
 -- what a map does with the tree of an event
-abbrev pub effect_of : Option Map → List ℕ → Event → List Event → Option Effect
-effect_of None text e back = None
-effect_of (Some map) text e back = effect_in (changes map (kind_of e)) text e back
+abbrev pub effect_of : Option Map → Event → Option Effect
+effect_of None e = None
+effect_of (Some map) e = effect_in (changes map (kind_of e)) e
 
 -- the event with another kind
 abbrev pub with_kind : Option SyntaxKind → Event → Event
@@ -92,17 +89,17 @@ put_back (Some (effects.Expected what)) end e back = expected_back what e back
 abbrev pub maps_below : Option Effect → Event → List Event → List (Option Map)
 maps_below f e back = child_maps (first_below f) (others_below f) (count_below f e back)
 
--- The events after the changes. For each of the last trees there is a map, or none. So many events before are passed over,
--- since their tree became an error.
-unfoldable pub retagged_back : ℕ → List (Option Map) → List ℕ → List Event → List Event
-retagged_back (suc n) maps text [] = []
-retagged_back (suc n) maps text (e ∷ back) = retagged_back n maps (but_last (bytes_of e) text) back
-retagged_back zero [] text back = back
-retagged_back zero (m ∷ maps) text [] = []
-retagged_back zero (m ∷ maps) text (e ∷ back) =
-    let f : Option Effect = effect_of m text e back in
-    put_back f (length text) e back ++ retagged_back (gone f e back) (maps_below f e back ++ maps) (but_last (bytes_of e) text) back
+-- The events after the changes, where so many bytes come up to the end of the last one. For each of the last trees there is a
+-- map, or none. So many events before are passed over, since their tree became an error.
+unfoldable pub retagged_back : ℕ → List (Option Map) → ℕ → List Event → List Event
+retagged_back (suc n) maps end [] = []
+retagged_back (suc n) maps end (e ∷ back) = retagged_back n maps (end - bytes_of e) back
+retagged_back zero [] end back = back
+retagged_back zero (m ∷ maps) end [] = []
+retagged_back zero (m ∷ maps) end (e ∷ back) =
+    let f : Option Effect = effect_of m e in
+    put_back f end e back ++ retagged_back (gone f e back) (maps_below f e back ++ maps) (end - bytes_of e) back
 
--- the events after the change of the last tree by a map
-abbrev pub retagged : Map → List ℕ → List Event → List Event
-retagged map text es = reverse (retagged_back 0 (Some map ∷ []) text (reverse es))
+-- the events after the change of the last tree by a map, where so many bytes come up to its end
+abbrev pub retagged : Map → ℕ → List Event → List Event
+retagged map end es = reverse (retagged_back 0 (Some map ∷ []) end (reverse es))

@@ -1,6 +1,6 @@
 -- Which events make the last trees. Lists of events that are named `back` have the last event first.
-use Rattle.std.specs.Prelude.{ℕ, zero, suc, ◌+◌, ◌-◌, ◌&&◌, ◌==◌, min, Bool, List, [], ◌∷◌, length, take, slice_index}
-use Rattle.typst_parser.specs.Events.{but_last, bytes, last_some}
+use Rattle.std.specs.Prelude.{ℕ, zero, suc, ◌+◌, ◌&&◌, ◌==◌, min, Bool, List, [], ◌∷◌, length, take, slice_index}
+use Rattle.typst_parser.specs.Events.{bytes}
 use Rattle.typst_parser.specs.declared.event.Event.{Event}
 use Rattle.typst_parser.specs.declared.event.Event.TheVariants.{Leaf, Error, Node}
 
@@ -19,10 +19,6 @@ span (suc n) (e ∷ back) = suc (span (min (n + children_of e) (length back)) ba
 -- how many bytes the last so many trees have
 abbrev pub width : ℕ → List Event → ℕ
 width n back = bytes (take (span n back) back)
-
--- the text of the last tree but so many, where `text` ends with the last tree
-abbrev pub text_but : ℕ → List ℕ → List Event → List ℕ
-text_but n text back = last_some (width (suc n) back - width n back) (but_last (width n back) text)
 
 -- whether a text is this one byte
 abbrev pub is_byte : ℕ → List ℕ → Bool

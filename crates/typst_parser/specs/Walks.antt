@@ -1,5 +1,5 @@
 -- Walks over the events of the last tree, from the last one back.
-use Rattle.std.specs.Prelude.{ℕ, List, ◌∷◌, ◌++◌, Option, reverse, take}
+use Rattle.std.specs.Prelude.{ℕ, List, ◌∷◌, ◌++◌, Option, reverse}
 use Rattle.typst_parser.specs.Retag.{retagged_back}
 use Rattle.typst_parser.specs.declared.event.Event.{Event}
 use Rattle.typst_parser.specs.declared.retag.Walk.{Walk as CodeWalk}
@@ -22,9 +22,9 @@ abbrev pub done_more : List Event → Walk → Walk
 done_more es w = record w { done = w.done ++ es }
 
 -- the events that a walk ends with
-abbrev pub walked : List ℕ → Walk → List Event
-walked text w = w.done ++ retagged_back 0 w.maps (take w.end text) w.events
+abbrev pub walked : Walk → List Event
+walked w = w.done ++ retagged_back 0 w.maps w.end w.events
 
 -- the same, if an event and its map were taken from it
-abbrev pub walked_by : Option Map → Event → List ℕ → Walk → List Event
-walked_by map e text w = w.done ++ retagged_back 0 (map ∷ w.maps) (take w.end text) (e ∷ w.events)
+abbrev pub walked_by : Option Map → Event → Walk → List Event
+walked_by map e w = w.done ++ retagged_back 0 (map ∷ w.maps) w.end (e ∷ w.events)

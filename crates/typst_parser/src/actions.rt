@@ -1,6 +1,6 @@
 //! What actions do with the stack.
 ghost use Rattle.std.specs.Prelude.{◌≡◌, ◌+◌, ◌<◌, ◌^◌, take, OnOk};
-ghost use Rattle.typst_parser.specs.Actions.{act, acts, as_unclosed, called, changed, column_of, covered, expected_once, flushed, inherited, is_error_kind, joined, opened_frame, rejoined, returned, surrounded, wrapped};
+ghost use Rattle.typst_parser.specs.Actions.{act, acts, as_kind, as_unclosed, called, changed, column_of, covered, delimited, expected_once, flushed, inherited, is_error_kind, joined, opened_frame, rejoined, returned, surrounded, wrapped};
 ghost use Rattle.typst_parser.specs.Frames.{events_end, settled};
 ghost use Rattle.typst_parser.specs.Lists.{changed_at};
 ghost use Rattle.typst_parser.specs.Mistakes.{mistaken};
@@ -37,6 +37,26 @@ fn column_of(new: Option<Newline>, token: usize, old: usize) -> usize
     match new {
         Some(Newline::Column) => token,
         _ => old,
+    }
+}
+
+/// The event with another kind, if it is a leaf.
+fn as_kind(kind: SyntaxKind, event: Event) -> Event
+    ensures { result ≡ as_kind kind event }
+{
+    match event {
+        Event::Leaf { len, .. } => Event::Leaf { kind, len },
+        _ => event,
+    }
+}
+
+/// Gives one of some events a kind, if it is a leaf.
+#[tactic(auto, using(crate::proofs::Links::changed_here, crate::proofs::Links::changed_past))]
+fn name_at(events: &mut Vec<Event>, index: usize, kind: SyntaxKind)
+    ensures { events.new.items ≡ changed_at (as_kind kind) index events.old.items }
+{
+    if let Some(event) = events.get_mut(index) {
+        *event = as_kind(kind, *event);
     }
 }
 
@@ -218,6 +238,19 @@ impl Stack {
         Ok(())
     }
 
+    /// Gives the first and the last tree of the innermost frame kinds, if they are leaves.
+    fn delimit(&mut self, first: SyntaxKind, last: SyntaxKind) -> Result<(), AllocError>
+        ensures { OnOk result (stack_of self.new ≡ delimited first last (settled (stack_of self.old))) }
+    {
+        self.settle()?;
+        if self.top.trees > 0 {
+            let end = self.events.len().saturating_sub(1);
+            name_at(&mut self.events, self.top.start, first);
+            name_at(&mut self.events, end, last);
+        }
+        Ok(())
+    }
+
     /// Makes the first leaf of the innermost frame an error.
     #[inline(never)]
     fn unclose(&mut self) -> Result<(), AllocError>
@@ -231,14 +264,14 @@ impl Stack {
         Ok(())
     }
 
-    /// Changes the last tree of the innermost frame by a map.
+    /// Changes the last tree of the innermost frame by a map. So many bytes come up to its end.
     #[inline(never)]
-    fn retag(&mut self, alloc: Global, text: &[u8], map: Map) -> Result<(), AllocError>
-        ensures { OnOk result (stack_of self.new ≡ changed (retagged map text.now) (settled (stack_of self.old))) }
+    fn retag(&mut self, alloc: Global, end: usize, map: Map) -> Result<(), AllocError>
+        ensures { OnOk result (stack_of self.new ≡ changed (retagged map end) (settled (stack_of self.old))) }
     {
         self.settle()?;
         if self.top.trees > 0 {
-            retag(alloc, &mut self.events, text, map)?;
+            retag(alloc, &mut self.events, end, map)?;
         }
         Ok(())
     }
@@ -288,8 +321,9 @@ impl Stack {
             Action::Down => self.top.number = self.top.number.saturating_sub(1),
             Action::Expected(what) => self.expect(what),
             Action::Wrong(what) => self.mistake(self.before(text).len(), what)?,
+            Action::Delimit(first, last) => self.delimit(first, last)?,
             Action::Unclosed => self.unclose()?,
-            Action::Retag(map) => self.retag(alloc, self.before(text), map)?,
+            Action::Retag(map) => self.retag(alloc, self.before(text).len(), map)?,
             Action::Unique(what) => self.make_unique(alloc, self.before(text), what)?,
         }
         Ok(())

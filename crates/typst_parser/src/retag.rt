@@ -1,13 +1,13 @@
 //! Maps that give the last tree other kinds.
 ghost use Rattle.std.specs.Prelude.{ℕ, List, ◌≡◌, ◌++◌, ◌-◌, ◌≤◌, true, length, reverse, take, drop, OnOk};
-ghost use Rattle.typst_parser.specs.Events.{bytes, last_some};
+ghost use Rattle.typst_parser.specs.Events.{bytes};
 ghost use Rattle.typst_parser.specs.Retag.{child_maps, count_below, effect_in, effect_of, expected_back, first_below, gone, holds, is_parent, mistake_back, others_below, put_back, retagged, with_kind};
 ghost use Rattle.typst_parser.specs.Spans.{children_of};
 ghost use Rattle.typst_parser.specs.Walks.{done_more, walk_of, walked, walked_by};
 
 use crate::event::Event;
 use crate::fault::Fault;
-use crate::span::{capped_bytes, is_byte, span, text_but, width};
+use crate::span::{capped_bytes, span, width};
 use std::alloc::{AllocError, Global};
 use std::mem;
 use typst_atoms::expr_kinds::is_expr;
@@ -18,55 +18,35 @@ use typst_grammar::{Change, Effect, Expectation, Map, Test};
 /// For how many maps a walk has room from the start: most trees that it changes need no more.
 const ROOM: usize = 16;
 
-/// The last bytes of a text.
-fn last_bytes(text: &[u8], len: usize) -> &[u8]
-    ensures { result.now ≡ last_some len text.now }
-{
-    &text[text.len().saturating_sub(len)..]
-}
-
-/// Whether a test holds of the tree of an event, which comes behind other events.
-fn holds(test: Test, text: &[u8], event: Event, events: &[Event]) -> bool
-    ensures { result ≡ holds test text.now event (reverse events.now) }
+/// Whether a test holds of the tree of an event.
+fn holds(test: Test, event: Event) -> bool
+    ensures { result ≡ holds test event }
 {
     match test {
         Test::Always => true,
         Test::Expr => is_expr(event.kind()),
-        Test::Opening => is_byte(b'(', last_bytes(text, event.len())),
-        Test::Closing => is_byte(b')', last_bytes(text, event.len())),
-        Test::Parenthesized => {
-            is_byte(
-                b'(',
-                text_but(event.children().saturating_sub(1), text, events),
-            ) && is_byte(b')', text_but(0, text, events))
-        }
         Test::Alone => event.children() == 1,
     }
 }
 
 /// The effect of the first change whose test holds.
-fn effect_in(
-    changes: &'static [Change],
-    text: &[u8],
-    event: Event,
-    events: &[Event],
-) -> Option<Effect>
-    ensures { result ≡ effect_in changes.now text.now event (reverse events.now) }
+fn effect_in(changes: &'static [Change], event: Event) -> Option<Effect>
+    ensures { result ≡ effect_in changes.now event }
 {
     for change in changes {
-        if holds(change.test, text, event, events) {
+        if holds(change.test, event) {
             return Some(change.effect);
         }
     }
     None
 }
 
-/// What a map does with the tree of an event, which comes behind other events.
-fn effect_of(map: Option<Map>, text: &[u8], event: Event, events: &[Event]) -> Option<Effect>
-    ensures { result ≡ effect_of map text.now event (reverse events.now) }
+/// What a map does with the tree of an event.
+fn effect_of(map: Option<Map>, event: Event) -> Option<Effect>
+    ensures { result ≡ effect_of map event }
 {
     match map {
-        Some(map) => effect_in(changes(map, event.kind()), text, event, events),
+        Some(map) => effect_in(changes(map, event.kind()), event),
         None => None,
     }
 }
@@ -222,13 +202,11 @@ impl Walk {
     }
 
     /// Passes over an event, which had the last map.
-    fn step(&mut self, text: &[u8], map: Option<Map>, event: Event) -> Result<(), AllocError>
-        requires { self.old.end ≤ length text.now }
-        ensures step { OnOk result (walked text.now (walk_of self.new) ≡ walked_by map event text.now (walk_of self.old)) }
-        ensures end { OnOk result (self.new.end ≤ self.old.end) }
+    fn step(&mut self, map: Option<Map>, event: Event) -> Result<(), AllocError>
+        ensures step { OnOk result (walked (walk_of self.new) ≡ walked_by map event (walk_of self.old)) }
         ensures fewer { OnOk result (length self.new.events.items ≤ length self.old.events.items) }
     {
-        let effect = effect_of(map, &text[..self.end], event, &self.events);
+        let effect = effect_of(map, event);
         let children = count_below(effect, event, &self.events);
         let gone = gone(effect, event, &self.events);
         self.put(effect, event)?;
@@ -244,13 +222,12 @@ impl Walk {
     }
 
     /// Passes over all events of the last trees.
-    fn run(&mut self, text: &[u8]) -> Result<(), AllocError>
-        requires { self.old.end ≤ length text.now }
-        ensures { OnOk result (self.new.done.items ++ reverse self.new.events.items ≡ walked text.now (walk_of self.old)) }
+    fn run(&mut self) -> Result<(), AllocError>
+        ensures { OnOk result (self.new.done.items ++ reverse self.new.events.items ≡ walked (walk_of self.old)) }
     {
         while let Some(map) = self.maps.pop() {
             match self.events.pop() {
-                Some(event) => self.step(text, map, event)?,
+                Some(event) => self.step(map, event)?,
                 None => return Ok(()),
             }
         }
@@ -260,7 +237,7 @@ impl Walk {
 
 /// Whether a map changes nothing of the last tree.
 fn is_idle(map: Map, events: &[Event]) -> bool
-    ensures { result ≡ true → (text : List ℕ) → retagged map text events.now ≡ events.now }
+    ensures { result ≡ true → (end : ℕ) → retagged map end events.now ≡ events.now }
 {
     match events.last() {
         Some(event) => changes(map, event.kind()).is_empty(),
@@ -268,16 +245,16 @@ fn is_idle(map: Map, events: &[Event]) -> bool
     }
 }
 
-/// Changes the last tree by a map. The text ends with that tree. After an error the events are gone.
+/// Changes the last tree by a map. So many bytes come up to its end. After an error the events are gone.
 ///
 /// It takes time in proportion to the events of the tree, if the map changes its kind.
 pub(crate) fn retag(
     alloc: Global,
     events: &mut Vec<Event>,
-    text: &[u8],
+    end: usize,
     map: Map,
 ) -> Result<(), AllocError>
-    ensures { OnOk result (events.new.items ≡ retagged map text.now events.old.items) }
+    ensures { OnOk result (events.new.items ≡ retagged map end events.old.items) }
 {
     if is_idle(map, events) {
         return Ok(());
@@ -287,10 +264,10 @@ pub(crate) fn retag(
         events: mem::replace(events, Vec::new(alloc)),
         maps: Vec::with_capacity(alloc, ROOM)?,
         done: Vec::with_capacity(alloc, len)?,
-        end: text.len(),
+        end,
     };
     walk.maps.push(Some(map))?;
-    walk.run(text)?;
+    walk.run()?;
     walk.done.reverse();
     walk.events.append(&mut walk.done)?;
     *events = walk.events;

@@ -1,7 +1,7 @@
 //! Which events make the last trees.
-ghost use Rattle.std.specs.Prelude.{◌≡◌, ◌≤◌, ◌<◌, min, length, reverse};
+ghost use Rattle.std.specs.Prelude.{◌≡◌, ◌≤◌, min, length, reverse};
 ghost use Rattle.typst_parser.specs.Events.{bytes};
-ghost use Rattle.typst_parser.specs.Spans.{children_of, is_byte, span, text_but, width};
+ghost use Rattle.typst_parser.specs.Spans.{children_of, is_byte, span, width};
 
 use crate::event::Event;
 
@@ -47,17 +47,6 @@ pub(crate) fn width(events: &[Event], trees: usize) -> usize
     ensures { result ≡ min (width trees (reverse events.now)) 0xFFFF_FFFF_FFFF_FFFF }
 {
     capped_bytes(&events[events.len() - span(events, trees)..])
-}
-
-/// The text of the last tree but so many, where a text ends with the last tree.
-pub(crate) fn text_but<'a>(trees: usize, text: &'a [u8], events: &[Event]) -> &'a [u8]
-    requires { trees < usize.MAX }
-    ensures { result.now ≡ text_but trees text.now (reverse events.now) }
-{
-    let behind = width(events, trees);
-    let end = text.len().saturating_sub(behind);
-    let from = end.saturating_sub(width(events, trees + 1).saturating_sub(behind));
-    &text[from..end]
 }
 
 /// Whether a text is this one byte.

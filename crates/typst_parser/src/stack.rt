@@ -26,7 +26,7 @@ const DEPTH: usize = 16;
 pub struct Frame {
     /// Its state.
     pub(crate) state: State,
-    /// The index of its first event.
+    /// The index of its first event, or of white space before that, if this was read after the frame had opened.
     pub(crate) start: usize,
     /// How many trees it has: the last ones before those of the frames in it.
     pub(crate) trees: usize,

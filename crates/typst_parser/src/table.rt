@@ -136,7 +136,8 @@ impl Stack {
         ensures { found_of result ≡ first_row (rows_of rows.now) (stack_of self.now) }
     {
         for row in rows {
-            if self.holds(row.condition) {
+            // Most rows have no condition, and are found without a jump.
+            if matches!(row.condition, Condition::Always) || self.holds(row.condition) {
                 return Some(row);
             }
         }

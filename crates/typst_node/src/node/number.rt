@@ -75,7 +75,9 @@ impl SyntaxNode {
         at <= bound
     }
 
+    // It is inlined into the loop over the children, so that no call is made for a leaf.
     #[cycle(number)]
+    #[inline(always)]
     fn number_within(&mut self, id: FileId, start: u64, end: u64)
         requires low { 2 ≤ start }
         requires high { end ≤ 2 ^ 47 }
@@ -102,6 +104,7 @@ impl SyntaxNode {
 
 impl InnerNode {
     #[cycle(number)]
+    #[inline(never)]
     fn number_below(&mut self, id: FileId, start: u64, end: u64, stride: u64)
         requires measured { IsMeasured self.old }
         requires low { 2 ≤ start }

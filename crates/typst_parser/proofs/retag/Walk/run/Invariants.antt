@@ -1,12 +1,9 @@
-use Rattle.std.proofs.Common.{◌≡◌, ◌≤◌, length}
+use Rattle.std.proofs.Common.{◌≡◌, length}
 use Rattle.typst_parser.specs.Walks.{walk_of, walked}
 use Rattle.typst_parser.proofs.retag.Walk.run.Given as goal
 
 abbrev pub invariant-loop-map : goal.invariant-loop-map
-invariant-loop-map l = record {
-  end : l.self.end ≤ length l.text;
-  so_far : walked l.text (walk_of l.self) ≡ walked l.text (walk_of l.initial.self);
-}
+invariant-loop-map l = walked (walk_of l.self) ≡ walked (walk_of l.initial.self)
 
 abbrev pub decreases-loop-map : goal.decreases-loop-map
 decreases-loop-map l = length l.self.events.items

@@ -11,10 +11,10 @@ returns-clause-step c =
     let new : Walk = walk_of c.skip.new.self in
     let e = c.args.event in
     let f = c.effect_of-effect.result in
-    let f_is : f ≡ effect_of c.args.map (take old.end c.args.text.now) e old.events = search rules in
+    let f_is : f ≡ effect_of c.args.map e = search rules in
     let put : walk_of c.put.new.self ≡ record old { done = old.done ++ put_back f old.end e old.events } = search rules in
     let done_is : new.done ≡ old.done ++ put_back f old.end e old.events = c.skip.ensures.done ∙ ap (λ (w : Walk). w.done) put in
     let maps_is : new.maps ≡ maps_below f e old.events ++ old.maps = search rules in
     let events_is : new.events ≡ drop (gone f e old.events) old.events = search rules in
     let end_is : new.end ≡ old.end - bytes_of e - bytes (take (gone f e old.events) old.events) = search rules in
-    walk_step c.args.text.now c.args.map e old new f c.requires f_is done_is maps_is events_is end_is
+    walk_step c.args.map e old new f f_is done_is maps_is events_is end_is
